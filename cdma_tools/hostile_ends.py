@@ -1,5 +1,5 @@
-"""Ends of tools that random arguments alone don't show: outputs that are inputs, growing files, FIFOs, devices, sockets
-that the network could reach, and interrupts at random moments."""
+"""Ends of tools that random arguments don't reach: outputs that are inputs, growing files, FIFOs, devices, sockets that
+the network could reach, and interrupts at random moments."""
 
 import contextlib
 import os
@@ -44,13 +44,13 @@ WHOLE = b"pilot phase=64 energy=1509949440000\n"
 
 @dataclass(frozen=True)
 class Ended:
-    """How a process ended, and what it said on standard error."""
+    """The end of a process, and its standard error."""
 
     status: int
     said: str
 
     def fault(self, tool: str, statuses: set[int]) -> str:
-        """What is wrong about that; empty where nothing is."""
+        """Returns the fault of the end, empty if there is none."""
         if "Traceback" in self.said or "Warning" in self.said:
             return f"a traceback or a warning: {self.said[-300:]!r}"
         allowed = statuses | (set(range(11)) if tool == "report" else {0, 1, 2})
@@ -63,7 +63,7 @@ def words_of(line: str, output: str) -> list[str]:
 
 
 def started(words: list[str], folder: str) -> subprocess.Popen[bytes]:
-    """A run of a tool as a process of its own, which hears interrupts."""
+    """Starts a tool in a process of its own that takes interrupts."""
     pipe = subprocess.PIPE
     return subprocess.Popen(
         [*process_arguments(words[0]), *words[1:]], stdin=pipe, stdout=subprocess.DEVNULL, stderr=pipe, cwd=folder,
@@ -73,12 +73,12 @@ def started(words: list[str], folder: str) -> subprocess.Popen[bytes]:
 
 
 def hear_interrupts() -> None:
-    """Lets a process hear Ctrl-C, though this one may run in the background of a shell, which passes it over."""
+    """Lets a process take Ctrl-C, though this one may run in the background of a shell, which ignores it."""
     signal.signal(signal.SIGINT, signal.SIG_DFL)
 
 
 def ended(run: subprocess.Popen[bytes], closes_input: bool = True) -> Ended:
-    """How a run ends; it is killed after some time, which no tool allows."""
+    """Returns how a run ends; it is killed after a time that no tool needs."""
     try:
         if not closes_input:
             assert run.stderr is not None
@@ -92,7 +92,7 @@ def ended(run: subprocess.Popen[bytes], closes_input: bool = True) -> Ended:
 
 
 def state_of(path: str) -> tuple[bytes, int]:
-    """What a file has, and when it was changed."""
+    """Returns the content of a file, and the time of its last change."""
     with open(path, "rb") as file:
         return file.read(), os.stat(path).st_mtime_ns
 
@@ -147,7 +147,7 @@ def pipes_and_devices(folder: str, draw: random.Random) -> tuple[str, str]:
 
 
 def read_some(run: subprocess.Popen[bytes], reader: int, most: int) -> None:
-    """Reads so many bytes of a run's output at most, and closes it."""
+    """Reads at most `most` bytes of a run's output, and closes it."""
     with os.fdopen(reader, "rb", buffering=0) as file:
         while most > 0 and run.poll() is None:
             most -= len(file.read(1 << 16) or b"")

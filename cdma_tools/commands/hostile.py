@@ -187,14 +187,11 @@ class Hostile:
 def parser() -> Parser:
     """The command line."""
     arguments = Parser("hostile", __doc__)
-    arguments.add_argument(
-        "--count", type=whole_within(1, 1_000_000_000), metavar="N", help="inputs, else 100,000; of tools 1,000"
-    )
-    arguments.add_argument(
-        "--seed", type=count_of, default=1995, metavar="N", help="the seed that they are drawn from, else 1995"
-    )
-    arguments.add_argument("--tools", action="store_true", help="try the tools, and not the program")
-    seconds = "with --tools: begin no run after so many seconds, in place of --count"
+    inputs = "number of inputs (default 100,000; with --tools 1,000)"
+    arguments.add_argument("--count", type=whole_within(1, 1_000_000_000), metavar="N", help=inputs)
+    arguments.add_argument("--seed", type=count_of, default=1995, metavar="N", help="seed of the inputs (default 1995)")
+    arguments.add_argument("--tools", action="store_true", help="try the tools instead of the program")
+    seconds = "with --tools: begin no run after S seconds, instead of --count"
     arguments.add_argument("--seconds", type=whole_within(1, MOST_SECONDS), metavar="S", help=seconds)
     add_program_option(arguments)
     return arguments

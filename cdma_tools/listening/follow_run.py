@@ -65,7 +65,7 @@ class Sets:
 
 
 class RunEnded(Refused):
-    """That a run ended too soon, in words."""
+    """Reason why a run ended too soon."""
 
     def __init__(self, text: str, status: int) -> None:
         """With its exit status, below 0 for a signal."""
@@ -79,7 +79,7 @@ class RunEnded(Refused):
 
     @property
     def how(self) -> str:
-        """How it ended, in words."""
+        """Returns how it ended, in words."""
         return ended_text(self.status)
 
 

@@ -26,7 +26,7 @@ Write = Callable[[bytes], None]
 
 @dataclass
 class Already:
-    """What was written before by a listening that was broken off."""
+    """Lines that an interrupted listening wrote before."""
 
     counts: Counter[str] = field(default_factory=Counter)  # lines by their option
     at: int | None = None  # of the last line that has one
@@ -39,11 +39,11 @@ class Already:
 
     @property
     def lines(self) -> int:
-        """How many there are."""
+        """Returns the number of lines."""
         return self.counts.total()
 
     def stands(self, event: Event, origin: int, tap: str) -> bool:
-        """Whether a line stands there; asked once for each line of the recording, in their order."""
+        """Whether a line is there; called once for each line of the recording, in order."""
         at = event.chip - origin
         if AT.search(event.line):
             if self.at is None or at > self.at:
@@ -60,7 +60,7 @@ class LineWriter:
     """A listener that writes lines, each counted from the chip at the recording's start."""
 
     def __init__(self, write: Write, is_json: bool, most: dict[str, int], already: Already | None = None) -> None:
-        """Writes lines by `write`, and of each option of TAPS at most so many; lines that stand there count."""
+        """Writes lines by `write`, for each option of TAPS at most its limit; lines that are already there count."""
         self.write, self.is_json, self.most = write, is_json, most
         self.already = already or Already()
         self.counts = Counter(self.already.counts)
@@ -77,7 +77,7 @@ class LineWriter:
             self.began = ""
 
     def event(self, event: Event) -> None:
-        """Writes a line, where its option hears so many and it doesn't stand there already."""
+        """Writes a line, if its option allows another and the line isn't there already."""
         if time := time_told(event):
             self.time = time
         tap = TAP_OF.get(event.kind)
@@ -95,7 +95,7 @@ class LineWriter:
         self.written += 1
 
     def as_json(self, event: Event | None, text: str) -> str:
-        """The object of a line, with its time in UTC where it is known."""
+        """Returns the object of a line, with its time in UTC if that is known."""
         try:
             read = read_line(text)
         except NoLine as why:

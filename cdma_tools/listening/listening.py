@@ -31,16 +31,16 @@ SEARCHED_LIVE = "carriers are searched in turn, and what comes during a search i
 
 
 class Silence:
-    """Seconds without a pilot, told once a minute."""
+    """Seconds without a pilot, reported once a minute."""
 
     def __init__(self, is_live: bool = False) -> None:
-        """A pilot is heard."""
+        """Begins with a pilot."""
         self.searched = SEARCHED_LIVE if is_live else SEARCHED
         self.begin: float | None = None
         self.told = self.end = 0.0
 
     def add(self, begin: float, end: float) -> Remark | None:
-        """Takes seconds in which no pilot stands out, and makes a remark of them now and then."""
+        """Takes seconds in which no pilot stands out, and returns a remark about them now and then."""
         self.end = end
         if self.begin is None:
             self.begin = self.told = begin
@@ -51,12 +51,12 @@ class Silence:
         return Remark(end, f"no pilot has stood out for {end - self.begin:.0f} s")
 
     def stop(self) -> None:
-        """A pilot is heard again."""
+        """Notes that a pilot is received again."""
         self.begin = None
 
 
 class Listening:
-    """What listens to one stream."""
+    """A listening to one stream."""
 
     def __init__(
         self,
@@ -79,23 +79,23 @@ class Listening:
 
     @property
     def origin(self) -> int:
-        """The number of the chip at the stream's start; 0 as long as no pilot was heard."""
+        """Returns the number of the chip at the stream's start, 0 as long as no pilot was found."""
         return self.lock.origin or 0
 
     def feed(self, data: bytes) -> None:
-        """Takes some bytes of the stream, and tells what is heard."""
+        """Takes some bytes of the stream, and passes on the events in them."""
         for piece in self.lock.feed(data):
             self.take(piece)
         if self.relay is not None:
             self.relay.poll()
 
     def skip(self, samples: int) -> None:
-        """Takes note that so many samples of the stream won't come."""
+        """Notes that `samples` samples of the stream won't come."""
         for piece in self.lock.skip(samples):
             self.take(piece)
 
     def finish(self) -> None:
-        """The stream has ended: tells what is left."""
+        """Passes on what is left at the end of the stream."""
         for piece in self.lock.finish():
             self.take(piece)
         if self.relay is not None:
@@ -132,7 +132,7 @@ class Listening:
                 self.relay.break_off()
 
     def take_loss(self, lost: Lost) -> None:
-        """Gives zeros to the runs, and says so, unless the loss is that of a clock while nothing was heard."""
+        """Gives zeros to the runs, and reports the loss, unless it is that of a clock while nothing was received."""
         if lost.chips > MOST_ASTRAY:
             self.say(
                 lost.seconds,

@@ -1,4 +1,5 @@
-"""Where lines go: standard output, a file that grows by whole lines and is gone on with, or a pipe or a device."""
+"""Destinations of lines: standard output, a file that grows by complete lines and can be continued, or a pipe or a
+device."""
 
 import fcntl
 import json
@@ -27,7 +28,7 @@ PIECE = 1 << 16
 
 
 class Output(Protocol):
-    """Where lines go."""
+    """A destination of lines."""
 
     already: Already  # what was there before
 
@@ -35,7 +36,7 @@ class Output(Protocol):
         """Adds whole lines."""
 
     def reopen(self) -> None:
-        """Opens it anew by its name before the next lines, if it is a file; it may be called by a signal."""
+        """Opens it again by its name before the next lines, if it is a file; a signal may call this."""
 
     def close(self) -> None:
         """Adds no more."""
@@ -89,14 +90,14 @@ class Passed:
 
 
 class GrowingFile:
-    """A file to which whole lines are added; nobody but one listening may add to it."""
+    """A file to which complete lines are added; only one listening may add to it."""
 
     file: int
     size: int
     already: Already
 
     def __init__(self, path: str, is_json: bool) -> None:
-        """Opens it, makes it where it isn't there, and takes away a last line that was broken off.
+        """Opens it, makes it if it is missing, and removes an incomplete last line.
 
         A file that no listening of this kind wrote is refused, and nothing in it is changed.
         """
@@ -131,7 +132,7 @@ class GrowingFile:
             raise Refused(f"{self.path}: {held}") from None
 
     def whole_size(self, total: int) -> int:
-        """How many bytes there are up to the end of the last whole line."""
+        """Returns the number of bytes up to the end of the last complete line."""
         end = total
         while end > 0:
             begin = max(0, end - PIECE)
@@ -148,11 +149,11 @@ class GrowingFile:
 
     @property
     def none(self) -> str:
-        """What is said of a line that no listening wrote."""
+        """Returns the report on a line that no listening wrote."""
         return f"none that a listening wrote as {'JSON' if self.is_json else 'text'}"
 
     def look(self) -> Already:
-        """What stands there; refuses a line that no listening of this kind wrote."""
+        """Returns the lines there; refuses a line that no listening of this kind wrote."""
         already, last = Already(), deque[tuple[int, str]](maxlen=CHECKED)
         with open(self.path, encoding="ascii", errors="replace", newline="\n") as file:
             for number, line in enumerate(file, 1):
@@ -168,7 +169,7 @@ class GrowingFile:
         return already
 
     def write(self, data: bytes) -> None:
-        """Adds whole lines, or none; refuses where they can't be added."""
+        """Adds complete lines, or none; raises Refused if they can't be added."""
         if self.is_old:
             self.is_old = False
             os.close(self.file)
@@ -183,7 +184,7 @@ class GrowingFile:
         self.size += len(data)
 
     def reopen(self) -> None:
-        """Opens the file anew by its name before the next lines, as it has been moved away."""
+        """Opens the file again by its name before the next lines, since it has been moved away."""
         self.is_old = True
 
     def close(self) -> None:
@@ -192,7 +193,7 @@ class GrowingFile:
 
 
 def open_output(path: str | None, is_json: bool) -> Output:
-    """The output of a name; standard output where there is none."""
+    """Returns the output of a name, standard output if there is none."""
     if path is None:
         return StandardOutput()
     if is_written_through(path):
@@ -222,7 +223,7 @@ def is_broken_line(rest: bytes, is_json: bool) -> bool:
 
 
 def take_line(already: Already, text: str, is_json: bool) -> bool:
-    """Takes note of a line that stands there; False where it is none."""
+    """Notes a line that is there; returns False if it is not a line."""
     found = JSON_LINE.match(text) if is_json else None
     kind = found[1] if found else "" if is_json else text.split(" ", 1)[0]
     if kind == ORIGIN:
@@ -245,7 +246,7 @@ def take_line(already: Already, text: str, is_json: bool) -> bool:
 
 
 def line_of_object(text: str) -> str | None:
-    """The line of an object with its time; None where it has none."""
+    """Returns the line of an object with its time; None if it is not the object of a line."""
     try:
         return spell_line(json.loads(text))
     except (ValueError, AttributeError, NoLine):
@@ -253,7 +254,7 @@ def line_of_object(text: str) -> str | None:
 
 
 def take_whole(already: Already, at: int, line: str | None) -> bool:
-    """Takes note of what a line tells; False where it is none."""
+    """Notes the content of a line; returns False if it is not a line."""
     if line is None:
         return False
     event = Event(at, line)

@@ -1,8 +1,8 @@
-"""Runs of `follow` one after the other, fed with a stream of chips, so that each event is told once.
+"""Successive runs of `follow`, fed with a stream of chips, so that each event is reported once.
 
-Run j begins at chip B(j), and its line with at=A was known at chip B(j) + A. It is told if that lies after T(j) and not
-after T(j + 1), where T(j) is the seam at which run j took over (`seams`). Lines of run j + 1 are told when run j has
-ended.
+Run j begins at chip B(j), and its line with at=A was known at chip B(j) + A. It is passed on if that lies after T(j)
+and not after T(j + 1), where T(j) is the seam at which run j took over (`seams`). Lines of run j + 1 are passed on when
+run j has ended.
 """
 
 from collections import deque
@@ -62,7 +62,7 @@ class Relay:
     # What comes in
 
     def feed(self, chips: Chips) -> None:
-        """Takes the next chips, and tells what is heard."""
+        """Takes the next chips, and passes on the events in them."""
         if self.current is None and self.beginning is None:
             self.beginning = Beginning(chips.first)
         self.end = chips.end
@@ -94,7 +94,7 @@ class Relay:
                 self.replace(self.current, ended)
 
     def feed_zeros(self, count: int) -> None:
-        """Takes note that so many chips were lost."""
+        """Notes that `count` chips were lost."""
         for first in range(0, count, ZEROS):
             self.feed(Chips(self.end, bytes(4 * min(ZEROS, count - first))))
 
@@ -112,14 +112,14 @@ class Relay:
             self.break_off()
 
     def break_off(self) -> None:
-        """What is under way ends here, and what comes has nothing to do with it."""
+        """Ends what is under way here; what comes is unrelated to it."""
         self.finish()
         self.kept.clear()
         self.beginning, self.taken, self.told = None, None, None
         self.time, self.has_moved = None, False
 
     def finish(self) -> None:
-        """No more chips come: tells what is left."""
+        """Passes on what is left, since no more chips come."""
         if self.next is not None:
             self.next.kill()
             self.next = None
@@ -153,10 +153,10 @@ class Relay:
         self.check_killed(ended)
 
     def replace(self, run: FollowRun, ended: RunEnded) -> None:
-        """The current run was killed: what it told is told, and another one goes on from there.
+        """Passes on the lines of a current run that was killed, and continues with another run.
 
-        That is the run that is to take over, if it has heard enough for that, or one that begins with the oldest chips
-        that are kept: it hears the sync channel's message, and what comes after it, while they are given to it.
+        That is the run that should take over, if it has received enough for that, or one that begins with the oldest
+        chips that are kept: it gets them, and so the sync channel's message and what comes after it.
         """
         run.take_rest()
         self.tell(run)
@@ -185,7 +185,7 @@ class Relay:
     # Runs
 
     def begun(self, row: int | None) -> FollowRun | None:
-        """The run that has to begin, once it hears a pilot; None where more chips have to come first."""
+        """Returns the run that must begin, once it finds a pilot; None if more chips must come first."""
         beginning = self.beginning
         assert beginning is not None
         while (begin := beginning.next(self.kept, self.end)) is not None:
@@ -208,7 +208,7 @@ class Relay:
         return None
 
     def start(self, begin: int, row: int | None) -> FollowRun:
-        """A run from a chip on, fed with the chips that are there."""
+        """Returns a run from a chip on, fed with the chips that have come."""
         run = FollowRun(self.handset.on_row(row), begin)
         try:
             for chips in self.kept.pieces:
@@ -219,7 +219,7 @@ class Relay:
         return run
 
     def hears_pilot(self, run: FollowRun) -> bool:
-        """Whether a run hears the pilot that is locked to, or another one that is there in the chips round its first."""
+        """Whether a run finds the pilot of the lock, or another one that is present in the chips around its first."""
         if run.phase is None or not self.is_astray(run):
             return True
         first = max(run.begin - START, self.kept.first)
@@ -238,7 +238,7 @@ class Relay:
         self.seam = off_grid(self.seam, self.time.offset if self.time else 0)
 
     def change(self, before: FollowRun, after: FollowRun | None) -> None:
-        """At the seam: the run before ends, and the one after it is told from there on."""
+        """Ends the run before at the seam, and passes on the lines of the one after it from there on."""
         try:
             before.close()
         except RunEnded as ended:
@@ -257,7 +257,7 @@ class Relay:
             self.tell(after)
 
     def carried(self, before: FollowRun, after: FollowRun) -> FollowRun:
-        """The run after the seam, on the row of the one before; says what else isn't carried over."""
+        """Returns the run after the seam, on the row of the one before; reports what isn't carried over."""
         if self.row is not None:
             # Frames end every 20 ms once there is a mark: then all lines up to the seam have come.
             after.wait_past(self.seam, PATIENCE)
@@ -279,7 +279,8 @@ class Relay:
             self.say("the candidate pilots and their timers begin anew at a seam")
 
     def row_at(self, run: FollowRun, chip: int) -> int | None:
-        """The row on which the reference sends the traffic channel at a chip, as the run told it or was started."""
+        """Returns the row on which the reference sends the traffic channel at a chip, by the run's lines or its start.
+        """
         sets = run.sets_at(chip)
         offset = self.time.offset if self.time else None
         rows = [row for pn, row in sets.active if pn == offset] if sets else []
@@ -302,17 +303,17 @@ class Relay:
                 run.told.append(event)
 
     def check_phase(self, run: FollowRun) -> None:
-        """Says where a run hears another pilot than the one that is locked to, by the code at its first chip."""
+        """Reports a run that finds another pilot than the one of the lock, by the code at its first chip."""
         if self.is_astray(run):
             self.say(f"a run hears a pilot whose code is {astray_of(run)} chips from that of the lock: another cell's")
         run.phase = None
 
     def is_astray(self, run: FollowRun) -> bool:
-        """Whether a run has told another pilot than the one that is locked to."""
+        """Whether a run has reported another pilot than the one of the lock."""
         return abs(astray_of(run)) > ASTRAY
 
     def learn(self, event: Event) -> None:
-        """Takes note of the system time that a line tells."""
+        """Notes the system time in a line."""
         time = time_told(event)
         if time is None or event.chip > self.seam:
             return
@@ -328,7 +329,7 @@ class Relay:
 
 
 def astray_of(run: FollowRun) -> int:
-    """How many chips the code of the pilot that a run tells is ahead of its first chip's number; 0 of none."""
+    """Returns the chips by which the code of a run's pilot is ahead of its first chip's number, 0 without a pilot."""
     if run.phase is None:
         return 0
     return (run.phase - run.begin + PERIOD // 2) % PERIOD - PERIOD // 2

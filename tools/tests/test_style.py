@@ -38,7 +38,7 @@ FOLDERS = (
     "model",
 )
 # Commands whose help and docstrings are not held yet.
-PENDING = ("domain", "hostile", "import_capture", "listen", "report", "scan")
+PENDING = ("domain", "import_capture", "listen", "report", "scan")
 # Where a pattern is right. Each exception is needed, or a test fails.
 ALLOWED: tuple[Allowed, ...] = ()
 # Sentences that read as if translated word by word, as pages and docstrings had them; none may come back.
