@@ -2,10 +2,11 @@
 
 import json
 from collections.abc import Callable, Iterable
-from typing import Any
+from typing import Any, TypeVar
 
 from cdma_tools.lines import NoLine, read_line, spell_line
 
+Turned = TypeVar("Turned")
 LONGEST = 1 << 20  # of an object: the longest line, of 1,024 bytes, has one of a few thousand
 
 
@@ -40,8 +41,8 @@ def as_line(text: str) -> str:
     return spell_line(object_of(text))
 
 
-def turned_lines(source: Iterable[bytes], turned: Callable[[str], str]) -> Iterable[str]:
-    """Yields each line turned."""
+def turned_lines(source: Iterable[bytes], turned: Callable[[str], Turned]) -> Iterable[Turned]:
+    """Yields what each line becomes."""
     for number, line in enumerate(source, 1):
         try:
             if not line.endswith(b"\n"):

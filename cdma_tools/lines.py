@@ -35,11 +35,16 @@ class NoLine(ValueError):
 
 
 class Form(NamedTuple):
-    """How a field's value is written in a line, and what it is in JSON."""
+    """How a field's value is written in a line, and what it is in JSON.
+
+    `width` is the number of bits of a number that a message has, `parts` are the forms of the numbers of a list.
+    """
 
     read: Callable[[str], Any]
     spell: Callable[[Any], str]
     text: str
+    width: int = 0
+    parts: tuple["Form", ...] = ()
 
 
 class Field(NamedTuple):
@@ -112,7 +117,7 @@ def number(most: int, least: int = 0, text: str = "") -> Form:
 
 def field_of(width: int) -> Form:
     """Returns the form of a number of `width` bits."""
-    return number(2**width - 1, text=f"{width} bits" if width > 1 else "1 bit")
+    return number(2**width - 1, text=f"{width} bits" if width > 1 else "1 bit")._replace(width=width)
 
 
 def one_of(numbers: tuple[int, ...]) -> Form:
@@ -139,7 +144,7 @@ def hexadecimal(digits: int, width: int) -> Form:
     def spell(value: Any) -> str:
         return f"{within(whole(value), 0, 2**width - 1):0{digits}x}"
 
-    return Form(read, spell, f"{width} bits, {digits} hex digits in the line")
+    return Form(read, spell, f"{width} bits, {digits} hex digits in the line", width)
 
 
 def check_bits(given: Any) -> str:
@@ -193,7 +198,7 @@ def numbers(form: Form) -> Form:
     def read(given: str) -> list[int]:
         return [form.read(part) for part in given.split(",")] if given else []
 
-    return Form(read, lambda value: spelled_list(value, form.spell), f"numbers of {form.text}")
+    return Form(read, lambda value: spelled_list(value, form.spell), f"numbers of {form.text}", parts=(form,))
 
 
 def records(*forms: Form) -> Form:
@@ -215,7 +220,7 @@ def records(*forms: Form) -> Form:
         return [read_record(part) for part in given.split(",")] if given else []
 
     text = f"records of {', '.join(form.text for form in forms)}"
-    return Form(read, lambda value: spelled_list(value, spell_record), text)
+    return Form(read, lambda value: spelled_list(value, spell_record), text, parts=forms)
 
 
 COUNT = number(MOST_COUNT, text="whole number")

@@ -18,6 +18,11 @@ field is an empty cell. docs/FORMATS.md says how pandas and a spreadsheet read s
 
     cdma_replay follow < second.is95 | tools/lines --csv paging-system > system.csv
 
+--pcapng writes messages and frames as packets that Wireshark reads with the dissector share/cdma-replay/is95.lua. Their
+times are in UTC from the first sync message on; before it they count from 1970.
+
+    cdma_replay follow < second.is95 | tools/lines --pcapng | wireshark -k -i -
+
 Each line is read and written by itself, as it comes. A text that the program can't have written is an error: its line
 number is reported, and what was written before it remains.
 
@@ -52,6 +57,28 @@ def turning(options: argparse.Namespace) -> Callable[[str], str]:
     return lambda text: turned(text) + "\n"
 
 
+def write_packets(source: Iterable[bytes]) -> None:
+    """Writes the packets of lines, each as soon as its line is there."""
+    from cdma_tools.wireshark.stream import LinePackets  # it loads numpy
+
+    packets = LinePackets(sys.stdout.buffer.write)
+    for _ in turned_lines(source, packets.take):
+        sys.stdout.buffer.flush()
+    sys.stdout.buffer.flush()
+
+
+def write_output(options: argparse.Namespace, source: Iterable[bytes]) -> None:
+    """Writes what the options ask for."""
+    if options.pcapng:
+        write_packets(source)
+        return
+    if isinstance(sys.stdout, io.TextIOWrapper):
+        sys.stdout.reconfigure(line_buffering=True)
+    if options.csv:
+        sys.stdout.write(header_row(options.csv))
+    turn(source, turning(options))
+
+
 def parser() -> argparse.ArgumentParser:
     """The command line."""
     words = Parser("lines", __doc__)
@@ -68,6 +95,7 @@ def parser() -> argparse.ArgumentParser:
     form.add_argument(
         "--csv", choices=KINDS, metavar="KIND", help=f"write a table of the lines of one kind: {', '.join(KINDS)}"
     )
+    form.add_argument("--pcapng", action="store_true", help="write packets of messages and frames")
     words.add_argument("--table", action="store_true", help="write the list of all fields in docs/FORMATS.md, and end")
     return words
 
@@ -78,17 +106,12 @@ def main(arguments: list[str] | None = None) -> int:
     if options.table:
         print("\n".join(table_rows()))
         return 0
-    turned = turning(options)
-    if isinstance(sys.stdout, io.TextIOWrapper):
-        sys.stdout.reconfigure(line_buffering=True)
     try:
-        if options.csv:
-            sys.stdout.write(header_row(options.csv))
         if options.lines == "-":
-            turn(lines_of(sys.stdin.buffer), turned)
+            write_output(options, lines_of(sys.stdin.buffer))
         else:
             with open(options.lines, "rb") as file:
-                turn(lines_of(file), turned)
+                write_output(options, lines_of(file))
     except NoLine as why:
         raise Refused(f"{'standard input' if options.lines == '-' else options.lines}: {why}") from None
     return 0

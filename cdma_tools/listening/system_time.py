@@ -15,8 +15,10 @@ SUPERFRAME, SUPERFRAME_BITS, FRAME_BITS = 98_304, 93, 31
 AHEAD = 4
 # Bits of a message without its reserved ones: length, fields and check; and those of CDMA_FREQ.
 MESSAGE_BITS, FREQUENCY_BITS = 197, 11
-# The system time's beginning, in UTC.
+# The system time's beginning, in UTC, and in seconds since 1970.
 EPOCH = datetime(1980, 1, 6, tzinfo=timezone.utc)
+EPOCH_SECONDS = int(EPOCH.timestamp())
+SECOND = 1_000_000_000  # nanoseconds
 
 
 def fields_of(event: Event) -> dict[str, Any] | None:
@@ -42,14 +44,26 @@ class SystemTime:
         time = EPOCH + timedelta(microseconds=microseconds, seconds=-self.leap_seconds)
         return time.isoformat(timespec="microseconds").replace("+00:00", "Z")
 
+    def nanoseconds(self, chip: int) -> int:
+        """The time at a chip in UTC, in nanoseconds since 1970."""
+        return (chip - self.base) * SECOND // CHIP_RATE + (EPOCH_SECONDS - self.leap_seconds) * SECOND
+
+
+def bits_of(fields: dict[str, Any]) -> int:
+    """The bits of a sync message with these fields: its whole capsule."""
+    return MESSAGE_BITS + (FREQUENCY_BITS if "freq" in fields else 0) + int(fields["rest"].split(":")[0])
+
+
+def frames_of(fields: dict[str, Any]) -> int:
+    """The frames that a sync message with these fields takes."""
+    return -(-bits_of(fields) // FRAME_BITS)
+
 
 def time_told(event: Event) -> SystemTime | None:
     """Returns the system time in a line of the sync channel, None for any other line."""
     if event.kind != "sync" or (fields := fields_of(event)) is None:
         return None
-    reserved = int(fields["rest"].split(":")[0])
-    bits = MESSAGE_BITS + (FREQUENCY_BITS if "freq" in fields else 0) + reserved
-    frames, superframes = -(-bits // FRAME_BITS), -(-bits // SUPERFRAME_BITS)
+    frames, superframes = frames_of(fields), -(-bits_of(fields) // SUPERFRAME_BITS)
     # A message is known a frame after its last one, and some chips later still where fingers lie apart.
     begin = PERIOD * round((event.chip - PERIOD * (frames + 1)) / PERIOD)
     at_time = begin + SUPERFRAME * (superframes + AHEAD) - 64 * int(fields["pn"])

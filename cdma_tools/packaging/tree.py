@@ -16,6 +16,7 @@ from cdma_tools.writing import write_beside
 NAME = "cdma-replay"
 SHARED = f"share/{NAME}"
 LIST = f"{SHARED}/files"  # of an installation: what was put in place, to be taken away again
+DISSECTOR = f"{SHARED}/is95.lua"  # for Wireshark; at the same place in the checkout
 DOCUMENTS = f"share/doc/{NAME}"
 MANUALS = "share/man/man1"
 ZSH = "share/zsh/site-functions"  # which zsh looks at below /usr/local
@@ -93,12 +94,13 @@ def commands() -> dict[str, str]:
 
 
 def shared_files() -> Iterator[Entry]:
-    """Yields the package, the model, the cases and the examples, without what only a checkout runs."""
+    """Yields the package, the model, the cases, the examples and the dissector, without what only a checkout runs."""
     for folder in FOLDERS:
         for place in files_below(folder):
             is_way = folder == "conformance" and os.path.dirname(place) == folder and "." not in place
             if not is_way:
                 yield Entry(f"{SHARED}/{place}", read(os.path.join(TOP, place)), PLAIN)
+    yield Entry(DISSECTOR, read(os.path.join(TOP, DISSECTOR)), PLAIN)
 
 
 def documents() -> Iterator[Entry]:

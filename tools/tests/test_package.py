@@ -188,7 +188,14 @@ class OfTheProgram(Installed):
         self.try_out(os.path.join(root, "usr"))
         self.assertIn("usr/share/zsh/vendor-completions/_cdma-scan", files_below(root))  # where Debian's zsh looks
         self.assertFalse([name for name in files_below(root) if "__pycache__" in name])
+        for folder in ("share/cdma-replay", debian.PLUGINS):
+            self.assertIn(f"usr/{folder}/is95.lua", files_below(root))
         self.check_removal(made[0])
+
+    @unittest.skipUnless(shutil.which("tshark"), "no tshark: install the package tshark")
+    def test_the_dissector_is_where_wireshark_looks(self) -> None:
+        ran = subprocess.run(["tshark", "-G", "folders"], capture_output=True, text=True, timeout=60)
+        self.assertRegex(ran.stdout, rf"(?m)^Global Lua Plugins:\s+/usr/{re.escape(debian.PLUGINS)}$")
 
     @unittest.skipUnless(
         shutil.which("lintian") and shutil.which("dpkg-deb"), "no lintian: install the package lintian"

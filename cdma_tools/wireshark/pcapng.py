@@ -1,0 +1,46 @@
+"""The blocks of a pcapng file: a section with its interfaces, and packets with their times in nanoseconds."""
+
+import struct
+
+LINK_TYPE = 147  # USER0, the first of the link types that are left to private use
+SECTION, INTERFACE, PACKET = 0x0A0D0D0A, 1, 6
+BYTE_ORDER, MAJOR, MINOR, UNKNOWN_LENGTH = 0x1A2B3C4D, 1, 0, -1
+APPLICATION, NAME, RESOLUTION, END = 4, 2, 9, 0  # options: shb_userappl, if_name, if_tsresol, opt_endofopt
+NANOSECONDS = bytes([9])  # the resolution: 10 to the power of -9 s
+MOST_TIME = 2**64 - 1
+ALIGNMENT = 4
+
+
+def padded(data: bytes) -> bytes:
+    """Returns bytes with zeros up to a multiple of four."""
+    return data + bytes(-len(data) % ALIGNMENT)
+
+
+def block(kind: int, body: bytes) -> bytes:
+    """Returns a block, with its length before and after it."""
+    body = padded(body)
+    length = struct.pack(">I", len(body) + 12)
+    return struct.pack(">I", kind) + length + body + length
+
+
+def option(code: int, data: bytes) -> bytes:
+    """Returns an option of a block."""
+    return struct.pack(">HH", code, len(data)) + padded(data)
+
+
+def section_header(application: str) -> bytes:
+    """Returns the block with which a file begins, and which names the application that writes it."""
+    fixed = struct.pack(">IHHq", BYTE_ORDER, MAJOR, MINOR, UNKNOWN_LENGTH)
+    return block(SECTION, fixed + option(APPLICATION, application.encode()) + option(END, b""))
+
+
+def interface_block(name: str) -> bytes:
+    """Returns the block of an interface of the link type USER0; interfaces are counted from 0 on in their order."""
+    options = option(NAME, name.encode()) + option(RESOLUTION, NANOSECONDS) + option(END, b"")
+    return block(INTERFACE, struct.pack(">HHI", LINK_TYPE, 0, 0) + options)
+
+
+def packet_block(interface: int, nanoseconds: int, data: bytes) -> bytes:
+    """Returns the block of a packet of an interface, with its time in nanoseconds since 1970."""
+    fixed = struct.pack(">IQII", interface, nanoseconds, len(data), len(data))
+    return block(PACKET, fixed + data)
