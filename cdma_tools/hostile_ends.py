@@ -11,8 +11,9 @@ import time
 from collections.abc import Callable
 from dataclasses import dataclass
 
-from cdma_tools.commands import FAILED, FAILED_AS, process_arguments
+from cdma_tools.commands import FAILED, FAILED_AS
 from cdma_tools.lines import begins_line
+from cdma_tools.places import TOP
 from cdma_tools.starting import INTERRUPTED, called
 
 # Command lines with the names of files of a room; OUT, or PICTURE, stands for the output.
@@ -36,7 +37,7 @@ INPUTS = ("input", "cell.is95", "survey.txt")
 SECONDS = 120  # in which a run has to end
 LONGEST = 2.5  # seconds after which a run is interrupted at most
 SHARED_RUN = "listen --type ci8 --rate 1228800 --program /bin/true --part 10 --workers 2 zeros"
-SHARED_SAMPLES, SHARED_WAIT = 2 * 1_228_800 * 20, 40
+SHARED_SAMPLES, SHARED_WAIT = 2 * 1_228_800 * 20, 120
 # What a listening's file may have besides what it wrote, by how it ends.
 RESTS = (b"", b"my notes", b"pilot study", b"pilot phase=6", b"frame at=12 rate=9600 go", bytes(100), b"\xff\n", b"notes\n")
 WHOLE = b"pilot phase=64 energy=1509949440000\n"
@@ -66,10 +67,15 @@ def started(words: list[str], folder: str) -> subprocess.Popen[bytes]:
     """Starts a tool in a process of its own that takes interrupts."""
     pipe = subprocess.PIPE
     return subprocess.Popen(
-        [*process_arguments(words[0]), *words[1:]], stdin=pipe, stdout=subprocess.DEVNULL, stderr=pipe, cwd=folder,
+        [*launcher_of(words[0]), *words[1:]], stdin=pipe, stdout=subprocess.DEVNULL, stderr=pipe, cwd=folder,
         env=dict(os.environ, OMP_NUM_THREADS="1", OPENBLAS_NUM_THREADS="1"), start_new_session=True,
         preexec_fn=hear_interrupts,
     )  # fmt: skip
+
+
+def launcher_of(tool: str) -> list[str]:
+    """Returns the command of a tool in a checkout: its launcher hears an interrupt from its first line on."""
+    return [os.path.join(TOP, "tools", tool)]
 
 
 def hear_interrupts() -> None:
@@ -159,7 +165,7 @@ def interrupted(folder: str, draw: random.Random) -> tuple[str, str]:
     line = draw.choice(LINES)
     output = os.path.join(folder, "output.png" if "PICTURE" in line else "output")
     words, number = words_of(line, output), draw.choice([signal.SIGINT, signal.SIGTERM])
-    kept = state_of(os.path.join(folder, "output"))[0]
+    kept = state_of(output_of(folder))[0]
     run = started(words, folder)
     wait = LONGEST * draw.random() ** 2
     with contextlib.suppress(subprocess.TimeoutExpired):
@@ -171,9 +177,21 @@ def interrupted(folder: str, draw: random.Random) -> tuple[str, str]:
         fault = f"not one line: {end.said!r}"
     if not fault and any(name.startswith(".part-") for name in os.listdir(folder)):
         fault = "a file is left half written"
-    if not fault and end.status == INTERRUPTED and words[0] != "listen":
-        fault = "" if state_of(os.path.join(folder, "output"))[0] == kept else "an output was changed"
+    if not fault and end.status == INTERRUPTED and words[0] != "listen" and state_of(output_of(folder))[0] != kept:
+        fault = "" if is_whole(line, folder) else "an output is left half written"
     return f"{' '.join(words)}, {number.name} after {wait:.3f} s", fault
+
+
+def output_of(folder: str) -> str:
+    """Returns the path of an output that was there before."""
+    return os.path.join(folder, "output")
+
+
+def is_whole(line: str, folder: str) -> bool:
+    """Returns whether an output is what an uninterrupted run writes: the interrupt came when it was written."""
+    again = os.path.join(folder, "again")
+    ended(started(words_of(line, again), folder))
+    return os.path.exists(again) and state_of(again)[0] == state_of(output_of(folder))[0]
 
 
 def sockets(folder: str, _: random.Random) -> tuple[str, str]:

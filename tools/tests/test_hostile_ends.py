@@ -29,7 +29,7 @@ class Ends(unittest.TestCase):
         if not instead:
             return kind(folder, draw)[1]
         words = ["/bin/sh", "-c", instead]
-        with unittest.mock.patch.object(hostile_ends, "process_arguments", lambda _: words):
+        with unittest.mock.patch.object(hostile_ends, "launcher_of", lambda _: words):
             return kind(folder, draw)[1]
 
     def test_each_kind_passes(self) -> None:
