@@ -28,6 +28,12 @@ the time from which they count. At SIGHUP the file is opened anew by its name, a
 Ctrl-C or SIGTERM ends a listening to a stream in order: what has come is heard out, a summary is said, and the status
 tells whether a pilot was heard; a second one breaks it off.
 
+With --pcapng messages and frames are written as packets too, which Wireshark shows with the dissector
+share/cdma-replay/is95.lua (docs/FORMATS.md). Each is written with its line, so a listening can be watched. FILE is
+replaced; a listening that goes on after the lines of --out writes packets only of new lines.
+
+    tools/listen --type cu8 --rate 2400000 --pcapng - radio.cu8 | wireshark -k -i -
+
 A file of samples is listened to in parts of --part seconds, by --workers processes of this machine, or by the workers
 of a --scheduler of dask.distributed, which need the same file and program at the same paths. What is written is the
 same, byte for byte, for any number of workers.
@@ -47,13 +53,14 @@ import os
 import re
 import stat
 import sys
+from collections.abc import Iterator
 from fractions import Fraction
 
 from cdma_tools.arguments import Parser, Within, number_within, rational, whole_within, wrong
 from cdma_tools.errors import Refused, WrongArguments
 from cdma_tools.frequencies import FREQUENCY_OPTIONS, add_frequency_options, frequency_fault, frequency_given
 from cdma_tools.listening.follow_run import Handset
-from cdma_tools.listening.line_writer import LineWriter
+from cdma_tools.listening.line_writer import LineWriter, Write
 from cdma_tools.listening.live import Stream, hear_stream
 from cdma_tools.listening.output import Output, open_output
 from cdma_tools.listening.parts import PART, Recording
@@ -61,12 +68,14 @@ from cdma_tools.listening.sharing import hear_recording
 from cdma_tools.listening.live_sources import FIXED_TYPES, RTL_TCP, SENT_TYPES, SOAPY, TUNED, LiveSource, scheme_of
 from cdma_tools.listening.sources import Tuning
 from cdma_tools.listening.stream_lock import LockOptions
-from cdma_tools.overwriting import InputFile, OutputFile
+from cdma_tools.overwriting import STANDARD, InputFile, OutputFile
 from cdma_tools.program import add_program_option, find_program
 from cdma_tools.radio.air import CHIP_RATE
 from cdma_tools.radio.search_policy import TRIES, add_search_options, policy_of
 from cdma_tools.recordings import TYPES, absolute, sample_count, type_named
 from cdma_tools.sources import add_capture_option, is_described, stored_of
+from cdma_tools.wireshark.capture import Capture
+from cdma_tools.wireshark.stream import PacketStream
 
 MOST_RATE, MOST_SHIFT, MOST_WORKERS = 100_000_000, 50_000_000, 64
 LEAST_PART, MOST_PART = 10, 1_000_000
@@ -132,6 +141,10 @@ def parser() -> Parser:
     words.add_argument("--out", type=OutputFile, metavar="FILE", help=out)
     append = "with a stream: add to a file that has lines of another one, after a line that tells the new origin"
     words.add_argument("--append", action="store_true", help=append)
+    packets = (
+        "write packets of messages and frames to FILE, or to standard output if it is - (then lines only with --out)"
+    )
+    words.add_argument("--pcapng", type=OutputFile, metavar="FILE", help=packets)
     add_program_option(words)
     add_capture_option(words)
     add_tuning(words)
@@ -191,6 +204,8 @@ def check(words: argparse.ArgumentParser, options: argparse.Namespace) -> None:
         words.error(f"--row {options.row} is the row of the sync channel or of the paging channel")
     if options.append and options.out is None:
         words.error("--append needs --out")
+    if options.json and options.pcapng == STANDARD and options.out is None:
+        words.error("--json needs --out if standard output has the packets")
     if options.out is not None and os.path.isdir(options.out):
         words.error(f"{options.out} is a folder")
 
@@ -259,7 +274,25 @@ def check_output(options: argparse.Namespace, is_recording: bool, output: Output
     if is_recording and output.already.has_origin:
         raise Refused(f"{options.out}: it has lines of streams, and those of a file of samples can't follow them")
     if not is_recording and output.already.lines and not options.append:
-        raise Refused(f"{options.out}: it has lines: give --append to add those of another stream, or name another file")
+        raise Refused(
+            f"{options.out}: it has lines: give --append to add those of another stream, or name another file"
+        )
+
+
+@contextlib.contextmanager
+def opened_packets(options: argparse.Namespace) -> Iterator[PacketStream | None]:
+    """Yields where packets go, if they are asked for."""
+    if options.pcapng is None:
+        yield None
+        return
+    with contextlib.closing(Capture(options.pcapng)) as capture:
+        yield PacketStream(capture.write, options.paging, options.row or 0)
+
+
+def lines_to(options: argparse.Namespace, output: Output) -> Write:
+    """Returns what writes lines: nothing does if standard output has the packets, and no file is named for lines."""
+    is_dropped = options.pcapng == STANDARD and options.out is None
+    return (lambda data: None) if is_dropped else output.write
 
 
 def listen(options: argparse.Namespace) -> int:
@@ -268,13 +301,15 @@ def listen(options: argparse.Namespace) -> int:
     is_json = options.json or (options.out or "").endswith(JSON_LINES)
     with contextlib.closing(open_output(options.out, is_json)) as output:
         check_output(options, isinstance(source, Recording), output)
-        if isinstance(source, Recording):
-            writer = LineWriter(output.write, is_json, counts, output.already)
-            is_heard = hear_recording(source, handset, writer, options.part, options.workers, options.scheduler)
-        else:
-            lock = lock_options(options, source.kind, source.rate, is_live=True)
-            writer = LineWriter(output.write, is_json, counts)
-            is_heard = hear_stream(source, lock, handset, writer, output, output.already.lines > 0)
+        with opened_packets(options) as packets:
+            already = output.already if isinstance(source, Recording) else None
+            writer = LineWriter(lines_to(options, output), is_json, counts, already)
+            writer.packets = packets
+            if isinstance(source, Recording):
+                is_heard = hear_recording(source, handset, writer, options.part, options.workers, options.scheduler)
+            else:
+                lock = lock_options(options, source.kind, source.rate, is_live=True)
+                is_heard = hear_stream(source, lock, handset, writer, output, output.already.lines > 0)
     if not is_heard:
         policy = policy_of(options)
         raise Refused(f"no pilot stands out anywhere {policy.searched(options.shift)}{policy.advice}")

@@ -5,12 +5,14 @@ import sys
 from collections import Counter
 from collections.abc import Callable
 from dataclasses import dataclass, field
+from typing import Any
 
 from cdma_tools.errors import Refused, said
 from cdma_tools.lines import ORIGIN, TIME_NAME, NoLine, read_line
 from cdma_tools.listening.events import AT, Event, Remark
 from cdma_tools.listening.system_time import SystemTime, time_told
 from cdma_tools.starting import called
+from cdma_tools.wireshark.stream import PacketStream
 
 # What each of the options that count hears, by the first words of lines.
 TAPS = {
@@ -56,6 +58,14 @@ class Already:
         return self.unplaced >= 0
 
 
+def object_of(text: str) -> dict[str, Any]:
+    """The object of a line; refuses a text that is none."""
+    try:
+        return read_line(text)
+    except NoLine as why:
+        raise Refused(f"a line of the program is none: {why}: {text[:60]!r}") from None
+
+
 class LineWriter:
     """A listener that writes lines, each counted from the chip at the recording's start."""
 
@@ -68,6 +78,7 @@ class LineWriter:
         self.began = ""  # the time from which lines count, if a line is to tell it
         self.written = 0  # lines
         self.time: SystemTime | None = None
+        self.packets: PacketStream | None = None  # which gets each line's packet too
 
     def begin(self, origin: int) -> None:
         """Takes the number of the chip from which lines count."""
@@ -88,6 +99,8 @@ class LineWriter:
         self.counts[tap] += 1
         text = event.counted_from(self.origin)
         self.put(text, event)
+        if self.packets is not None:
+            self.packets.take(object_of(text), event.chip, self.time)
 
     def put(self, text: str, event: Event | None = None) -> None:
         """Writes a line, that of an event or one of the listening's own."""
@@ -96,10 +109,7 @@ class LineWriter:
 
     def as_json(self, event: Event | None, text: str) -> str:
         """Returns the object of a line, with its time in UTC if that is known."""
-        try:
-            read = read_line(text)
-        except NoLine as why:
-            raise Refused(f"a line of the program is none: {why}: {text[:60]!r}") from None
+        read = object_of(text)
         if self.time is not None and event is not None and "at" in read:
             read[TIME_NAME] = self.time.utc(event.chip)
         return json.dumps(read, separators=(",", ":"))

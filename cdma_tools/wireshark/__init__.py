@@ -6,5 +6,6 @@
 | `packets` | the header of a packet, and the packet of a line |
 | `pcapng` | the blocks of a pcapng file |
 | `stream` | the pcapng file of the lines of one recording, with their times |
+| `capture` | where packets go as they come |
 | `dissector` | the dissector in Lua, made of `dissector.lua` and the layouts |
 """

@@ -4,7 +4,7 @@ from collections.abc import Callable
 from typing import Any
 
 from cdma_tools import __version__
-from cdma_tools.lines import NoLine, read_line
+from cdma_tools.lines import ORIGIN, NoLine, read_line
 from cdma_tools.listening.events import Event
 from cdma_tools.listening.system_time import SystemTime, frames_of, time_told
 from cdma_tools.radio.air import CHIP_RATE, PERIOD
@@ -13,6 +13,7 @@ from cdma_tools.wireshark.pcapng import MOST_TIME, interface_block, packet_block
 
 APPLICATION = f"cdma_replay tools {__version__}"
 SECOND = 1_000_000_000  # nanoseconds
+MOST_LATE = 256  # chips by which a finger may lie after the reference path
 Interface = tuple[Cell | None, Channel]
 
 
@@ -77,8 +78,8 @@ class LinePackets:
     def take(self, text: str) -> None:
         """Writes the packet of a line, if it has one; raises `NoLine` if the text is not a line."""
         read = read_line(text)
-        if read["line"] == "pilot":
-            self.phase, self.time = read["phase"], None
+        if read["line"] in ("pilot", ORIGIN):
+            self.phase, self.time = read.get("phase"), None
         if "at" not in read:
             return
         if read["line"] == "sync":
@@ -89,11 +90,11 @@ class LinePackets:
         """Takes the time of a sync message.
 
         A message that ends with the file is known a frame early, because no frame follows its last one. That is seen
-        where it would otherwise begin before the file, or a frame before the time known so far. Without a pilot line
-        the code is taken to begin where a message is known.
+        where it would otherwise begin before the file, or a frame before the time known so far. The code begins where
+        a message is known, or a little before; a pilot line that says otherwise has another origin than `at`.
         """
         at = read["at"]
-        if self.phase is None:
+        if self.phase is None or (at + self.phase) % PERIOD > MOST_LATE:
             self.phase = -at % PERIOD
         is_early = at < PERIOD * (frames_of(read) + 1)
         told = time_told(Event(at + self.phase + (PERIOD if is_early else 0), text))

@@ -65,6 +65,7 @@ CASES = {
     ("import_capture", "file"): f"import_capture {RAW} IN OUT",
     ("install", "prefix"): "install --program IN FOLDER",
     ("listen", "out"): f"listen {RAW} --program /bin/true IN --out OUT",
+    ("listen", "pcapng"): f"listen {RAW} --program /bin/true IN --pcapng OUT",
     ("report", "out"): f"report {RAW} --program /bin/true IN --out OUT",
 }
 # Outputs of tools that read no file that they could replace: they have no input, or only a program, and the names of

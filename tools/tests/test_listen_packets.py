@@ -1,0 +1,146 @@
+"""tools/listen --pcapng: packets as they come, which tshark reads from a pipe, with the times of the cell's script."""
+
+import os
+import re
+import shutil
+import subprocess
+import tempfile
+import unittest
+import unittest.mock
+from collections.abc import Iterator
+from fractions import Fraction
+
+from tools.tests.helping import NO_PROGRAM, PROGRAM, PYTHON, ROOT, made_once, needs, run_inside, temporary_folder
+
+needs("numpy", "scipy")
+
+from cdma_tools.listening.events import Event  # noqa: E402
+from cdma_tools.listening.line_writer import LineWriter  # noqa: E402
+from cdma_tools.wireshark.capture import Capture  # noqa: E402
+from cdma_tools.wireshark.stream import PacketStream  # noqa: E402
+from tools.tests.listening_cell import HANDSET, made_cell, script_of, write_cell  # noqa: E402
+from tools.tests.test_packets import DISSECTOR, PACKETS, packets_of  # noqa: E402
+
+SECONDS, RATE = 4, 1_500_000
+STREAM = ["--type", "cu8", "--rate", str(RATE)]
+FIELDS = ("frame.time_epoch", "is95.time_known", "is95.chip", "is95.row", "_ws.lua.error", "is95.malformed")
+ROWS = {"sync": "32", "paging": "1", "frame": "10", "traffic": "10"}
+SYNC = "sync at=294848 prev=3 min=1 sid=1 nid=2 pn=511 lc=102a1d2e508 time=1007 lp=13 ltm=0 daylt=0 prat=0 rest=3:00"
+FRAME = "frame at=%d rate=1200 good=1 bits=16:df67 commands=0000110001101101"
+
+
+def make_recording(place: str) -> None:
+    """Writes a recording of the cell."""
+    with tempfile.TemporaryDirectory() as folder:
+        cell = write_cell(os.path.join(folder, "cell.is95"), made_cell(PROGRAM or "", SECONDS, 0))
+        path = os.path.join(folder, "radio.cu8")
+        subprocess.run([PYTHON, "-B", f"{ROOT}/tools/channel", *STREAM, cell, path], check=True, capture_output=True)
+        os.replace(path, place)
+
+
+@unittest.skipUnless(PROGRAM, NO_PROGRAM)
+@unittest.skipUnless(shutil.which("tshark"), "no tshark: install the package tshark")
+class Listened(unittest.TestCase):
+    """A recording of some seconds."""
+
+    seconds = 15
+
+    def setUp(self) -> None:
+        self.recording = made_once(f"packets_{SECONDS}.cu8", make_recording)
+        self.folder = temporary_folder(self.addCleanup)
+
+    def shown(self, source: str) -> list[list[str]]:
+        """What tshark shows of the packets that a command of the shell writes."""
+        options = " ".join(f"-e {name}" for name in FIELDS)
+        line = f"{source} | tshark -n -X lua_script:{DISSECTOR} -r - -T fields {options}"
+        environment = {**os.environ, "HOME": self.folder, "XDG_CONFIG_HOME": self.folder}
+        ran = subprocess.run(["bash", "-c", line], capture_output=True, text=True, timeout=600, env=environment)
+        said = [text for text in ran.stderr.splitlines() if not text.startswith("Running as user")]
+        self.assertEqual((ran.returncode, said), (0, []))
+        return [row.split("\t") for row in ran.stdout.splitlines()]
+
+    def test_a_pipe_to_tshark(self) -> None:
+        """Each line with a packet has one, at the time that the script tells."""
+        out, file = os.path.join(self.folder, "lines.txt"), os.path.join(self.folder, "packets.pcapng")
+        words = " ".join([*STREAM, self.recording, *HANDSET, "--out", out])
+        rows = self.shown(f"{PYTHON} -B {ROOT}/tools/listen {words} --pcapng -")
+        with open(out, encoding="ascii") as text:
+            lines = [line for line in text if line.split()[0] in PACKETS]
+        self.assertGreater(len(lines), 50)
+        self.assertEqual(len(rows), len(lines))
+        time = re.search(r" time=(\d+)", script_of(1, 0, 0, 1))
+        assert time
+        # The system time begins 3,657 days after 1970, and 13 leap seconds have passed.
+        begin = Fraction(98_304 * int(time[1]), 1_228_800) + 3_657 * 86_400 - 13
+        for line, (seconds, is_timed, chip, row, *faults) in zip(lines, rows):
+            at = re.search(r" at=(\d+)", line)
+            assert at
+            self.assertEqual((is_timed, chip, row, faults), ("1", at[1], ROWS[line.split()[0]], ["", ""]), line)
+            self.assertAlmostEqual(
+                Fraction(seconds), begin + Fraction(int(at[1]), 1_228_800), delta=Fraction(1, 10**5)
+            )
+        status, wrote, said = run_inside("listen", *words.split()[:-2], "--pcapng", file)
+        self.assertEqual((status, said), (0, ""))
+        self.assertEqual(len(wrote.splitlines()), len(lines) + wrote.count(b"pilot ") + wrote.count(b"sets "))
+        self.assertEqual(self.shown(f"cat {file}"), rows)
+
+
+class Files(unittest.TestCase):
+    """Where packets go."""
+
+    seconds = 2
+
+    def setUp(self) -> None:
+        self.path = os.path.join(temporary_folder(self.addCleanup), "packets.pcapng")
+
+    def written(self, *events: Event) -> Iterator[bytes]:
+        """The file after each event."""
+        capture = Capture(self.path)
+        self.addCleanup(capture.close)
+        writer = LineWriter(lambda data: None, False, {})
+        writer.packets = PacketStream(capture.write, 1, 10)
+        writer.begin(64)
+        for event in events:
+            writer.event(event)
+            with open(self.path, "rb") as file:
+                yield file.read()
+
+    def test_each_packet_is_there_at_once(self) -> None:
+        """Whole blocks, with the place counted from the recording's start, are there after each line."""
+        events = [Event(294_912, SYNC), Event(300_000, FRAME % 300_000)]
+        counts = [len(packets_of(data)) for data in self.written(*events)]
+        self.assertEqual(counts, [1, 2])
+        with open(self.path, "rb") as file:
+            chips = [int.from_bytes(packet[12:20], "big") for packet in packets_of(file.read())]
+        self.assertEqual(chips, [294_848, 299_936])
+
+    def test_a_full_disk_keeps_whole_blocks(self) -> None:
+        capture = Capture(self.path)
+        self.addCleanup(capture.close)
+        capture.write(b"block")
+        real = os.write
+
+        def short(file: int, data: bytes) -> int:
+            """Writes a part, then nothing more."""
+            if data == b"another":
+                return real(file, data[:3])
+            raise OSError(28, "No space left on device")
+
+        with unittest.mock.patch("os.write", short), self.assertRaises(OSError) as caught:
+            capture.write(b"another")
+        self.assertEqual(caught.exception.filename, self.path)
+        with open(self.path, "rb") as file:
+            self.assertEqual(file.read(), b"block")
+
+    def test_refusals(self) -> None:
+        words = ["--type", "cu8", "--rate", "1500000", "--program", "/bin/true", "/dev/null"]
+        status, wrote, said = run_inside("listen", *words, "--json", "--pcapng", "-")
+        self.assertEqual((status, wrote, said.count("\n")), (2, b"", 1))
+        self.assertIn("--json needs --out", said)
+        status, wrote, said = run_inside("listen", *words, "--pcapng", os.path.join(self.path, "none"))
+        self.assertEqual((status, wrote, said.count("\n")), (1, b"", 1))
+        self.assertIn("none: No such file", said)
+
+
+if __name__ == "__main__":
+    unittest.main()
