@@ -50,7 +50,7 @@ def type_named(text: str) -> str:
 
 
 class SamplePath(str):
-    """The path of a file in which the samples stand among other bytes: their first byte, and how many bytes they have."""
+    """The path of a file in which samples stand among other bytes: their first byte, and how many bytes they have."""
 
     first: int
     size: int

@@ -92,7 +92,7 @@ def whole_of(path: str, capture: dict[str, Any], name: str) -> int:
 
 
 def captures_of(path: str, meta: dict[str, Any], number: int | None) -> tuple[int, int]:
-    """The first capture that is taken, and the one after the last: all, if they have one frequency, or the one asked for."""
+    """The first capture that is taken, and the one after the last: all of one frequency, or the one asked for."""
     captures = meta.get("captures", [])
     if number is not None:
         if number > len(captures):
@@ -123,7 +123,7 @@ def extent_of(path: str, meta: dict[str, Any], samples: str, size: int, number: 
 
 
 def frequency_in(meta: dict[str, Any], number: int | None = None) -> float | None:
-    """The frequency in Hz of the middle of a capture, the first one unless another is asked for; None if it isn't told."""
+    """The frequency in Hz of the middle of a capture, by default the first; None if it isn't told."""
     captures = meta.get("captures", [])[(number or 1) - 1 :]
     told = captures[0].get("core:frequency") if captures else None
     return float(told) if isinstance(told, (int, float)) and not isinstance(told, bool) else None

@@ -42,7 +42,7 @@ MOST_CHUNK = 1 << 16  # bytes of a chunk, but for the samples', that are read
 
 @dataclass(frozen=True)
 class Stored:
-    """Samples in a file: their type, their rate, their place, and the frequency of their middle in Hz, if it is told."""
+    """Samples in a file: their type, their rate, their place, and the frequency of their middle in Hz, if told."""
 
     kind: str
     rate: Fraction

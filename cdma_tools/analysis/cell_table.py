@@ -58,7 +58,8 @@ class CellFacts:
         told = asdict(self) | {"delay_us": self.delay_us, "delay_m": self.delay_m}
         decimals = {"ec_io_db": 2, "delay_chips": 3, "delay_us": 3, "delay_m": 1}
         return {
-            name: round(value, decimals.get(name, 3)) if isinstance(value, float) else value for name, value in told.items()
+            name: round(value, decimals.get(name, 3)) if isinstance(value, float) else value
+            for name, value in told.items()
         }
 
 

@@ -150,7 +150,7 @@ class SeenLock:
 
 
 def seen_lock(held: Held, lost: int, recorded: Samples | None = None) -> SeenLock:
-    """What an analysis needs of a lock whose samples are open; `recorded` are the radio's, if other ones were locked."""
+    """What an analysis needs of a lock whose samples are open; `recorded` are the radio's, if others were locked."""
     samples = held.front.recording if recorded is None else recorded
     branches = branches_of(samples.conjugate() if held.is_conjugate else samples)
     return SeenLock(held, lost, branches, pilot_response(held))

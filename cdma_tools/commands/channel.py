@@ -168,7 +168,8 @@ def add_link_options(words: argparse.ArgumentParser) -> None:
         "--delay", type=DELAY, default=0.0, metavar="CHIPS", help="delay of the first sample, any fraction"
     )
     radio = words.add_argument_group("the radio")
-    radio.add_argument("--type", type=type_named, choices=TYPES, default="ci16_le", help="sample type (default ci16_le)")
+    kind = "sample type (default ci16_le)"
+    radio.add_argument("--type", type=type_named, choices=TYPES, default="ci16_le", help=kind)
     radio.add_argument(
         "--rate", type=rate_of, default=rate_of("2400000"), metavar="N", help="samples per second (default 2,400,000)"
     )

@@ -32,8 +32,9 @@ that isn't that of tools/explain. Soft values are compared by their signs, if th
 
     conformance/run --explain --only traffic_9600 --maker cdma_replay ./receiver
 
-What a receiver that differs writes on standard error is shown with the differences. A case fails if the receiver doesn't end within --minutes, is ended by a signal, writes without end (64 MiB more than
-expected) or writes bytes that aren't text. All processes that it began are ended, and the other cases continue.
+What a receiver that differs writes on standard error is shown with the differences. A case fails if the receiver
+doesn't end within --minutes, is ended by a signal, writes without end (64 MiB more than expected) or writes bytes that
+aren't text. All processes that it began are ended, and the other cases continue.
 
 Exit status: 0 nothing differs, 1 something does, 2 wrong arguments or a case that can't be read.
 """

@@ -93,7 +93,8 @@ def parser() -> Parser:
     limits = words.add_argument_group("the standard's limits")
     limits.add_argument("--limits", action="store_true", help="compare the cell with the standard's limits")
     limits.add_argument("--tap", action="store_true", help="with --limits: write only these, as TAP, version 13")
-    limits.add_argument("--junit", type=OutputFile, metavar="FILE", help="with --limits: write these as JUnit's XML too")
+    junit = "with --limits: write these as JUnit's XML too"
+    limits.add_argument("--junit", type=OutputFile, metavar="FILE", help=junit)
     recording = words.add_argument_group("of a recording")
     recording.add_argument(
         "--type",

@@ -25,10 +25,10 @@ it is where the bytes look like another type than the one that is given. --refla
 is there, in place.
 
 With --cell K or --pn P a weaker cell is written: the stronger ones are heard, sent again and taken off the samples, and
-a line tells each of them. --cells K tells a table of up to K cells on standard error, or with --json on standard output:
-PILOT_PN, Ec/Io of all that was received, the delay and the carrier against the first cell, how many messages the program
-heard, SID, NID and BASE_ID. That needs room for files of floating point in $TMPDIR: 8 bytes a sample, and as much again
-for each cell.
+a line tells each of them. --cells K tells a table of up to K cells on standard error, or with --json on standard
+output: PILOT_PN, Ec/Io of all that was received, the delay and the carrier against the first cell, how many messages
+the program heard, SID, NID and BASE_ID. That needs room for files of floating point in $TMPDIR: 8 bytes a sample, and
+as much again for each cell.
 
 Without --lock the carrier and the clock are taken to be right. At the chip rate, 1,228,800 samples a second, the
 samples are taken as they are. At a whole multiple of it one sample of each chip is taken, number --offset, or the
@@ -340,7 +340,9 @@ def lock_options(options: argparse.Namespace, kind: str, rate: Fraction) -> "Opt
     )  # fmt: skip
 
 
-def take_by_lock(options: argparse.Namespace, look: "Callable[[Held, Locked], None]" = lambda held, locked: None) -> "Locked":
+def take_by_lock(
+    options: argparse.Namespace, look: "Callable[[Held, Locked], None]" = lambda held, locked: None
+) -> "Locked":
     """Writes the file of the strongest pilot in a recording, and answers what was found.
 
     `look` gets the lock while its samples are still open, unless a weaker cell is taken.

@@ -1,7 +1,8 @@
 """Listens to a recording of any length, or to the air as it comes, and writes a line for each thing that is heard.
 
 SOURCE is a file of interleaved samples, in-phase part first, or - for standard input, whose --type and --rate are
-given; a recording that tells both: a .sigmf-meta, a SigMF archive (.sigmf) or a .wav of a radio program; or a live source:
+given; a recording that tells both: a .sigmf-meta, a SigMF archive (.sigmf) or a .wav of a radio program; or a live
+source:
 
     rtl_tcp://HOST:PORT   a server with the protocol of rtl_tcp, of cu8, which is tuned by --rate, --frequency, --gain,
                           --ppm, --bias-tee and --agc; if it goes away it is tried again every 5 seconds

@@ -13,11 +13,11 @@ recording of a million, and phase the code phase at the time at_s. sigma is by h
 stands out where it was tracked, 12 or more, and clock_ppm by how many millionths the recording's clock is slow, to one.
 Round each centre frequency the carrier is searched 21 kHz to each side, in the spectrum as it is and then inverted. If
 no centre has a pilot there, 88 kHz to each side are searched, which meets a clock that is 110 millionths off at 800
-MHz. --search and --conjugate replace that. At most 100,000 centre frequencies and 2,000,000 carriers, in steps of 300 Hz
-round each, are tried, which takes a processor some hours; what asks for more is refused.
+MHz. --search and --conjugate replace that. At most 100,000 centre frequencies and 2,000,000 carriers, in steps of 300
+Hz round each, are tried, which takes a processor some hours; what asks for more is refused.
 
---json writes one list of objects. With --cells K each pilot is locked to, and a table of up to K cells on its carrier is
-told too: PILOT_PN, Ec/Io, delay, carrier, messages, SID, NID and BASE_ID, as import_capture --cells has it.
+--json writes one list of objects. With --cells K each pilot is locked to, and a table of up to K cells on its carrier
+is told too: PILOT_PN, Ec/Io, delay, carrier, messages, SID, NID and BASE_ID, as import_capture --cells has it.
 
     tools/scan radio.sigmf-meta
     tools/scan --json --cells 3 radio.sigmf-meta

@@ -64,7 +64,8 @@ class LiveSource:
         except ValueError as why:
             raise Refused(f"{self.address}: {why}") from None
         port = DEFAULT_PORT if port is None and self.scheme == RTL_TCP else port
-        if not parts.hostname or port is None or parts.path not in ("", "/") or parts.query or parts.fragment or parts.username:
+        has_more = parts.path not in ("", "/") or parts.query or parts.fragment or parts.username
+        if not parts.hostname or port is None or has_more:
             raise Refused(f"{self.address}: no address {self.scheme}://HOST:PORT")
         return parts.hostname, port
 

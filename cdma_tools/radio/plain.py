@@ -25,7 +25,7 @@ TYPE_CHOICES = (*TYPES, AUTO)
 
 
 def recording_told(options: argparse.Namespace) -> tuple[str, Fraction, str]:
-    """The type, the rate and the path of the samples that the arguments name; standard input is kept in a file first."""
+    """The type, the rate and the path of the samples that the arguments name; a file keeps standard input."""
     if is_described(options.recording):
         stored = stored_of(options.recording, options.rate, options.capture)
         return stored.kind, stored.rate, stored.path

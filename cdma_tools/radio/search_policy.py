@@ -112,13 +112,13 @@ def bands(step: Step) -> list[Step]:
 
 
 def add_search_options(words: argparse._ActionsContainer) -> None:
-    """Adds --search and --conjugate, which mean the same in every tool; a default of None leaves the policy as it is."""
+    """Adds --search and --conjugate, which mean the same in every tool; None leaves the policy as it is."""
     words.add_argument(
         "--search",
         type=number_above(0, MOST_SEARCH),
         metavar="HZ",
-        help=f"search this many Hz to each side of the middle; default {SPAN:,.0f}, then {WIDE_SPAN:,.0f} if no pilot is"
-        f" found: {MOST_SEARCH:,.0f} takes a processor some minutes",
+        help=f"search this many Hz to each side of the middle; default {SPAN:,.0f}, then {WIDE_SPAN:,.0f} if no pilot"
+        f" is found: {MOST_SEARCH:,.0f} takes a processor some minutes",
     )
     words.add_argument(
         "--conjugate", choices=TRIES, help="whether the spectrum is inverted: yes, no, or try (the default) for both"

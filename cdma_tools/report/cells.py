@@ -117,8 +117,8 @@ def table_of_facts(cells: list[HeardCell]) -> Markup:
         )  # fmt: skip
     seconds = max(cell.facts.seconds for cell in cells)
     note = (
-        f"Ec/Io is of all that was received, the other cells with it, over {seconds:.3f} s; delays and carriers are against"
-        " the first cell's, delays on top of the offsets."
+        f"Ec/Io is of all that was received, the other cells with it, over {seconds:.3f} s; delays and carriers are"
+        " against the first cell's, delays on top of the offsets."
     )
     return joined([element("p", note, class_="note"), table_of(Table(heads, rows))])
 

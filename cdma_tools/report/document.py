@@ -343,9 +343,11 @@ def neighbor_section(
     rows = []
     for config, pn in last["pilots"]:
         told = cell_told(heard[pn]) if pn in heard else pilot_told(pilots.get(pn), measured)
-        rows.append((str(pn), str(config), CONFIGURATIONS.get(config, "reserved"), told if surveyed or pn in heard else ""))
+        is_known = bool(surveyed) or pn in heard
+        rows.append((str(pn), str(config), CONFIGURATIONS.get(config, "reserved"), told if is_known else ""))
     note = f"The last of {len(all_of)}, known at {seconds_at(last)}; PILOT_INC is {last['inc']}."
-    table = table_of(Table(("NGHBR_PN", "#NGHBR_CONFIG", "Meaning", "In this recording"), rows or [("none", "", "", "")]))
+    heads = ("NGHBR_PN", "#NGHBR_CONFIG", "Meaning", "In this recording")
+    table = table_of(Table(heads, rows or [("none", "", "", "")]))
     return section("Neighbors", element("p", note, class_="note"), table, name="neighbors")
 
 

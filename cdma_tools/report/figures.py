@@ -90,8 +90,8 @@ def correlation_plot(measured: Measured, phase: int) -> Plot | None:
     figure.update_xaxes(title="chips from the best phase", range=[-WINDOW - 0.5, WINDOW + 0.5])
     figure.update_yaxes(title="dB of all power", range=[bottom, max(0.0, float(levels.max())) + 1])
     note = (
-        f"The first {span_text(measured)} against the pilot's code, at phase {phase} and {WINDOW} chips on each side: of"
-        " these samples alone, not the Ec/Io of the whole."
+        f"The first {span_text(measured)} against the pilot's code, at phase {phase} and {WINDOW} chips on each side:"
+        " of only these samples, not the Ec/Io of the whole."
     )
     return Plot("correlation", "Correlation round the best phase", note, styled(figure, 360))
 
@@ -157,8 +157,8 @@ def survey_plot(pilots: list[Surveyed], measured: Measured, has_offset: bool) ->
     figure.update_yaxes(title="dB of all power", range=[bottom, max(0.0, float(levels.max())) + 2])
     count = sum(power >= measured.floor for power in powers)
     note = (
-        f"Each of the {len(pilots)} pilots at its own phase, in the first {span_text(measured)}; {count} can't be noise."
-        " Drag to zoom, double-click to see all."
+        f"Each of the {len(pilots)} pilots at its own phase, in the first {span_text(measured)}; {count} can't be"
+        " noise. Drag to zoom, double-click to see all."
     )
     return Plot("survey", "Base stations by their PN offset", note, styled(figure, 340))
 
@@ -301,5 +301,6 @@ def plots_of(gathered: Gathered, measured: Measured, surveyed: list[Surveyed], h
     """The plots that can be made of what there is."""
     pilots = gathered.find.reads("pilot")
     correlation = correlation_plot(measured, pilots[0][1]["phase"]) if pilots else None
-    found = (correlation, constellation_plot(measured), survey_plot(surveyed, measured, has_offset), timeline_plot(gathered))
+    survey = survey_plot(surveyed, measured, has_offset)
+    found = (correlation, constellation_plot(measured), survey, timeline_plot(gathered))
     return [plot for plot in found if plot]

@@ -1,8 +1,8 @@
 """The pilots of a survey, as what was heard explains them.
 
-`survey` counts each phase to the offset that is next to it, at most 31 chips away. A pilot that comes later than that, by
-its way, stands at the next offset there: PN 411, 55 chips late, at PN 412, 9 chips early. Here it is moved to the offset
-that what was heard makes likely, in this order:
+`survey` counts each phase to the offset that is next to it, at most 31 chips away. A pilot that comes later than that,
+by its way, stands at the next offset there: PN 411, 55 chips late, at PN 412, 9 chips early. Here it is moved to the
+offset that what was heard makes likely, in this order:
 
 1. a cell that was heard in the recording, at its own delay;
 2. the serving cell, or one of its neighbor list, within the search window of the System Parameters;

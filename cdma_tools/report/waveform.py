@@ -119,9 +119,9 @@ def domain_plot(made: Waveform) -> Plot | None:
     figure.update_yaxes(title="seconds", row=2, col=1)
     figure.update_xaxes(title="Walsh row", range=[-0.7, 63.7], row=2, col=1)
     note = (
-        f"The power of each Walsh row with the noise in it, the standard's code domain power: {len(made.domain.used)} are"
-        f" in use, and the noise floor is {made.domain.floor_db:.1f} dB. Below them each frame of 20 ms, or the mean of"
-        " some, without noise."
+        f"The power of each Walsh row with the noise in it, the standard's code domain power: {len(made.domain.used)}"
+        f" are in use, and the noise floor is {made.domain.floor_db:.1f} dB. Below them each frame of 20 ms, or the mean"
+        " of some, without noise."
     )
     return Plot("domain", "Code domain", note, styled(figure, 560))
 

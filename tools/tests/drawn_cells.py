@@ -40,7 +40,8 @@ class DrawnCell:
     def script(self, samples: int) -> str:
         """Its script for so many samples, with pages that repeat."""
         draws = random.Random(self.seed)
-        frames = [f"frame 9600 172:{draws.randrange(1 << 171) << 4:044x} {'01' * 8}" for _ in range(samples // 24_576 + 2)]
+        count = samples // 24_576 + 2
+        frames = [f"frame 9600 172:{draws.randrange(1 << 171) << 4:044x} {'01' * 8}" for _ in range(count)]
         return "\n".join([
             f"cell pn={self.pn} time={draws.randrange(1 << 30)} lc={draws.randrange(1, 1 << 42):011x} checks=0",
             f"link re=1 im=0 start=0 samples={samples}",

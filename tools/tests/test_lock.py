@@ -266,7 +266,7 @@ class Refusals(Recordings):
             ("a minimum shift keying", numpy.exp(1j * phase) + 0.1 * self.noise()),
         ):
             with self.subTest(name):
-                why = r"no pilot stands out within 4,000 Hz of the middle in both spectra: the best energy is 0\.\d\d of"
+                why = r"no pilot stands out within 4,000 Hz of the middle in both spectra: the best energy is 0\.\d\d"
                 self.refused(why, *self.raw(samples), "--search", 4_000)
 
     def test_a_signal_that_passes_the_threshold(self) -> None:

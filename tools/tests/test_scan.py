@@ -99,7 +99,7 @@ class Scans(Recordings):
             self.assertEqual(status, 1, wrote)
             if number in (9, 18, 19):
                 self.assertRegex(wrote, r"^no pilot round 0 Hz, excess=\d+\.\d\d sigma=\d\.\d\n$")
-                self.assertRegex(said, "^scan: no pilot at 1 centres, within 21,000 Hz of each in the spectrum as it is")
+                self.assertRegex(said, "^scan: no pilot at 1 centres, within 21,000 Hz of each in the spectrum as")
                 self.assertRegex(said, r"what stood out wasn't heard beside it, with \d\.\d")
 
     def test_words(self) -> None:

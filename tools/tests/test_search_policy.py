@@ -47,7 +47,8 @@ class Policy(unittest.TestCase):
         self.assertEqual(SearchPolicy(4_000, "no").searched(200), "within 4,000 Hz of 200 Hz in the spectrum as it is")
         self.assertEqual(SearchPolicy().advice, "; give --search HZ for a wider span")
         self.assertEqual(
-            SearchPolicy(9e4, "no").advice, "; give --search HZ for a wider span, --conjugate try for the other spectrum too"
+            SearchPolicy(9e4, "no").advice,
+            "; give --search HZ for a wider span, --conjugate try for the other spectrum too",
         )
         self.assertEqual(SearchPolicy(614_400).advice, "")
 
@@ -120,7 +121,7 @@ class Tools(Recordings):
 
     def test_each_refuses_by_the_same_words(self) -> None:
         words = ("--search", 600, "--conjugate", "no", self.path)
-        why = "within 600 Hz of the middle in the spectrum as it is: .*; give --search HZ for a wider span, --conjugate try"
+        why = "within 600 Hz of the middle in the spectrum as it is: .*; give --search HZ for a wider span, --conjugate"
         self.refused(why, words[-1], *words[:-1])
         for tool in ("domain", "scan"):
             status, wrote, said = run_main(tool, *words)

@@ -83,7 +83,8 @@ class Stored(unittest.TestCase):
             (1, 16, "ci16_le", "<i2"), (1, 32, "ci32_le", "<i4"), (3, 32, "cf32_le", "<f4"), (3, 64, "cf64_le", "<f8")
         ):  # fmt: skip
             data = PARTS.astype(stored).tobytes()
-            found = sources.stored_of(self.kept("x.wav", wave(fields_of(form, bits), data, auxi) + b"LIST\4\0\0\0abcd"), None)
+            content = wave(fields_of(form, bits), data, auxi) + b"LIST\4\0\0\0abcd"
+            found = sources.stored_of(self.kept("x.wav", content), None)
             self.assertEqual((found.kind, found.rate, found.frequency), (kind, RATE, 878_490_000))
             self.assertTrue(numpy.array_equal(self.parts(found), PARTS))
         data = PARTS.astype("<i2").tobytes()
@@ -93,7 +94,8 @@ class Stored(unittest.TestCase):
             self.assertTrue(numpy.array_equal(self.parts(found), PARTS))
             self.assertIsNone(found.frequency)
         long = b"ds64" + struct.pack("<IQQQI", 28, 0, len(data), 0, 0)
-        found = sources.stored_of(self.kept("z.wav", wave(fields_of(1, 16), data, long, 0xFFFF_FFFF, b"RF64") + b"tail"), None)
+        content = wave(fields_of(1, 16), data, long, 0xFFFF_FFFF, b"RF64") + b"tail"
+        found = sources.stored_of(self.kept("z.wav", content), None)
         self.assertTrue(numpy.array_equal(self.parts(found), PARTS))
 
     def test_wave_files_that_are_refused(self) -> None:
@@ -158,13 +160,15 @@ class Stored(unittest.TestCase):
                 sources.stored_of(path, None, number)
         # Captures of one frequency that follow each other are one recording.
         self.kept("x.sigmf-data", data)
-        self.kept("x.sigmf-meta", json.dumps(self.meta([{"core:sample_start": 0}, {"core:sample_start": 200}])).encode())
+        captures = [{"core:sample_start": 0}, {"core:sample_start": 200}]
+        self.kept("x.sigmf-meta", json.dumps(self.meta(captures)).encode())
         self.assertTrue(numpy.array_equal(self.parts(sources.stored_of(path, None)), PARTS))
         self.assertTrue(numpy.array_equal(self.parts(sources.stored_of(path, None, 2)), PARTS[400:]))
 
     def test_channels(self) -> None:
         # 7.1.1.1: 870 + 0.03 N MHz, and 1930 + 0.05 N MHz.
-        self.assertEqual((channel_hertz(384, 800), channel_hertz(25, 1900), channel_hertz(900, 800)), (881.52e6, 1931.25e6, None))
+        found_hertz = [channel_hertz(*given) for given in ((384, 800), (25, 1900), (900, 800))]
+        self.assertEqual(found_hertz, [881.52e6, 1931.25e6, None])
         found = channel_at(881.52e6 + 900)
         self.assertEqual(found and found.number, 384)
 
@@ -290,7 +294,8 @@ class Live(unittest.TestCase):
 
             sender = threading.Thread(target=send, daemon=True)
             sender.start()
-            reader = threading.Thread(target=self.source(f"zmq://127.0.0.1:{port}", "cf32_le").begin(backlog), daemon=True)
+            run = self.source(f"zmq://127.0.0.1:{port}", "cf32_le").begin(backlog)
+            reader = threading.Thread(target=run, daemon=True)
             reader.start()
             self.assertEqual(backlog.get(), data)
             backlog.stop()

@@ -40,7 +40,8 @@ class Explained(unittest.TestCase):
 
     def test_each_offset_once_and_noise_where_it_is(self) -> None:
         heard = Heard(serving=100, cells={100: 0.0, 411: 55.4})
-        pilots = [Surveyed(100, 0, 0.3, 0), Surveyed(412, -9, 0.1, 1), Surveyed(411, 3, 0.002, 2), Surveyed(7, 1, 0.001, 3)]
+        given = ((100, 0, 0.3), (412, -9, 0.1), (411, 3, 0.002), (7, 1, 0.001))
+        pilots = [Surveyed(*told, number) for number, told in enumerate(given)]
         found = explained_pilots(pilots, FLOOR, heard)
         self.assertEqual([(pilot.pn, pilot.number) for pilot in found], [(100, 0), (411, 1), (7, 3)])
 
