@@ -43,7 +43,7 @@ class Channel(NamedTuple):
 
 
 def channel_at(hertz: float) -> Channel | None:
-    """The channel on whose middle a base station's carrier lies; none where there is none."""
+    """Returns the channel whose middle is a base station's carrier, None if there is none."""
     for part in RANGES:
         number = round((hertz - part.zero) / part.step)
         if part.least <= number <= part.greatest and abs(part.hertz(number) - hertz) <= NEAR:
@@ -58,7 +58,7 @@ def channel_hertz(number: int, band: int) -> float | None:
 
 
 def add_frequency_options(words: argparse._ActionsContainer, what: str) -> None:
-    """Adds --frequency, and --channel with --band in its place; `what` says what lies there."""
+    """Adds --frequency, and --channel with --band instead of it; `what` says what lies there."""
     words.add_argument("--frequency", type=Within(decimal, 0, MOST_FREQUENCY), metavar="HZ", help=f"{what}, in Hz")
     words.add_argument(
         "--channel", type=whole_within(0, MOST_CHANNEL), metavar="N", help=f"{what}: channel N of the standard"
@@ -67,7 +67,7 @@ def add_frequency_options(words: argparse._ActionsContainer, what: str) -> None:
 
 
 def frequency_fault(options: argparse.Namespace) -> str:
-    """What is wrong with the options that name a frequency; nothing if they go together."""
+    """Returns what is wrong with the options that name a frequency, empty if they go together."""
     if options.channel is None:
         return "--band needs --channel" if options.band is not None else ""
     if options.frequency is not None:

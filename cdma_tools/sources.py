@@ -118,7 +118,7 @@ def wave_of(path: str) -> Stored:
 
 
 def chunks_of(path: str, file: BinaryIO, total: int) -> Iterator[tuple[bytes, int, bytes]]:
-    """The chunks of a WAV file: each one's name, its size, and its first bytes; the file stands behind its head."""
+    """The chunks of a WAV file: each one's name, its size, and its first bytes; the file follows its head."""
     head = file.read(12)
     if head[:4] not in (b"RIFF", b"RF64") or head[8:] != b"WAVE":
         raise Refused(f"{path}: no WAV file")
@@ -132,7 +132,7 @@ def chunks_of(path: str, file: BinaryIO, total: int) -> Iterator[tuple[bytes, in
 
 
 def wave_in(path: str, file: BinaryIO, total: int) -> Stored:
-    """The samples of an open WAV file of so many bytes."""
+    """The samples of an open WAV file of `total` bytes."""
     kind, rate, frequency, long_size = "", 0, None, 0
     for name, size, data in chunks_of(path, file, total):
         if name == b"fmt " and len(data) >= FORMAT.size:

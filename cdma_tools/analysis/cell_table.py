@@ -22,7 +22,7 @@ Reads = Sequence[dict[str, Any]]  # objects of the lines that the program wrote 
 
 @dataclass(frozen=True)
 class CellFacts:
-    """What is known of a cell; None if no message told it."""
+    """What is known of a cell; None if no message has it."""
 
     rank: int  # by strength, from 1 on
     pn: int | None
@@ -50,7 +50,7 @@ class CellFacts:
 
     @property
     def line(self) -> str:
-        """What is known as name=value."""
+        """Returns what is known as name=value."""
         return " ".join(f"{name}={value}" for name, value in self.as_json().items() if value is not None)
 
     def as_json(self) -> dict[str, Any]:
@@ -64,7 +64,7 @@ class CellFacts:
 
 
 def middle_hertz(cell: Cell) -> float:
-    """A cell's carrier half way through what was heard of it."""
+    """Returns a cell's carrier half way through what was received of it."""
     fit = cell.held.pieces[0].fit
     return float(fit.hertz((fit.chip[0] + fit.chip[-1]) / 2))
 
@@ -89,13 +89,14 @@ def last_read(reads: Reads, line: str, message: str | None = None) -> dict[str, 
 
 
 def pn_heard(reads: Reads) -> int | None:
-    """PILOT_PN as the last sync message tells it."""
+    """Returns PILOT_PN of the last sync message."""
     sync = last_read(reads, "sync")
     return int(sync["pn"]) if sync else None
 
 
 def delay_of(cell: Cell, first: Cell, pn: int | None, first_pn: int | None) -> float | None:
-    """By how many chips a cell's code comes later than the first one's, on top of what their offsets tell."""
+    """Returns the chips by which a cell's code is later than the first one's, beyond the difference of their offsets.
+    """
     if cell is first:
         return 0.0
     if pn is None or first_pn is None:
@@ -148,7 +149,7 @@ def facts_of(heard: Sequence[HeardAlone], recorded: Recording) -> list[CellFacts
 
 
 def reads_of(text: bytes) -> list[dict[str, Any]]:
-    """The objects of lines that the program wrote; what is none is left out."""
+    """Returns the objects of lines that the program wrote, without texts that are not lines."""
 
     def read() -> Iterator[dict[str, Any]]:
         for line in text.decode("ascii", "replace").splitlines():
@@ -159,7 +160,7 @@ def reads_of(text: bytes) -> list[dict[str, Any]]:
 
 
 def table_of_cells(search: Search, count: int, program: str | None, tell: Callable[[int], None]) -> list[CellFacts]:
-    """Up to so many cells of a recording; without a program no messages are heard. `tell` is told of each cell."""
+    """Returns up to `count` cells of a recording; without a program no messages are decoded. `tell` gets each cell."""
     while len(search.told) < count and search.next_cell():
         tell(1)
     heard = [heard_alone(search, cell, program) for cell in search.told]

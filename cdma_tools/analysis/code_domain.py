@@ -7,10 +7,10 @@ smoothed over some milliseconds, and a mean is taken over the blocks.
   none of it is left. The pilot's is P_0 = 2 mean(Re(y_0(b) conj y_0(b + 1))), whose two noises have nothing in common.
 - The noise of a row is N = 2 mean(Im(y_r / u)^2) over all rows but the pilot's: it spreads P_r by 2 N / sqrt(blocks).
 - The share of a row is P_r / (k I - q S), where I is the mean of |x|^2, S the sum of P_r over the rows in use, and q
-  the power of the pulse's sides (`pulse`), which the transmitter doesn't send as an error. k is the part of a pulse's
-  power that the front leaves, which empties the bin of direct current: I is k times what it would be, P_r k^2 times.
-  rho is the sum of the shares of the rows in use, at most 1. Its spread is that of the means of parts of the chips. The
-  error vector is sqrt((1 - rho) / rho).
+  the power of the pulse's sides (`pulse`), which the transmitter doesn't send as an error. The factor k is the part of
+  a pulse's power that the front leaves, which empties the bin of direct current: I is k times what it would be, P_r k^2
+  times. The sum of the shares of the rows in use is rho, at most 1. Its spread is that of the means of parts of the
+  chips. The error vector is sqrt((1 - rho) / rho).
 - The total of a row is the standard's code domain power, with the noise that falls into it:
   (2 mean(|y_r|^2) - q S / 64) / (k I - q S), without the pulse's sides, which spread evenly. The 64 totals add up to 1.
   The floor is the mean of the totals of the rows that aren't in use.
@@ -243,7 +243,7 @@ class Quality(NamedTuple):
 
 
 def quality_of(levels: Levels, noise: float, is_pulsed: bool, kept: float) -> Quality:
-    """What the powers of rows show, in noise of so much power in a row's real part."""
+    """Returns what the powers of rows show, with `noise` in a row's real part."""
     signal, total, mean, blocks = levels
     spread = numpy.full(ROWS, 2 * noise / numpy.sqrt(blocks))
     spread[SYNC_ROW] /= numpy.sqrt(SYNC_BLOCKS)

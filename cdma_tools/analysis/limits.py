@@ -33,7 +33,7 @@ class Sense(enum.Enum):
 
 @dataclass(frozen=True)
 class Limit:
-    """A limit with what was measured; `left_out` says why nothing could be."""
+    """A limit with the measured value; `left_out` says why nothing could be measured."""
 
     name: str
     purpose: str
@@ -125,7 +125,7 @@ def beside_pilot(analysis: Analysis) -> list[Limit]:
 
 
 def carrier(analysis: Analysis, middle: float | None) -> Limit:
-    """How far the carrier lies from its channel's frequency, by the radio's own oscillator."""
+    """Returns the distance of the carrier from its channel's frequency, by the radio's own oscillator."""
     purpose, unit = "carrier against its channel's frequency, by the radio's oscillator", "ppm"
     channel: Channel | None = None
     if analysis.timing is not None and middle is not None:

@@ -141,7 +141,7 @@ def timing_of(held: Held, domain: CodeDomain, lost: int) -> Timing:
 
 @dataclass(frozen=True)
 class SeenLock:
-    """What an analysis needs of a lock beside the chips that it wrote."""
+    """What an analysis needs of a lock besides the chips that it wrote."""
 
     held: Held
     lost: int
@@ -150,7 +150,8 @@ class SeenLock:
 
 
 def seen_lock(held: Held, lost: int, recorded: Samples | None = None) -> SeenLock:
-    """What an analysis needs of a lock whose samples are open; `recorded` are the radio's, if others were locked."""
+    """Returns what an analysis needs of a lock whose samples are open; `recorded` are the radio's, if others were
+    locked."""
     samples = held.front.recording if recorded is None else recorded
     branches = branches_of(samples.conjugate() if held.is_conjugate else samples)
     return SeenLock(held, lost, branches, pilot_response(held))

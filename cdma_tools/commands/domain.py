@@ -1,41 +1,41 @@
 """Measures the code domain of a cell and the quality of its waveform.
 
-FILE_OR_RECORDING is a sample file, or a recording of a radio: a .sigmf-meta, or interleaved samples whose --type and
---rate are given. Of a recording the strongest pilot is locked to first, as tools/import_capture --lock does. The first
-line has figures of the whole:
+FILE_OR_RECORDING is a sample file, or a recording of a radio: a .sigmf-meta, or interleaved samples with --type and
+--rate. In a recording the strongest pilot is locked to first, as tools/import_capture --lock does. The first line has
+figures of the whole; "recording" and "file" mark those of only one kind of input:
 
-    rho              the part of all power that the rows in use have, without the interference of the pulse's own sides,
-                     at most 1; over several paths, the part that would go without the cell: 1 - left / all
-    rho_spread       the standard deviation of rho, from parts of the chips
-    rho_by           moments of the chips, or paths: of the pilot over several paths too, also where they have one peak
-    pilot_share      the pilot's part of all power, on the strongest path
+    rho              share of all power in the rows in use, without the interference of the pulse's own sides, at most 1;
+                     over several paths, the share that would go without the cell: 1 - left / all
+    rho_spread       standard deviation of rho, from parts of the chips
+    rho_by           moments of the chips, or paths: of the pilot over several paths too, also if they have one peak
+    pilot_share      share of all power in the pilot, on the strongest path
     pilot_only_rho   if only a pilot is sent: the standard's waveform quality of it
-    error_vector     the root mean square of the error over that of what is sent: sqrt((1 - rho) / rho)
-    floor_db         the mean power of a row that isn't in use, in dB of all power: the noise floor
-    unused_db, _row  the greatest power of a row that isn't in use, and which row that is
-    peak_db          the greatest power of a chip over the mean, in dB
-    chips, seconds   how much was measured
-    carrier_hz       of a recording: the carrier above the middle, half way, in Hz
-    clock_ppm        of a recording: how much slower the radio's clock is than the base station's, in millionths
-    time_chips       of a recording: when the period of the code begins that is nearest to its middle, in chips of
-                     1 / 1,228,800 s by the radio's clock
-    paths            of a recording: delays in chips, each with its level in dB below the strongest
-    carrier_left     of a sample file: the carrier that is left in it, in Hz
-    time_left        of a sample file: by how many chips the pilot comes later than they were taken
-    offset_i, _q     of a recording: the branches' offsets, as parts of the root mean square of the samples
-    imbalance_db     of a recording: by how many dB q is stronger than i
-    skew_degrees     of a recording: by how many degrees q leans to i
-    samples_peak_db  of a recording: the greatest power of a sample over the mean, in dB
+    error_vector     root mean square of the error relative to what is sent: sqrt((1 - rho) / rho)
+    floor_db         mean power of a row that isn't in use, in dB of all power: the noise floor
+    unused_db, _row  greatest power of a row that isn't in use, and which row that is
+    peak_db          greatest power of a chip over the mean, in dB
+    chips, seconds   amount measured
+    carrier_hz       recording: carrier above the middle, half way, in Hz
+    clock_ppm        recording: slowness of the radio's clock relative to the base station's, in millionths
+    time_chips       recording: begin of the period of the code nearest to its middle, in chips of 1 / 1,228,800 s by the
+                     radio's clock
+    paths            recording: delays in chips, each with its level in dB below the strongest
+    carrier_left     file: carrier that is left in it, in Hz
+    time_left        file: delay of the pilot after the instants at which chips were taken, in chips
+    offset_i, _q     recording: offsets of the branches, relative to the root mean square of the samples
+    imbalance_db     recording: excess of q over i, in dB
+    skew_degrees     recording: lean of q to i, in degrees
+    samples_peak_db  recording: greatest power of a sample over the mean, in dB
 
-Then each Walsh row in use gets a line: what it is (pilot, sync, paging where the program hears a message on it, other),
-its level in dB of all power without the noise in it (db) and with it (total_db, the standard's code domain power), by
-how many standard deviations of noise it stands out (6 or more, and -33 dB), its phase and its time against the pilot's.
-The formulas stand in docs/RADIO.md.
+Then each Walsh row in use gets a line with its kind: pilot, sync, paging if the program decodes a message on it, or
+other. It has the row's level in dB of all power without the noise in it (db) and with it (total_db, the standard's code
+domain power), and its phase and time relative to the pilot. It also has the number of standard deviations of noise by
+which the row stands out (6 or more, and -33 dB). docs/RADIO.md has the formulas.
 
 With --cell K or --pn P a weaker cell of a recording is measured, without the stronger ones. --limits compares the cell
 with the standard's limits (C.S0010): rho of at least 0.912, unused rows 27 dB below all power, rows within 50 ns and
 0.05 rad of the pilot, and the carrier within 0.05 millionths of its channel, by the radio's oscillator. Each limit gets
-a line, and a case in the files of --junit and --tap; one that is not met ends the tool with status 1.
+a line, and a case in the files of --junit and --tap. If one isn't met, the tool ends with status 1.
 
     tools/domain radio.sigmf-meta
     tools/domain radio.sigmf-meta --cell 2
@@ -93,25 +93,24 @@ def parser() -> Parser:
     limits = words.add_argument_group("the standard's limits")
     limits.add_argument("--limits", action="store_true", help="compare the cell with the standard's limits")
     limits.add_argument("--tap", action="store_true", help="with --limits: write only these, as TAP, version 13")
-    junit = "with --limits: write these as JUnit's XML too"
-    limits.add_argument("--junit", type=OutputFile, metavar="FILE", help=junit)
+    limits.add_argument("--junit", type=OutputFile, metavar="FILE", help="with --limits: also write these as JUnit XML")
     recording = words.add_argument_group("of a recording")
     recording.add_argument(
         "--type",
         type=type_named,
         choices=TYPE_CHOICES,
-        help="how the samples are kept, auto: as their bytes look; not with a .sigmf-meta",
+        help="sample type, or auto to guess it from the bytes; not with a .sigmf-meta",
     )
     recording.add_argument(
-        "--rate", type=rate_of, metavar="N", help="samples a second; with a .sigmf-meta where it tells none"
+        "--rate", type=rate_of, metavar="N", help="samples per second; with a .sigmf-meta if it has none"
     )
-    recording.add_argument("--skip", type=count_of, metavar="N", help="leave out the first N samples, else 0")
-    recording.add_argument("--shift", type=hertz_of, metavar="HZ", help="search round this carrier, else 0")
+    recording.add_argument("--skip", type=count_of, metavar="N", help="leave out the first N samples (default 0)")
+    recording.add_argument("--shift", type=hertz_of, metavar="HZ", help="search around this carrier (default 0)")
     add_capture_option(recording)
     add_search_options(recording)
     add_cell_options(recording)
-    add_frequency_options(recording, "the recording's middle, if no .sigmf-meta tells it")
-    sent = "the base station's phase equaliser: whether it is there, else try"
+    add_frequency_options(recording, "the recording's middle, if no .sigmf-meta has it")
+    sent = "whether the base station has a phase equaliser (default try)"
     recording.add_argument("--equaliser", choices=TRIES, help=sent)
     return words
 
@@ -122,7 +121,7 @@ def is_recording(options: argparse.Namespace) -> bool:
 
 
 def check_arguments(words: Parser, options: argparse.Namespace) -> None:
-    """Ends with status 2 where options don't go together."""
+    """Ends with status 2 if options don't go together."""
     if is_described(options.recording):
         if options.type:
             words.error("--type can't be given with a .sigmf-meta, a .sigmf or a .wav, which tells it")
@@ -138,7 +137,7 @@ def check_arguments(words: Parser, options: argparse.Namespace) -> None:
 
 
 def check_outputs(words: Parser, options: argparse.Namespace) -> None:
-    """Ends with status 2 where two things would go to standard output, or a file of JUnit has no folder."""
+    """Ends with status 2 if two results would go to standard output, or if the folder of a JUnit file is missing."""
     given = [name for name, is_there in (
         ("--plot", options.plot == STANDARD), ("--json", options.json == STANDARD), ("--tap", options.tap)
     ) if is_there]  # fmt: skip
@@ -148,12 +147,12 @@ def check_outputs(words: Parser, options: argparse.Namespace) -> None:
 
 
 def wanted_of(options: argparse.Namespace) -> Wanted:
-    """The cell that is asked for; PILOT_PN is told by the program, which has to be there then."""
+    """Returns the requested cell; its PILOT_PN comes from the program, which must then be there."""
     return Wanted(options.cell, options.pn, None if options.pn is None else find_program(options.program))
 
 
 def analysed(options: argparse.Namespace, lines: list[str]) -> Analysis:
-    """The analysis that is asked for, with its steps on a bar; lines get what is to be said of it."""
+    """Returns the requested analysis, with its steps on a bar; adds remarks about it to `lines`."""
     program = program_or_hint(options.program, lines, "no row is told as a paging channel")
     with bar(total=100, text="domain", unit="%") as shown, tempfile.TemporaryDirectory(prefix="domain-") as folder:
         done = 0
@@ -179,7 +178,7 @@ def analysed(options: argparse.Namespace, lines: list[str]) -> Analysis:
 
 
 def middle_of(options: argparse.Namespace) -> float | None:
-    """The frequency in Hz of a recording's middle: as the options name it, otherwise as its .sigmf-meta tells it."""
+    """Returns the frequency in Hz of a recording's middle, by the options, otherwise by its .sigmf-meta."""
     given = frequency_given(options)
     if given is None and is_described(options.recording):
         return stored_of(options.recording, options.rate, options.capture).frequency
@@ -213,7 +212,7 @@ def write_all(options: argparse.Namespace, analysis: Analysis, limits: list[Limi
 
 
 def main(arguments: list[str] | None = None) -> int:
-    """Runs the tool, and answers its exit status."""
+    """Runs the tool, and returns its exit status."""
     words = parser()
     options = words.parse_args(arguments)
     check_arguments(words, options)

@@ -1,46 +1,45 @@
-"""Turns a recording of a radio into a sample file, one sample a chip.
+"""Turns a recording of a radio into a sample file, with one sample per chip.
 
-RECORDING is a file of interleaved samples, in-phase part first, whose --type and --rate are given, or the
-.sigmf-meta of a SigMF recording, which tells both. FILE is the sample file to write, or - for standard output.
+RECORDING is a file of interleaved samples, in-phase part first, with --type and --rate, or the .sigmf-meta of a SigMF
+recording, which has both. FILE is the sample file to write, or - for standard output.
 
-With --lock nothing else need be known. The strongest pilot is found, its carrier and its clock are followed over
-the whole recording, and one sample of each of its chips is written, filtered by the transmitter's pulse, without
-carrier, scaled once for the whole file. What was found goes to standard error as one line:
+With --lock nothing else need be known. The tool finds the strongest pilot, follows its carrier and its clock over the
+whole recording, and writes one sample of each of its chips: filtered by the transmitter's pulse, without carrier,
+scaled once for the whole file. One line on standard error describes the lock:
 
-    carrier_hz  the carrier above the middle, half way; of the conjugate, where that was taken
-    drift       how much it rises, in Hz a second
-    clock_ppm   how much slower the radio's clock is than the base station's, in millionths, up to 110
-    phase       the code phase of the file's first chip, 0 to 32,767
+    carrier_hz  the carrier above the middle, half way; that of the conjugate if that was taken
+    drift       its increase, in Hz per second
+    clock_ppm   slowness of the radio's clock relative to the base station's, in millionths, up to 110
+    phase       code phase of the file's first chip, 0 to 32,767
     ec_io_db    the pilot's share of all power, in dB
     paths       delays in chips, each with its level in dB below the strongest
     equaliser   whether the base station sends through the phase equaliser of TIA/EIA-95-B, 7.1.3.1.10
     conjugate   whether the recording's spectrum is inverted
-    lost        chips that weren't heard, for which zeros stand
-    chips       chips written
-    scale       by what the samples were multiplied
+    lost        number of chips not received, which are written as zeros
+    chips       number of chips written
+    scale       factor of the samples
 
-What a file hides is tried where that is asked for: --type auto looks at the bytes, --checks auto follows the file both
-ways and takes what passes, --conjugate and --equaliser are tried unless they are given. What was taken is said, and so
-it is where the bytes look like another type than the one that is given. --reflag sets the flags of a sample file that
-is there, in place.
+Properties that a file doesn't state are tried on request. --type auto looks at the bytes, and --checks auto follows the
+file both ways and takes what passes. --conjugate and --equaliser are tried unless they are given. The tool reports its
+choice, and a warning if the bytes look like another type than the given one. --reflag sets the flags of an existing
+sample file, in place.
 
-With --cell K or --pn P a weaker cell is written: the stronger ones are heard, sent again and taken off the samples, and
-a line tells each of them. --cells K tells a table of up to K cells on standard error, or with --json on standard
-output: PILOT_PN, Ec/Io of all that was received, the delay and the carrier against the first cell, how many messages
-the program heard, SID, NID and BASE_ID. That needs room for files of floating point in $TMPDIR: 8 bytes a sample, and
-as much again for each cell.
+With --cell K or --pn P a weaker cell is written: the stronger ones are decoded, sent again and subtracted from the
+samples, and a line describes each of them. --cells K prints a table of up to K cells on standard error, or with --json
+on standard output: PILOT_PN, Ec/Io of all that was received, the delay and the carrier relative to the first cell, the
+number of decoded messages, SID, NID and BASE_ID. That needs space for files of floating point in $TMPDIR: 8 bytes per
+sample, and as much again for each cell.
 
-Without --lock the carrier and the clock are taken to be right. At the chip rate, 1,228,800 samples a second, the
-samples are taken as they are. At a whole multiple of it one sample of each chip is taken, number --offset, or the
-sum of the chip's samples with --sum. At any other rate above it the recording is resampled. --shift turns a known
-carrier away.
+Without --lock the carrier and the clock are taken to be right. At the chip rate, 1,228,800 samples per second, the
+samples are taken as they are. At a whole multiple of it one sample of each chip is taken, number --offset, or with
+--sum the sum of the chip's samples. At any other rate above it the recording is resampled. --shift removes a known
+carrier.
 
-Then whole samples stay whole: they are multiplied by --scale alone, which is 1 where it isn't given. Samples of
-floating point, and those that --shift or resampling makes, are by default scaled so that the greatest part is
-32,767, or 127 in version 2, and rounded to the nearest whole number. A part that doesn't fit is an error and
-is never wrapped or cut; nothing is written then. --scale fit does the same for whole samples. With --lock the
-root mean square is 2,500, or 20 in version 2; parts of bursts that don't fit are cut at the ends of the range, and
-their number is said.
+Whole samples then stay whole: they are only multiplied by --scale (default 1). Samples of floating point, and those
+that --shift or resampling makes, are by default scaled so that the greatest part is 32,767, or 127 in 8 bits, and
+rounded to the nearest whole number. A part that doesn't fit is an error and is never wrapped or cut; nothing is written
+then. --scale fit does the same for whole samples. With --lock the root mean square is 2,500, or 20 in 8 bits. Parts of
+bursts that don't fit are then cut at the ends of the range, and their number is reported.
 
     tools/import_capture --lock --type cu8 --rate 2400000 radio.bin radio.is95
     tools/import_capture --lock --fingers 3 radio.sigmf-meta radio.is95
@@ -121,22 +120,22 @@ def add_lock_words(words: argparse.ArgumentParser) -> None:
     lock = words.add_argument_group("with --lock")
     lock.add_argument("--lock", action="store_true", help="find the strongest pilot, its carrier and its clock")
     lock.add_argument(
-        "--fingers", type=int, choices=(1, 2, 3), help="how many paths the receiver will follow, else 1: the chips are taken"
-        " where so many fingers, whole chips apart, hold most energy"
+        "--fingers", type=int, choices=(1, 2, 3), help="number of paths that the receiver follows (default 1): the chips are taken"
+        " where that number of fingers, whole chips apart, have the most energy"
     )  # fmt: skip
     add_search_options(lock)
     lock.add_argument(
-        "--equaliser", choices=TRIES, help="the base station's phase equaliser: whether it is there, else try"
+        "--equaliser", choices=TRIES, help="whether the base station has a phase equaliser (default try)"
     )
     add_cell_options(lock)
     lock.add_argument(
         "--cells",
         type=whole_within(1, MOST_RANK),
         metavar="K",
-        help="tell a table of up to K cells too: PILOT_PN, Ec/Io, delay, carrier, messages, SID, NID and BASE_ID",
+        help="also print a table of up to K cells: PILOT_PN, Ec/Io, delay, carrier, messages, SID, NID and BASE_ID",
     )
     lock.add_argument("--json", action="store_true", help="with --cells: write the table to standard output as JSON")
-    note = "write the recording's .sigmf-meta with a note of what was found"
+    note = "write the recording's .sigmf-meta with a note on the lock"
     lock.add_argument("--meta", type=UpdatedFile, metavar="FILE", help=note)
 
 
@@ -165,14 +164,14 @@ def parser(form: type[CaptureParser] = CaptureParser) -> CaptureParser:
         "--type",
         type=type_named,
         choices=TYPE_CHOICES,
-        help="how the samples are kept, auto: as their bytes look; not with a .sigmf-meta",
+        help="sample type, or auto to guess it from the bytes; not with a .sigmf-meta",
     )
     words.add_argument(
-        "--rate", type=rate_of, metavar="N", help="samples a second; with a .sigmf-meta only where it tells none"
+        "--rate", type=rate_of, metavar="N", help="samples per second; with a .sigmf-meta only if it has none"
     )
     add_capture_option(words)
     words.add_argument(
-        "--offset", type=count_of, metavar="N", help="at a multiple M of the chip rate: 0 to M - 1, else 0"
+        "--offset", type=count_of, metavar="N", help="at a multiple M of the chip rate: 0 to M - 1 (default 0)"
     )
     words.add_argument(
         "--sum", action="store_true", help="at a multiple: the sum of a chip's samples, from --offset on"
@@ -181,7 +180,7 @@ def parser(form: type[CaptureParser] = CaptureParser) -> CaptureParser:
         "--shift",
         type=hertz_of,
         metavar="HZ",
-        help="turn the samples so that a carrier HZ above the middle lies at 0; with --lock, search round it",
+        help="turn the samples so that a carrier HZ above the middle lies at 0; with --lock, search around it",
     )
     words.add_argument("--scale", type=scale_of, metavar="X", help="a number, or the word fit")
     words.add_argument(
@@ -198,7 +197,7 @@ def parser(form: type[CaptureParser] = CaptureParser) -> CaptureParser:
     )
     add_check_words(words)
     words.add_argument(
-        "--reflag", action="store_true", help="with a sample file and options of checks alone: set its flags, in place"
+        "--reflag", action="store_true", help="set the flags of a sample file, in place; takes only options of checks"
     )
     add_lock_words(words)
     return words
@@ -208,19 +207,19 @@ def reflag_parser() -> Parser:
     """The command line with --reflag, which takes one sample file."""
     words = Parser("import_capture", __doc__)
     words.add_argument("--reflag", action="store_true", help="set the flags of the checks of a sample file, in place")
-    words.add_argument("file", type=InputFile, metavar="FILE", help="the sample file")
+    words.add_argument("file", type=InputFile, metavar="FILE", help="sample file")
     add_check_words(words)
     return words
 
 
 def check_checks(words: Parser, options: argparse.Namespace) -> None:
-    """Ends with status 2 where what is told of checks doesn't go together."""
+    """Ends with status 2 if the options about checks don't go together."""
     if options.checks and options.complement_30:
         words.error("--checks auto and --complement-30 can't be given together")
 
 
 def check_words(words: Parser, options: argparse.Namespace) -> None:
-    """Ends with status 2 where options don't go together."""
+    """Ends with status 2 if options don't go together."""
     check_checks(words, options)
     if options.program is not None and options.pn is None and not options.checks and not options.cells:
         words.error("--program goes with --checks, --pn or --cells")
@@ -263,7 +262,7 @@ def say(lines: Iterable[str]) -> None:
 
 
 def try_checks(options: argparse.Namespace, file: IO[bytes]) -> list[str]:
-    """Sets the flags of a file that is written by what passes, where that is asked for; what is to be said of it."""
+    """On request sets the flags of a written file by what passes; returns what to report about it."""
     if not options.checks:
         return []
     file.flush()
@@ -275,7 +274,7 @@ def try_checks(options: argparse.Namespace, file: IO[bytes]) -> list[str]:
 
 
 def take_reflag(options: argparse.Namespace) -> None:
-    """Sets the flags of a sample file that is there."""
+    """Sets the flags of an existing sample file."""
     flags, lines = flags_of(options), []
     if options.checks:
         heard = tried(find_program(options.program), options.file)
@@ -330,7 +329,7 @@ def take_cell(options: argparse.Namespace, path: str, asked: "Options", file: IO
 
 
 def lock_options(options: argparse.Namespace, kind: str, rate: Fraction) -> "Options":
-    """What a lock is asked for."""
+    """Returns the options of the lock."""
     from cdma_tools.radio.locking import Options
 
     given = {name: value for name in LOCK_OPTIONS if (value := getattr(options, name)) is not None}
@@ -343,7 +342,7 @@ def lock_options(options: argparse.Namespace, kind: str, rate: Fraction) -> "Opt
 def take_by_lock(
     options: argparse.Namespace, look: "Callable[[Held, Locked], None]" = lambda held, locked: None
 ) -> "Locked":
-    """Writes the file of the strongest pilot in a recording, and answers what was found.
+    """Writes the file of the strongest pilot in a recording, and returns the result.
 
     `look` gets the lock while its samples are still open, unless a weaker cell is taken.
     """
@@ -369,7 +368,7 @@ def take_by_lock(
 
 
 def lock_and_tell(options: argparse.Namespace) -> None:
-    """Writes the file of the strongest pilot in a recording, and says what was found."""
+    """Writes the file of the strongest pilot in a recording, and reports the result."""
     held: "list[Held]" = []
     locked = take_by_lock(options, lambda one, _: held.append(one))
     print(locked.line(), file=sys.stderr)
@@ -399,7 +398,7 @@ def tell_cells(options: argparse.Namespace, first: "Held | None") -> None:
 
 
 def main(arguments: list[str] | None = None) -> int:
-    """Runs the tool, and answers its exit status."""
+    """Runs the tool, and returns its exit status."""
     given = sys.argv[1:] if arguments is None else arguments
     words = reflag_parser() if "--reflag" in given else parser()
     options = words.parse_args(given)

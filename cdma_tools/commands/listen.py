@@ -1,8 +1,7 @@
-"""Listens to a recording of any length, or to the air as it comes, and writes a line for each thing that is heard.
+"""Listens to a recording of any length, or to the air as it comes, and writes a line for each event.
 
-SOURCE is a file of interleaved samples, in-phase part first, or - for standard input, whose --type and --rate are
-given; a recording that tells both: a .sigmf-meta, a SigMF archive (.sigmf) or a .wav of a radio program; or a live
-source:
+SOURCE is a file of interleaved samples, in-phase part first, or - for standard input, with --type and --rate; a
+recording that has both: a .sigmf-meta, a SigMF archive (.sigmf) or a .wav of a radio program; or a live source:
 
     rtl_tcp://HOST:PORT   a server with the protocol of rtl_tcp, of cu8, which is tuned by --rate, --frequency, --gain,
                           --ppm, --bias-tee and --agc; if it goes away it is tried again every 5 seconds
@@ -11,33 +10,32 @@ source:
     zmq://HOST:PORT       a PUB socket with cf32_le, as GNU Radio has it (needs python3-zmq)
     soapy:driver=NAME     a radio that SoapySDR knows, which is tuned as above (needs python3-soapysdr)
 
---channel N --band 800 is in place of --frequency. A live source that is silent for 10 seconds, or fails, ends the
-listening in one line and status 1; what was received stays. The strongest pilot is found and its carrier and clock
-are followed without end; a handset of cdma_replay follows it, and its lines come out half a second after their chips at
-most.
+--channel N --band 800 replaces --frequency. A live source that is silent for 10 seconds, or fails, ends the listening
+with one line and status 1; what was received stays. The tool finds the strongest pilot and follows its carrier and
+clock without end. A handset of cdma_replay follows it, and its lines appear at most half a second after their chips.
 
-The lines are those of `cdma_replay follow` (docs/FORMATS.md), but at counts chips from the recording's start, however
-long it is. --json writes each as an object, with time_utc where the base station has told the time. Where samples are
-lost, or the pilot fades, zeros stand for the chips; a pilot that is away for more than two seconds is searched anew.
-What of that happened is said on standard error, with the second of the recording.
+The lines are those of `cdma_replay follow` (docs/FORMATS.md), but at counts chips from the start of the recording,
+however long that is. --json writes each as an object, with time_utc once the base station has sent the time. If samples
+are lost, or the pilot fades, zeros replace the chips; a pilot that is away for more than two seconds is searched again.
+Standard error has a line for each of these, with the second of the recording.
 
-With --out the lines are added to a file, whole lines alone, as JSON where its name ends with .jsonl. A listening to a
-file of samples that was broken off goes on after the last line there, if it is begun again with the same arguments. A
-stream can't be gone on with: with --append its lines are added after those of another one, and a line "origin" tells
-the time from which they count. At SIGHUP the file is opened anew by its name, as logrotate needs it.
+With --out the lines are added to a file, only complete ones, as JSON if its name ends with .jsonl. If a listening to a
+file of samples was interrupted, the same arguments continue it after the last line there. A stream can't be continued:
+with --append its lines are added after those of another one, and a line "origin" has the time from which they count. At
+SIGHUP the file is opened again by its name, as logrotate needs it.
 
-Ctrl-C or SIGTERM ends a listening to a stream in order: what has come is heard out, a summary is said, and the status
-tells whether a pilot was heard; a second one breaks it off.
+Ctrl-C or SIGTERM ends a listening to a stream in order: what has arrived is decoded, a summary is printed, and the
+status says whether a pilot was found. A second one breaks it off.
 
-With --pcapng messages and frames are written as packets too, which Wireshark shows with the dissector
+With --pcapng messages and frames are also written as packets, which Wireshark shows with the dissector
 share/cdma-replay/is95.lua (docs/FORMATS.md). Each is written with its line, so a listening can be watched. FILE is
-replaced; a listening that goes on after the lines of --out writes packets only of new lines.
+replaced; a listening that continues after the lines of --out writes packets only for new lines.
 
     tools/listen --type cu8 --rate 2400000 --pcapng - radio.cu8 | wireshark -k -i -
 
-A file of samples is listened to in parts of --part seconds, by --workers processes of this machine, or by the workers
-of a --scheduler of dask.distributed, which need the same file and program at the same paths. What is written is the
-same, byte for byte, for any number of workers.
+A file of samples is processed in parts of --part seconds, by --workers processes of this machine, or by the workers of
+a --scheduler of dask.distributed, which need the same file and program at the same paths. The output is the same, byte
+for byte, for any number of workers.
 
     rtl_sdr -f 878490000 -s 2400000 - | tools/listen --type cu8 --rate 2400000 -
     tools/listen --rate 2.4M --frequency 878.49M --gain 30 --json rtl_tcp://radio:1234
@@ -45,7 +43,7 @@ same, byte for byte, for any number of workers.
     tools/listen --type ci16 --rate 2.5M tcp://radio:7000
     tools/listen day.sigmf-meta --esn 00c0ffee --row 12 --workers 4 --out day.jsonl
 
-Exit status: 0 a pilot was heard, 1 none was, or the samples can't be read or the lines written, 2 wrong arguments.
+Exit status: 0 a pilot was found, 1 none was, or the samples can't be read or the lines written, 2 wrong arguments.
 """
 
 import argparse
@@ -96,21 +94,21 @@ def serial_of(text: str) -> str:
 def add_handset(words: argparse.ArgumentParser) -> None:
     """The arguments that name what is followed."""
     handset = words.add_argument_group("the handset")
-    handset.add_argument("--esn", type=serial_of, metavar="H", help="its serial number, eight hex digits; needs --row")
+    handset.add_argument("--esn", type=serial_of, metavar="H", help="serial number, eight hex digits; needs --row")
     for name, least, most, default, what in (
-        ("row", 1, 63, None, "the Walsh row of its traffic channel, not 32"),
-        ("offset", 0, 15, None, "the FRAME_OFFSET of that channel, else 0"),
-        ("paging", 1, 7, 1, "the paging channel that it hears, else 1"),
-        ("fingers", 1, 3, 1, "the paths that it follows, else 1"),
+        ("row", 1, 63, None, "Walsh row of its traffic channel, not 32"),
+        ("offset", 0, 15, None, "FRAME_OFFSET of that channel (default 0)"),
+        ("paging", 1, 7, 1, "paging channel to decode (default 1)"),
+        ("fingers", 1, 3, 1, "number of paths to follow (default 1)"),
     ):
         handset.add_argument(f"--{name}", type=whole_within(least, most), default=default, metavar="N", help=what)
     for name, what in (
-        ("pilots", "events of the pilot and its sets at most, over the whole recording, else all"),
-        ("messages", "messages at most, else all"),
-        ("frames", "frames at most, else all"),
-        ("raw", "messages as they came too, else none"),
+        ("pilots", "events of the pilot and its sets, over the whole recording (default all)"),
+        ("messages", "messages (default all)"),
+        ("frames", "frames (default all)"),
+        ("raw", "messages as received (default none)"),
     ):
-        handset.add_argument(f"--{name}", type=whole_within(0, MOST_EVENTS), metavar="N", help=f"so many {what}")
+        handset.add_argument(f"--{name}", type=whole_within(0, MOST_EVENTS), metavar="N", help=f"at most N {what}")
     for bits in (30, 16):
         what = f"the {bits}-bit checks of messages are sent complemented"
         handset.add_argument(f"--complement-{bits}", action="store_true", help=what)
@@ -119,11 +117,10 @@ def add_handset(words: argparse.ArgumentParser) -> None:
 def add_tuning(words: argparse.ArgumentParser) -> None:
     """The arguments that tune a radio."""
     radio = words.add_argument_group("a radio: rtl_tcp and soapy")
-    add_frequency_options(radio, "to what the radio is tuned, else left where it is")
-    radio.add_argument("--gain", type=number_within(*GAINS), metavar="DB", help="its gain, else left as it is")
-    radio.add_argument(
-        "--ppm", type=whole_within(-MOST_PPM, MOST_PPM), metavar="N", help="correct its crystal by N millionths, else 0"
-    )
+    add_frequency_options(radio, "frequency to which the radio is tuned (default unchanged)")
+    radio.add_argument("--gain", type=number_within(*GAINS), metavar="DB", help="gain of the radio (default unchanged)")
+    crystal = "correct the radio's crystal by N millionths (default 0)"
+    radio.add_argument("--ppm", type=whole_within(-MOST_PPM, MOST_PPM), metavar="N", help=crystal)
     radio.add_argument("--bias-tee", action="store_true", help="feed an amplifier at the antenna")
     radio.add_argument("--agc", action="store_true", help="let the radio set its gain by itself")
 
@@ -138,9 +135,9 @@ def parser() -> Parser:
     rates = "samples a second, as 2400000 or 2.4M; with a .sigmf-meta only where it tells none"
     words.add_argument("--rate", type=Within(rational, CHIP_RATE, MOST_RATE), metavar="N", help=rates)
     words.add_argument("--json", action="store_true", help="write objects, with their time in UTC")
-    out = "add the lines to a file, and go on after those that stand there"
+    out = "add the lines to a file, and continue after those already there"
     words.add_argument("--out", type=OutputFile, metavar="FILE", help=out)
-    append = "with a stream: add to a file that has lines of another one, after a line that tells the new origin"
+    append = "with a stream: add to a file that has lines of another one, after a line with the new origin"
     words.add_argument("--append", action="store_true", help=append)
     packets = (
         "write packets of messages and frames to FILE, or to standard output if it is - (then lines only with --out)"
@@ -151,18 +148,18 @@ def parser() -> Parser:
     add_tuning(words)
     add_handset(words)
     lock = words.add_argument_group("the lock")
-    middle = "search the first carrier round one that lies HZ above the middle, else 0"
+    middle = "search the first carrier around one that lies HZ above the middle (default 0)"
     lock.add_argument("--shift", type=number_within(-MOST_SHIFT, MOST_SHIFT), default=0.0, metavar="HZ", help=middle)
     add_search_options(lock)
-    sent = "the base station's phase equaliser: whether it is there, else try"
+    sent = "whether the base station has a phase equaliser (default try)"
     lock.add_argument("--equaliser", choices=TRIES, default="try", help=sent)
     shared = words.add_argument_group("files of samples")
-    lasts = f"seconds of a part, else {PART:.0f}"
+    lasts = f"seconds of a part (default {PART:.0f})"
     shared.add_argument("--part", type=number_within(LEAST_PART, MOST_PART), default=PART, metavar="S", help=lasts)
     where = shared.add_mutually_exclusive_group()
-    many = "processes of this machine that listen to parts, else 1"
+    many = "number of processes of this machine (default 1)"
     where.add_argument("--workers", type=whole_within(1, MOST_WORKERS), default=1, metavar="N", help=many)
-    where.add_argument("--scheduler", metavar="ADDRESS", help="of dask.distributed, as tcp://HOST:PORT")
+    where.add_argument("--scheduler", metavar="ADDRESS", help="scheduler of dask.distributed, for example tcp://HOST:8786")
     return words
 
 
@@ -178,7 +175,7 @@ def check_live(words: argparse.ArgumentParser, options: argparse.Namespace, sche
 
 
 def check_source(words: argparse.ArgumentParser, options: argparse.Namespace) -> None:
-    """Ends with status 2 where arguments don't go with the source."""
+    """Ends with status 2 if arguments don't go with the source."""
     scheme = scheme_of(options.source)
     if scheme is not None:
         check_live(words, options, scheme)
@@ -195,7 +192,7 @@ def check_source(words: argparse.ArgumentParser, options: argparse.Namespace) ->
 
 
 def check(words: argparse.ArgumentParser, options: argparse.Namespace) -> None:
-    """Ends with status 2 where arguments don't go together."""
+    """Ends with status 2 if arguments don't go together."""
     check_source(words, options)
     if (options.esn is None) != (options.row is None):
         words.error("--esn and --row need each other")
@@ -212,7 +209,7 @@ def check(words: argparse.ArgumentParser, options: argparse.Namespace) -> None:
 
 
 def lock_options(options: argparse.Namespace, kind: str, rate: Fraction, is_live: bool = False) -> LockOptions:
-    """What the lock is asked for."""
+    """Returns the options of the lock."""
     if rate < CHIP_RATE:
         raise Refused(f"{float(rate):.0f} samples a second are fewer than the chip rate, {CHIP_RATE}")
     return LockOptions(
@@ -237,7 +234,7 @@ def handset_of(options: argparse.Namespace) -> Handset:
 
 
 def counts_of(options: argparse.Namespace) -> dict[str, int]:
-    """How many events of each kind are told at most."""
+    """Returns the greatest number of events of each kind to write."""
     given = {name: getattr(options, name) for name in ("pilots", "messages", "frames")}
     return {"raw": options.raw or 0, **{name: value for name, value in given.items() if value is not None}}
 
@@ -297,7 +294,7 @@ def lines_to(options: argparse.Namespace, output: Output) -> Write:
 
 
 def listen(options: argparse.Namespace) -> int:
-    """Listens, and answers the exit status."""
+    """Listens, and returns the exit status."""
     source, handset, counts = source_of(options), handset_of(options), counts_of(options)
     is_json = options.json or (options.out or "").endswith(JSON_LINES)
     with contextlib.closing(open_output(options.out, is_json)) as output:
@@ -318,7 +315,7 @@ def listen(options: argparse.Namespace) -> int:
 
 
 def main(arguments: list[str] | None = None) -> int:
-    """Runs the tool, and answers its exit status."""
+    """Runs the tool, and returns its exit status."""
     words = parser()
     options = words.parse_args(arguments)
     check(words, options)

@@ -1,17 +1,18 @@
-"""Makes one HTML page that shows a recording, and what a handset hears in it.
+"""Makes one HTML page that shows a recording, and what a handset receives in it.
 
-FILE_OR_RECORDING is a sample file, or a recording of a radio: a .sigmf-meta, or interleaved samples whose --type and
---rate are given. A recording is imported first, by `tools/import_capture --lock` and the arguments that --import tells.
-Then `find`, `follow` and `survey` run once each. The page stands alone: it needs no network and no second file.
+FILE_OR_RECORDING is a sample file, or a recording of a radio: a .sigmf-meta, or interleaved samples with --type and
+--rate. A recording is imported first, by `tools/import_capture --lock` with the arguments of --import. Then `find`,
+`follow` and `survey` run once each. The page is self-contained: it needs no network and no second file.
 
-Of a recording of more than 27 seconds the page is drawn from the lines of tools/listen, and so it is of a file of such
-lines, as text or as JSON. It counts all lines, and shows as many as it has room for, evenly over the recording.
+For a recording of more than 27 seconds the page is drawn from the lines of tools/listen, and FILE_OR_RECORDING may also
+be a file of such lines, as text or as JSON. The page counts all lines, and shows as many as it has room for, evenly
+over the recording.
 
-It shows what the recording is, the correlation round the best phase, the strengths of all pilots, the constellation of
-the sync channel, the code domain, a recording's spectrum and waterfall, a time line of messages, frames, power control
-and pilot sets, the fields of the messages that tell of the system and what they mean, and all lines, to be searched.
-With --cells N each of up to N cells of a recording has a section, the stronger ones taken off, and a map shows who
-names whom as a neighbor.
+It describes the recording, and shows the correlation around the best phase, the strengths of all pilots, the
+constellation of the sync channel, the code domain, and a recording's spectrum and waterfall. A time line has messages,
+frames, power control and pilot sets. The fields of system messages are explained, and all lines can be searched. With
+--cells N each of up to N cells of a recording has a section, with the stronger ones subtracted, and a map shows which
+cells name each other as neighbors.
 
     tools/report radio.is95 --out radio.html
     tools/report radio.sigmf-meta --out radio.html --fingers 3
@@ -19,12 +20,12 @@ names whom as a neighbor.
     tools/report --type cu8 --rate 2457600 radio.bin --out radio.html --esn 8badf00d --row 10
     tools/report day.jsonl --out day.html
 
-The options of follow, --span to --raw, are given to it as they are; find and survey take --span and --workers too.
-Where there is no pilot that stands out, no sync message, or a broken file, the page has what there is, and says so at
+The options of follow, --span to --raw, are passed to it as they are; find and survey take --span and --workers too. If
+no pilot stands out, if there is no sync message, or if the file is broken, the page shows what there is, and says so at
 its head.
 
-Exit status: that of follow, where a page was written (0 all was read, 1 no sync message, 3 no sample file, and so
-on); 2 wrong arguments, and no page; 9 no page, as the program or a package isn't there, or a file can't be read or
+Exit status: that of follow if a page was written (0 all was read, 1 no sync message, 3 no sample file, and so on); 2
+wrong arguments, and no page; 9 no page, because the program or a package is missing, or a file can't be read or
 written; 10 a page that says why the recording couldn't be imported.
 """
 
@@ -64,17 +65,17 @@ MOST_CELLS = 12
 MOST_NOTES = 40  # of a recording's own
 # The options of follow, as docs/FORMATS.md has them.
 FOLLOW_WORDS = {
-    "span": "samples in which the pilot is searched, 64 to 32,768, else 2,048",
-    "workers": "workers of the search, 1 to 64, else 4",
-    "fingers": "paths that are followed, 1 to 3, else 1",
-    "paging": "the paging channel that is heard, 1 to 7, else 1",
-    "esn": "the handset's electronic serial number, eight hex digits",
-    "row": "the row of its traffic channel, 1 to 63, not 32",
-    "offset": "FRAME_OFFSET of its traffic channel, 0 to 15, else 0",
-    "pilots": "so many events of the pilot and its sets alone",
-    "messages": "so many messages alone",
-    "frames": "so many frames alone",
-    "raw": "so many messages as they came too",
+    "span": "number of first samples in which the pilot is searched (64 to 32,768, default 2,048)",
+    "workers": "number of workers of the search (1 to 64, default 4)",
+    "fingers": "number of paths to follow (1 to 3, default 1)",
+    "paging": "paging channel to decode (1 to 7, default 1)",
+    "esn": "electronic serial number of the handset, eight hex digits",
+    "row": "Walsh row of its traffic channel (1 to 63, not 32)",
+    "offset": "FRAME_OFFSET of its traffic channel (0 to 15, default 0)",
+    "pilots": "only the first N events of the pilot and its sets",
+    "messages": "only the first N messages",
+    "frames": "only the first N frames",
+    "raw": "also the first N messages as received",
 }
 
 
@@ -86,18 +87,18 @@ def parser() -> Parser:
     page = "the page to write, - for standard output"
     words.add_argument("--out", required=True, type=OutputFile, metavar="PAGE", help=page)
     add_program_option(words)
-    words.add_argument("--type", metavar="TYPE", help="of raw samples, as import_capture takes it")
-    words.add_argument("--rate", metavar="N", help="samples a second of raw samples, as import_capture takes it")
+    words.add_argument("--type", metavar="TYPE", help="type of raw samples, as for import_capture")
+    words.add_argument("--rate", metavar="N", help="samples per second of raw samples, as for import_capture")
     words.add_argument(
         "--import", dest="more", default="", metavar="ARGUMENTS",
-        help="arguments for import_capture, as --import='--skip 100'",
+        help="arguments for import_capture, for example --import='--skip 100'",
     )
     words.add_argument(
         "--cells",
         type=whole_within(1, MOST_CELLS),
         default=1,
         metavar="N",
-        help="of a recording: a section for each of up to N cells, else 1",
+        help="for a recording: a section for each of up to N cells (default 1)",
     )
     add_search_options(words.add_argument_group("of a recording"))
     follow = words.add_argument_group("arguments of follow")
@@ -112,7 +113,7 @@ def shown_name(path: str) -> str:
 
 
 def notes_of(path: str) -> dict[str, str]:
-    """What a .sigmf-meta says of its recording: the texts and numbers of its global object and of its first capture."""
+    """Returns the notes of a .sigmf-meta: the texts and numbers of its global object and of its first capture."""
     try:
         with open(path, encoding="utf-8") as file:
             meta = json.load(file)
@@ -124,7 +125,7 @@ def notes_of(path: str) -> dict[str, str]:
 
 
 def is_recording(options: argparse.Namespace) -> bool:
-    """Whether it has to be imported: by its name, or since its type or rate is told."""
+    """Whether the input must be imported: by its name, or because its type or rate is given."""
     return is_described(options.recording) or options.type is not None or options.rate is not None
 
 
@@ -191,7 +192,7 @@ def imported_page(options: argparse.Namespace, program: str, file: str) -> tuple
 def page_of(
     options: argparse.Namespace, program: str, file: str, imported: Imported | None, notes: dict[str, str]
 ) -> tuple[str, int]:
-    """The page of a sample file, and the status to end with; where it is imported, what is known of that."""
+    """Returns the page of a sample file, and the exit status; `imported` describes the import, if there was one."""
     words = {name: value for name in FOLLOW_WORDS if (value := getattr(options, name)) is not None}
     told, seen = imported if imported is not None else (None, None)
     gathered = gathering.Gathered(shown_name(options.recording), told, *gathering.gather_runs(program, file, words))
@@ -209,7 +210,7 @@ def page_of(
 def cells_of(
     options: argparse.Namespace, program: str, words: dict[str, str], file: str, held: Held | None
 ) -> document.Addition:
-    """The sections of each cell of a recording, beside whose imported file is room for others.
+    """Returns the sections of each cell of a recording; the folder of its imported file has space for others.
 
     `held` is the lock to the strongest cell, if the import made it.
     """
@@ -244,7 +245,7 @@ def raw_of(options: argparse.Namespace, notes: dict[str, str]) -> waveform.Raw |
 
 
 def seconds_of(options: argparse.Namespace) -> float:
-    """How long a recording is, as far as that can be told; its faults are the import's to tell."""
+    """Returns the length of a recording, as far as it is known; the import reports its faults."""
     try:
         kind, rate, path = options.type, options.rate, options.recording
         if is_described(path):
@@ -285,7 +286,7 @@ def reported(options: argparse.Namespace) -> tuple[str, int]:
 
 
 def check_words(words: Parser, options: argparse.Namespace) -> None:
-    """Ends with status 2 where options don't go together."""
+    """Ends with status 2 if options don't go together."""
     if options.cells > 1 and not is_recording(options):
         words.error("--cells goes with a recording: a .sigmf-meta, or --type and --rate")
     given = [name for name in ("more", *SEARCH_OPTIONS) if getattr(options, name)]
@@ -299,7 +300,7 @@ def check_words(words: Parser, options: argparse.Namespace) -> None:
 
 
 def main(arguments: list[str] | None = None) -> int:
-    """Runs the tool, and answers its exit status."""
+    """Runs the tool, and returns its exit status."""
     words = parser()
     options = words.parse_args(arguments)
     check_words(words, options)

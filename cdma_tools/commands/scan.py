@@ -1,23 +1,26 @@
-"""Says at which frequencies of a recording a pilot stands out.
+"""Finds the frequencies of a recording at which a pilot stands out.
 
-For a recording that is wider than one channel, or whose carrier is unknown. RECORDING is a file of interleaved samples,
-whose --type and --rate are given, or the .sigmf-meta of a SigMF recording. Centre frequencies are tried round the
-recording's middle, in steps of 1.25 MHz or of --step, as far as a whole channel lies in it; --all tries every frequency
-in the width. What stands out is tracked for a third of a second, and told where a pilot is heard there too. Each pilot
-gets a line:
+For a recording that is wider than one channel, or whose carrier is unknown. RECORDING is a file of interleaved samples
+with --type and --rate, or the .sigmf-meta of a SigMF recording. Centre frequencies are tried around the recording's
+middle, in steps of 1.25 MHz or of --step, as far as a whole channel lies in it; --all tries every frequency in the
+width. What stands out is tracked for a third of a second, and reported if a pilot is found there too. Each pilot gets a
+line:
 
     carrier_hz=1249851.2 ec_io_db=-9.12 excess=14.20 phase=5021 at_s=0.0300 conjugate=no sigma=412.0 clock_ppm=4.0
 
-carrier_hz is the carrier above the middle, excess its energy over the threshold, which noise alone reaches in one
-recording of a million, and phase the code phase at the time at_s. sigma is by how many standard deviations of noise it
-stands out where it was tracked, 12 or more, and clock_ppm by how many millionths the recording's clock is slow, to one.
-Round each centre frequency the carrier is searched 21 kHz to each side, in the spectrum as it is and then inverted. If
-no centre has a pilot there, 88 kHz to each side are searched, which meets a clock that is 110 millionths off at 800
-MHz. --search and --conjugate replace that. At most 100,000 centre frequencies and 2,000,000 carriers, in steps of 300
-Hz round each, are tried, which takes a processor some hours; what asks for more is refused.
+    carrier_hz  the carrier above the middle
+    excess      its energy over the threshold, which pure noise reaches in one recording of a million
+    phase       the code phase at the time at_s
+    sigma       standard deviations of noise by which it stands out where it was tracked, 12 or more
+    clock_ppm   slowness of the recording's clock in millionths, to one
 
---json writes one list of objects. With --cells K each pilot is locked to, and a table of up to K cells on its carrier
-is told too: PILOT_PN, Ec/Io, delay, carrier, messages, SID, NID and BASE_ID, as import_capture --cells has it.
+Around each centre frequency the carrier is searched 21 kHz to each side, in the spectrum as it is and then inverted. If
+no centre has a pilot there, 88 kHz to each side are searched, which allows for a clock error of 110 millionths at 800
+MHz. --search and --conjugate replace that. At most 100,000 centre frequencies and 2,000,000 carriers, in steps of 300
+Hz around each, are tried, which takes a processor some hours; larger requests are refused.
+
+--json writes one list of objects. --cells K also locks to each pilot, and prints a table of up to K cells on its
+carrier: PILOT_PN, Ec/Io, delay, carrier, messages, SID, NID and BASE_ID, as import_capture --cells does.
 
     tools/scan radio.sigmf-meta
     tools/scan --json --cells 3 radio.sigmf-meta
@@ -75,17 +78,17 @@ def parser() -> argparse.ArgumentParser:
         "--type",
         type=type_named,
         choices=TYPE_CHOICES,
-        help="how the samples are kept, auto: as their bytes look; not with a .sigmf-meta",
+        help="sample type, or auto to guess it from the bytes; not with a .sigmf-meta",
     )
     words.add_argument(
-        "--rate", type=rate_of, metavar="N", help="samples a second; with a .sigmf-meta where it tells none"
+        "--rate", type=rate_of, metavar="N", help="samples per second; with a .sigmf-meta if it has none"
     )
     words.add_argument(
         "--skip", type=count_of, default=0, metavar="N", help="leave out the recording's first N samples"
     )
     where = words.add_mutually_exclusive_group()
     where.add_argument(
-        "--step", type=number_within(1_000, MOST_HERTZ), metavar="HZ", help="between centre frequencies, else 1,250,000"
+        "--step", type=number_within(1_000, MOST_HERTZ), metavar="HZ", help="step between centre frequencies (default 1,250,000)"
     )
     where.add_argument("--all", action="store_true", help="every frequency in the width")
     add_capture_option(words)
@@ -94,16 +97,16 @@ def parser() -> argparse.ArgumentParser:
         "--cells",
         type=whole_within(1, MOST_RANK),
         metavar="K",
-        help="lock to each pilot, and tell a table of up to K cells on its carrier, as import_capture --cells does",
+        help="lock to each pilot, and print a table of up to K cells on its carrier, as import_capture --cells does",
     )
-    words.add_argument("--json", action="store_true", help="write one list of objects in place of lines")
+    words.add_argument("--json", action="store_true", help="write one list of objects instead of lines")
     add_program_option(words)
-    words.add_argument("--verbose", action="store_true", help="a line for the centres without a pilot too")
+    words.add_argument("--verbose", action="store_true", help="also print a line for each centre without a pilot")
     return words
 
 
 def text(seen: Seen, is_verbose: bool) -> str:
-    """The line of a centre; none where it has no pilot and none is asked for."""
+    """Returns the line of a centre, empty if it has no pilot and such lines aren't requested."""
     if seen.is_pilot:
         level = f"ec_io_db={seen.ec_io:.2f} " if seen.ec_io > -99 else ""
         return (
@@ -148,7 +151,7 @@ def write_all(options: argparse.Namespace, found: list[Seen], told: Told, lines:
 
 
 def fault_of(found: list[Seen], policy: SearchPolicy) -> str:
-    """Why no centre has a pilot; nothing where one has."""
+    """Returns why no centre has a pilot, empty if one has."""
     if any(seen.is_pilot for seen in found):
         return ""
     best, where = max(seen.excess for seen in found), f"at {len(found):,} centres, {policy.searched_round('each')}"
@@ -162,7 +165,7 @@ def fault_of(found: list[Seen], policy: SearchPolicy) -> str:
 
 
 def check_words(words: argparse.ArgumentParser, options: argparse.Namespace) -> None:
-    """Ends with status 2 where options don't go together."""
+    """Ends with status 2 if options don't go together."""
     if is_described(options.recording):
         if options.type:
             words.error("--type can't be given with a .sigmf-meta, a .sigmf or a .wav, which tells it")
@@ -171,7 +174,7 @@ def check_words(words: argparse.ArgumentParser, options: argparse.Namespace) -> 
 
 
 def policy_round(options: argparse.Namespace) -> SearchPolicy:
-    """The search round each centre: only the near step if the centres' own searches meet each other."""
+    """Returns the search around each centre: only the near step if the centres' own searches meet each other."""
     policy = policy_of(options)
     if options.search is None and (options.all or (options.step or RASTER) <= 2 * SPAN):
         return replace(policy, search=SPAN)
@@ -194,7 +197,7 @@ def centres_of(options: argparse.Namespace, rate: float, policy: SearchPolicy) -
 
 
 def main(arguments: list[str] | None = None) -> int:
-    """Runs the tool, and answers its exit status."""
+    """Runs the tool, and returns its exit status."""
     words = parser()
     options = words.parse_args(arguments)
     check_words(words, options)

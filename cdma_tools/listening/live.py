@@ -48,7 +48,7 @@ class LiveListening:
     """A listening to a stream, and what came and was lost of it."""
 
     def __init__(self, lock: LockOptions, handset: Handset, writer: LineWriter, is_appended: bool) -> None:
-        """Nothing has come yet; `is_appended` says that lines of another stream stand before those of this one."""
+        """Begins with nothing; `is_appended` says that lines of another stream come before those of this one."""
         self.listening, self.writer, self.is_appended = Listening(lock, handset, writer), writer, is_appended
         self.lost = 0  # samples
         self.is_stopped = False  # by an interrupt
@@ -98,7 +98,7 @@ class LiveListening:
             listening.say(listening.lock.seconds, item.text)
 
     def summary(self) -> str:
-        """What came of it, in words."""
+        """Returns a summary in words."""
         seconds, lines = self.listening.lock.seconds, self.writer.written
         return f"stopped after {seconds:,.1f} s: {lines:,} lines were written, {self.lost:,} samples were lost"
 
@@ -106,7 +106,7 @@ class LiveListening:
 def hear_stream(
     stream: Stream, lock: LockOptions, handset: Handset, writer: LineWriter, output: Output, is_appended: bool = False
 ) -> bool:
-    """Listens to a stream up to its end, or to an interrupt; answers whether a pilot was heard."""
+    """Listens to a stream up to its end, or to an interrupt; returns whether a pilot was found."""
     live = LiveListening(lock, handset, writer, is_appended)
     live.hear(stream, output)
     if live.is_stopped or live.lost:

@@ -143,7 +143,7 @@ def udp_items(source: LiveSource) -> Iterator[Item]:
 
 
 def zmq_items(source: LiveSource) -> Iterator[Item]:
-    """Messages of a PUB socket, as GNU Radio sends them: samples alone. Nothing first, once it is connected to."""
+    """Messages of a PUB socket, as GNU Radio sends them: only samples. Nothing first, once it is connected to."""
     try:
         import zmq  # Debian's python3-zmq, which only this source needs
     except ImportError as missing:

@@ -1,4 +1,4 @@
-"""Where a pilot stands out in a stream: the first one, or one that was lost."""
+"""Finds a pilot in a stream: the first one, or one that was lost."""
 
 import itertools
 import time as clock
@@ -47,14 +47,14 @@ NEIGHBORS = STEP * numpy.arange(-4, 5)
 
 @dataclass(frozen=True)
 class Start:
-    """Where a pilot was found in a stream, and the slope of its delay."""
+    """The place at which a pilot was found in a stream, and the slope of its delay."""
 
     found: Found
     clock: float
 
 
 def code_steps(phase: int, chip: int) -> int:
-    """The fewest chips that were lost where chip number `chip` is expected and the code has a phase."""
+    """Returns the fewest chips that were lost if chip number `chip` is expected and the code has a phase."""
     lost = (phase - chip) % PERIOD
     return lost - PERIOD if lost > PERIOD - ASTRAY else lost
 
@@ -184,7 +184,7 @@ class SearchTurns:
 
 
 class SearchNear:
-    """Tries to hear a lost pilot again near the carrier and the clock that it had, each at its own place."""
+    """Tries to receive a lost pilot again near the carrier and the clock that it had, each at its own place."""
 
     def __init__(self, front: StreamingFront, lost: Pursuit) -> None:
         """The search for a pilot that was followed and is lost."""

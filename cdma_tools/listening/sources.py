@@ -1,7 +1,7 @@
-"""Where samples come from: a file, standard input, or a server of samples with the protocol of rtl_tcp.
+"""Sources of samples: a file, standard input, or a server of samples with the protocol of rtl_tcp.
 
 A source that can't wait is read by a thread of its own into a backlog, so that a search doesn't make its writer lose
-samples. Where a server's backlog is full samples are left out, and that is told; a pipe's writer has to wait.
+samples. If a server's backlog is full samples are left out, and that is reported; a pipe's writer must wait.
 """
 
 import os
@@ -36,7 +36,7 @@ SERVER_TIMEOUT, RETRY = 10.0, 5.0
 
 @dataclass(frozen=True)
 class Skipped:
-    """So many samples that won't come, and why."""
+    """A number of samples that won't come, and the reason."""
 
     samples: int
     why: str
@@ -44,7 +44,7 @@ class Skipped:
 
 @dataclass(frozen=True)
 class Told:
-    """What a source says."""
+    """A message of a source."""
 
     text: str
 
@@ -93,7 +93,7 @@ class Server:
 
 
 def blocks_of_file(path: str, first: int, count: int, block: int) -> Iterator[bytes]:
-    """Bytes first to first + count - 1 of a file, some at a time; refuses where they can't be read."""
+    """Yields bytes first to first + count - 1 of a file, some at a time; raises Refused if they can't be read."""
     try:
         with open(path, "rb", buffering=0) as file:
             file.seek(first_byte(path) + first)
@@ -112,7 +112,7 @@ class Backlog:
     """Items that a thread has taken from a source, and that wait for the lock."""
 
     def __init__(self, most: int = BACKLOG_BYTES) -> None:
-        """Empty, with room for so many bytes."""
+        """An empty backlog, with space for `most` bytes."""
         self.most = most
         self.items: deque[Item | Refused | None] = deque()
         self.bytes = 0
@@ -121,11 +121,11 @@ class Backlog:
         self.is_ending = False  # whether only what has come so far is wanted
 
     def has_room(self, size: int) -> bool:
-        """Whether there is room for so many bytes more; things that are said need none."""
+        """Whether there is space for `size` more bytes; messages need none."""
         return not size or self.bytes + size <= self.most
 
     def put(self, item: Item | Refused | None, may_wait: bool = True) -> bool:
-        """Adds an item, None as the end; waits for room or, where it may not, answers False where there is none."""
+        """Adds an item, None as the end; waits for space or, if it may not, returns False."""
         size = len(item) if isinstance(item, bytes) else 0
         with self.changed:
             if self.is_ending:
@@ -153,7 +153,7 @@ class Backlog:
         return item
 
     def __iter__(self) -> Iterator[Item]:
-        """The items as they come; refuses where the source did."""
+        """Yields the items as they come; raises Refused if the source did."""
         while (item := self.get()) is not None:
             if isinstance(item, Refused):
                 raise item
@@ -179,10 +179,10 @@ def read_pipe(file: BinaryIO, backlog: Backlog) -> None:
 
 
 class ServerReader:
-    """Takes the samples of a server, and reaches it again where it goes away."""
+    """Takes the samples of a server, and connects again if it goes away."""
 
     def __init__(self, server: Server, backlog: Backlog) -> None:
-        """Reaches the server; refuses where there is none that speaks the protocol."""
+        """Connects to the server; raises Refused if none there speaks the protocol."""
         self.server, self.backlog = server, backlog
         self.received = self.lost = 0  # bytes of this connection, and those of the last ones that found no room
         self.since = 0.0  # when the last bytes came
@@ -226,7 +226,7 @@ class ServerReader:
         self.connection.close()
 
     def take(self, data: bytes) -> None:
-        """Adds bytes to the backlog; where that is full they are left out, and a whole sample is the next one taken."""
+        """Adds bytes to the backlog; if that is full they are left out, and the next one taken begins a sample."""
         self.since = time.monotonic()
         first = -self.received % self.server.sample_bytes if self.lost else 0
         self.received += len(data)
@@ -239,14 +239,14 @@ class ServerReader:
             self.lost += len(rest)
 
     def tell_lost(self, more: int = 0) -> None:
-        """Says what was left out, and so many bytes more of a sample that isn't whole."""
+        """Reports what was left out, and `more` bytes of an incomplete sample."""
         if self.lost:
             samples = -(-(self.lost + more) // self.server.sample_bytes)
             self.backlog.put(Skipped(samples, f"the lock fell behind {self.server.name}"))
             self.lost = 0
 
     def reach_again(self, why: str) -> None:
-        """Tries to reach the server until it is there again."""
+        """Tries to connect to the server until it is there again."""
         self.connection.close()
         self.tell_lost()
         self.backlog.put(Told(f"{self.server.name} is gone: {why}; it is tried again every {RETRY:.0f} s"))

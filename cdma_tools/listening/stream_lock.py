@@ -53,7 +53,7 @@ BLOCKS_BEFORE = 2
 
 @dataclass(frozen=True)
 class LockOptions:
-    """What a lock that streams is asked for."""
+    """Options of a lock that streams."""
 
     kind: str
     rate: float  # samples a second
@@ -71,7 +71,7 @@ class LockOptions:
 
 
 class State(Enum):
-    """What a lock is about."""
+    """What a lock is doing."""
 
     SEARCHING = auto()  # for any pilot
     SETTLING = auto()  # a pilot is followed, its instants aren't chosen yet
@@ -84,7 +84,7 @@ class StreamLock:
     """The lock of one stream."""
 
     def __init__(self, options: LockOptions) -> None:
-        """A lock that has heard nothing yet."""
+        """A lock that has received nothing yet."""
         self.options = options
         self.ring = Ring(options.kind, options.rate)
         # Points are taken without the inverse of the phase equaliser, whose delay would look like the clock's.
@@ -105,7 +105,7 @@ class StreamLock:
 
     @property
     def now(self) -> float:
-        """The nominal time up to which samples are there, in chips."""
+        """Returns the nominal time up to which samples have come, in chips."""
         return self.ring.count / self.front.ratio
 
     @property
@@ -120,17 +120,17 @@ class StreamLock:
         return timeline.time_of(timeline.last.chip), timeline.last.chip
 
     def feed(self, data: bytes) -> Iterator[Piece]:
-        """What comes out by some bytes; a tenth of a second or so of them is best."""
+        """Yields the pieces that some bytes bring; about a tenth of a second of them is best."""
         self.ring.add(data)
         yield from self.work(False)
 
     def finish(self) -> Iterator[Piece]:
-        """What is left at the stream's end."""
+        """Yields the pieces that are left at the stream's end."""
         yield from self.work(True)
         yield from self.let_out()
 
     def let_out(self) -> Iterator[Piece]:
-        """All chips that can be given by the samples that are there."""
+        """Yields all chips that the samples so far give."""
         if self.state == State.SETTLING and self.heard_enough(LEAST_POINTS):
             yield from self.settle()
         if self.state == State.FOLLOWING:
@@ -140,7 +140,7 @@ class StreamLock:
             yield from self.emit_before_loss(self.missing.lost, int(self.missing.lost.heard))
 
     def skip(self, count: int) -> Iterator[Piece]:
-        """Leaves out so many samples, which came and couldn't be kept; a pilot is searched anew after them."""
+        """Leaves out `count` samples, which came and couldn't be kept; a pilot is searched again after them."""
         yield from self.let_out()
         if self.state == State.FOLLOWING:
             self.miss()
@@ -151,7 +151,7 @@ class StreamLock:
         self.place = self.ring.count
 
     def work(self, is_end: bool) -> Iterator[Piece]:
-        """All steps for which the samples are there."""
+        """Does all steps for which the samples have come."""
         while True:
             if self.state == State.SEARCHING:
                 if not (yield from self.search(is_end)):
@@ -169,7 +169,7 @@ class StreamLock:
     # Searches
 
     def search(self, is_end: bool) -> Generator[Piece, None, bool]:
-        """Looks for a pilot in the next second of samples; False where more of them have to come first."""
+        """Looks for a pilot in the next second of samples; returns False if more of them must come first."""
         ratio = self.front.ratio
         count, there = int(WINDOW * ratio), self.ring.count - self.place
         if is_end and 2 * PERIOD * ratio < there < count:
@@ -195,7 +195,7 @@ class StreamLock:
         return True
 
     def pause(self, count: int) -> Iterator[Piece]:
-        """Says that no pilot stands out in so many samples from the place of the search on, and moves that on.
+        """Reports that no pilot stands out in `count` samples from the place of the search on, and moves that on.
 
         In a live stream it moves on by what came while it was searched, and in a file always by as much.
         """
@@ -208,7 +208,7 @@ class StreamLock:
         yield Unheard(begin / self.ring.rate, self.place / self.ring.rate)
 
     def search_near(self) -> Generator[Piece, None, bool]:
-        """Looks for the pilot that was lost at the next place; False where more samples have to come first."""
+        """Looks for the pilot that was lost at the next place; returns False if more samples must come first."""
         assert self.missing is not None
         if self.missing.needed() > self.now:
             return False
@@ -222,7 +222,7 @@ class StreamLock:
         return True
 
     def give_up(self) -> None:
-        """From here on the pilot is searched anew, at all carriers."""
+        """Searches the pilot again from here on, at all carriers."""
         assert self.missing is not None
         self.is_gone, self.state, self.pursuit = True, State.SEARCHING, None
         self.place = max(int(self.missing.place * self.front.ratio), self.ring.keep)
@@ -236,7 +236,7 @@ class StreamLock:
     # What follows a step
 
     def after_step(self) -> Iterator[Piece]:
-        """What the last points bring."""
+        """Yields what the last points bring."""
         assert self.pursuit is not None
         if self.state == State.SETTLING and self.pursuit.next - self.pursuit.found.phase >= SETTLE:
             yield from self.settle() if self.heard_enough(LEAST_POINTS) else self.drop_start()
@@ -253,11 +253,11 @@ class StreamLock:
             yield from self.extend()
 
     def heard_enough(self, least: int) -> bool:
-        """Whether the pilot was heard at so many points."""
+        """Whether the pilot was received at `least` points or more."""
         return self.pursuit is not None and sum(1 for point in self.pursuit.points if point.snr) >= least
 
     def drop_start(self) -> Iterator[Piece]:
-        """A pilot seemed to stand out, and couldn't be followed: it is searched further on."""
+        """Drops a pilot that seemed to stand out and couldn't be followed, and searches further on."""
         self.state, self.pursuit = State.SEARCHING, None
         yield from self.pause(int(WINDOW * self.front.ratio))
 
@@ -286,7 +286,7 @@ class StreamLock:
         self.state = State.FOLLOWING
 
     def resume(self, pursuit: Pursuit) -> Break:
-        """Renumbers a pilot that was found anew: its chips follow the old ones, by the clock and the code's phase."""
+        """Renumbers a pilot that was found again: its chips follow the old ones, by the clock and the code's phase."""
         assert self.missing is not None
         chip = self.missing.chip_at(pursuit.found.time)
         pursuit.renumber(chip + code_steps(pursuit.found.phase, chip) - pursuit.found.phase)
@@ -295,7 +295,7 @@ class StreamLock:
         return Break(self.out, pursuit.found.time / CHIP_RATE)
 
     def extend(self) -> Iterator[Piece]:
-        """Adds the nodes whose points are there, and gives the chips up to each."""
+        """Adds the nodes whose points have come, and yields the chips up to each."""
         pursuit = self.pursuit
         assert pursuit is not None and pursuit.timeline is not None and self.instants is not None
         last = pursuit.points[-1].chip - LOOK_AHEAD
@@ -314,7 +314,7 @@ class StreamLock:
     # Losses
 
     def join(self) -> Iterator[Piece]:
-        """After a loss: where the one timing ends and the other begins, and what was lost between."""
+        """After a loss: finds where the one timing ends and the other begins, and what was lost between."""
         assert self.missing is not None and self.pursuit is not None and self.has_equaliser is not None
         lost, new = self.missing.lost, self.pursuit
         assert lost.timeline is not None
@@ -339,7 +339,7 @@ class StreamLock:
     # Chips
 
     def emit_rest(self) -> Iterator[Piece]:
-        """The last chips of the stream, as far as their pulses are there and the pilot was heard."""
+        """Yields the last chips of the stream, as far as their pulses have come and the pilot was received."""
         pursuit = self.pursuit
         assert pursuit is not None and pursuit.timeline is not None
         last = pursuit.points[-1].chip

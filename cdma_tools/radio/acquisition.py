@@ -44,7 +44,7 @@ FINE_CHIPS, FINE_BINS, FINE_SPAN = 64, 4_096, 1.5 * STEP * BIN
 
 
 class Found(NamedTuple):
-    """What acquisition tells: at nominal time `time` the code has phase `phase`, and the carrier lies at `hertz`."""
+    """Result of acquisition: at nominal time `time` the code has phase `phase`, and the carrier lies at `hertz`."""
 
     time: float
     phase: int
@@ -54,7 +54,7 @@ class Found(NamedTuple):
 
 
 class Best(NamedTuple):
-    """The strongest cell: its bin of 37.5 Hz, how many chips it comes late (0 or 1/2), its phase, its excess."""
+    """The strongest cell: its bin of 37.5 Hz, its lateness in chips (0 or 1/2), its phase, its excess."""
 
     bin: int
     late: float
@@ -63,14 +63,16 @@ class Best(NamedTuple):
 
 
 def bins_within(span: float, beyond: float = 0.0) -> NDArray[numpy.int64]:
-    """The bins of a search of `span` Hz to each side, in steps, round 0; without those of a search of `beyond` Hz."""
+    """Returns the bins of a search of `span` Hz to each side, in steps, around 0; without those of a search of `beyond`
+    Hz."""
     most = int(numpy.ceil(span / BIN / STEP))
     steps = numpy.arange(-most, most + 1)
     return STEP * (steps[numpy.abs(steps) > numpy.ceil(beyond / BIN / STEP)] if beyond else steps)
 
 
 def least_energy(cells: float, stretches: int) -> float:
-    """The energy over the mean of one stretch's noise that noise alone reaches in `cells` cells once in a million.
+    """Returns the energy over the mean of one stretch's noise that pure noise reaches in `cells` cells once in a
+    million.
 
     The energy of noise in a sum of stretches has the Gamma distribution with as many degrees.
     """
@@ -132,9 +134,9 @@ def add_energies(
 
 
 def strongest(stretch: Callable[[int], NDArray[numpy.complex64]], bins: NDArray[numpy.int64], tries: int) -> Best:
-    """The strongest cell of the energies of stretches, which `stretch(k)` gives as two samples a chip.
+    """Returns the strongest cell of the energies of stretches, which `stretch(k)` gives as two samples per chip.
 
-    It goes on until a cell stands out of noise in so many tries of as many cells, and at most to four stretches.
+    It continues until a cell stands out of noise in `tries` tries with this number of cells, up to four stretches.
     """
     energies = numpy.zeros((len(bins), 2, PERIOD), dtype=numpy.float32)
     best = Best(0, 0.0, 0, 0.0)
@@ -174,9 +176,9 @@ def limited(chips: NDArray[numpy.complex64]) -> NDArray[numpy.complex64]:
 def looks(
     front: Front, span: float, is_conjugate: tuple[bool, ...], parts: tuple[float, ...], beyond: float = 0.0
 ) -> Iterator[Found]:
-    """The strongest cell at each place, of the recording and of its conjugate, one after the other.
+    """Yields the strongest cell at each place, of the recording and of its conjugate in turn.
 
-    The conjugate of the samples is looked at where the code is met turned round: so both share the front's work.
+    The conjugate of the samples is searched with the code turned round, so both share the front's work.
     """
     bins = bins_within(span, beyond)
     bands = numpy.array_split(bins, -(-len(bins) // MOST_BINS))

@@ -47,7 +47,7 @@ class Options(NamedTuple):
 
     @property
     def policy(self) -> SearchPolicy:
-        """Where the pilot is searched."""
+        """Returns the search for the pilot."""
         return SearchPolicy(self.search, self.conjugate)
 
 
@@ -262,9 +262,9 @@ def lock(
     tell: Callable[[float, str], None] = lambda part, text: None,
     look: Callable[[Held, Locked], None] = lambda held, locked: None,
 ) -> Locked:
-    """Writes a sample file of the strongest pilot of a recording, and answers what was found.
+    """Writes a sample file of the strongest pilot of a recording, and returns the result.
 
-    `tell` is told what part of the work is done, and its name; `look` gets the lock while its samples are still open.
+    `tell` gets the part of the work that is done, and its name; `look` gets the lock while its samples are still open.
     Refuses a recording without a pilot.
     """
     held = hold(path, options, tell)

@@ -54,7 +54,7 @@ def everywhere(rate: float, search: float) -> list[float]:
 
 
 def level_of(pilot: Pilot) -> float:
-    """Ec/Io in dB of a pilot that was confirmed, over the half second beside the place, along the line found there."""
+    """Returns Ec/Io in dB of a confirmed pilot, over the half second near the place, along the line found there."""
     front, found, sure = pilot
     meter, rest = PilotMeter(1 - emptied(front)), found.hertz - front.carrier
     for part in parts_beside(front, found, LEVEL_SEGMENTS):
@@ -66,7 +66,7 @@ def level_of(pilot: Pilot) -> float:
 
 
 def look(front: Front, centre: float, step: Step) -> Seen:
-    """What one centre shows in a step of the search."""
+    """Returns what one centre shows in a step of the search."""
     front.set_carrier(centre)
     parts = PARTS if step.is_near else PARTS[:1]
     pilot = first_pilot(front, step.span, step.spectra, parts, step.beyond)
@@ -82,10 +82,10 @@ def look(front: Front, centre: float, step: Step) -> Seen:
 def scan(
     front: Front, centres: list[float], steps: list[Step], tell: Callable[[int], None] = lambda count: None
 ) -> list[Seen]:
-    """What each centre shows in the first step of a search in which a pilot is found, in their order.
+    """Returns what each centre shows in the first step of a search in which a pilot is found, in their order.
 
-    If none is found it is what comes nearest to a pilot at each centre. A pilot that two neighbours see is kept where
-    it stands out further.
+    If none is found it is what comes nearest to a pilot at each centre. A pilot that two neighbors see is kept where it
+    stands out further.
     """
     best: list[Seen] = []
     for step in steps:
@@ -100,7 +100,7 @@ def scan(
 
 
 def without_twins(seen: list[Seen]) -> list[Seen]:
-    """What centres show, but for a pilot that a neighbour sees too, by a greater excess."""
+    """Returns what centres show, without a pilot that a neighbor sees too, with a greater excess."""
     out: list[Seen] = []
     for one in seen:
         if out and one.is_pilot and out[-1].is_pilot and abs(one.carrier - out[-1].carrier) < SAME:

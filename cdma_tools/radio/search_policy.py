@@ -88,12 +88,12 @@ class SearchPolicy:
         return [near] + [band for step in further for band in bands(step)]
 
     def searched(self, shift: float = 0.0) -> str:
-        """Names the span round the middle, or round a carrier `shift` Hz above it, and the spectra, for a refusal."""
+        """Names the span around the middle, or around a carrier `shift` Hz above it, and the spectra, for a refusal."""
         middle = f"{shift:,.0f} Hz" if shift else "the middle"
         return self.searched_round(middle)
 
     def searched_round(self, middle: str) -> str:
-        """The same round a carrier of this name."""
+        """Names the same around a carrier of this name."""
         return f"within {self.span:,.0f} Hz of {middle} in {SPECTRA[self.spectra]}"
 
     @property

@@ -20,7 +20,7 @@ ZEROS = 1 << 16
 
 
 class Piece(NamedTuple):
-    """Chips first to behind - 1, by one fit."""
+    """Chips from `first` to before `behind`, by one fit."""
 
     fit: Fit
     first: int
@@ -65,7 +65,7 @@ def chips_of(front: Front, piece: Piece, delay: float = 0.0) -> Iterator[tuple[i
 
 
 def whole_parts(chips: NDArray[numpy.complex64], scale: float, version: int) -> tuple[NDArray[numpy.int16], int]:
-    """The parts, i and q in turn, as a sample file keeps them, and how many were cut at the ends of the range."""
+    """Returns the parts, i and q in turn, as a sample file stores them, and the number cut at the ends of the range."""
     parts = numpy.rint(numpy.ascontiguousarray(chips).view(numpy.float32) * numpy.float32(scale))
     top = GREATEST[version]
     cut = 0
@@ -84,7 +84,7 @@ def write_chips(
     version: int,
     tell: Callable[[float], None],
 ) -> Written:
-    """Writes `count` chips of pieces, with zeros between them where chips were lost; `tell` gets the part that is done."""
+    """Writes `count` chips of pieces, with zeros between them for lost chips; `tell` gets the part that is done."""
     meter, cut, lost = PilotMeter(1 - emptied(front)), 0, 0
     begin = chip = pieces[0].first
     end = begin + count

@@ -1,13 +1,13 @@
 """The pilot's Ec/Io: its part of all power on the air, from the chips that the matched filter leaves.
 
-The filter changes both powers. The pulse isn't free of interference between chips, so a chip holds parts of its
-neighbours (`analysis.pulse`): the power of the chips is I = N + (1 + q) S, with the noise N, the power S of all that is
+The filter changes both powers. The pulse isn't free of interference between chips, so a chip contains parts of its
+neighbors (`analysis.pulse`). The power of the chips is I = N + (1 + q) S, with the noise N, the power S of all that is
 sent with the pulse, and q = 2.27 % for the pulse's sides. On the air it is N + S. The front empties the bin of direct
 current, which leaves k of I, and k^2 of what correlates with the code. So for a pilot P in chips of power I
 
     Ec/Io = P / (k I - q S).
 
-S is told apart from the noise by what chips have in common with those some chips later: the noise came through the
+The correlation of chips with later ones separates S from the noise: the noise came through the
 filter once and has the pulse's own correlation R(m), what is sent came through it twice and has sum_k R(k) R(k + m).
 """
 

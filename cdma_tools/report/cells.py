@@ -1,4 +1,4 @@
-"""What a report shows of each cell that was heard in a recording, and who names whom as a neighbor."""
+"""What a report shows of each cell found in a recording, and which cells name each other as neighbors."""
 
 import math
 import os
@@ -48,7 +48,7 @@ class HeardCell(NamedTuple):
 
     @property
     def pn(self) -> int | None:
-        """PILOT_PN as its sync messages tell it."""
+        """Returns PILOT_PN in its sync messages."""
         return self.facts.pn
 
     @property
@@ -59,14 +59,14 @@ class HeardCell(NamedTuple):
 
     @property
     def name(self) -> str:
-        """How it is called."""
+        """Returns its name on the page."""
         return f"cell {self.rank}" if self.pn is None else f"PN {self.pn}"
 
 
 def gather_cells(
     path: str, options: Options, count: int, program: str, words: dict[str, str], folder: str, first: Held | None
 ) -> list[HeardCell]:
-    """Up to so many cells of a recording, strongest first; `words` are the arguments of follow.
+    """Returns up to `count` cells of a recording, strongest first; `words` are the arguments of follow.
 
     `first` is the lock to the strongest one, if it was made already.
     """
@@ -94,7 +94,7 @@ def gather_cells(
 
 
 def number_text(value: float | int | None, form: str = "") -> str:
-    """A number of the table of cells; a word if no message told it."""
+    """Returns a number of the table of cells, or a word if no message has it."""
     return "not heard" if value is None else format(value, form)
 
 
@@ -124,7 +124,7 @@ def table_of_facts(cells: list[HeardCell]) -> Markup:
 
 
 def cell_table(cell: HeardCell) -> Markup:
-    """What is known of a cell's signal."""
+    """Returns what is known of a cell's signal."""
     locked = cell.locked
     paths = ", ".join(f"{way.delay:.2f} chips {way.level:.1f} dB" for way in locked.paths)
     rows: list[tuple[str, ...]] = [
@@ -182,7 +182,8 @@ def add_arrow(figure: graph_objects.Figure, places: Places, pn: int, other: int,
 
 
 def map_plot(cells: list[HeardCell]) -> Plot | None:
-    """The cells that were heard and those that they name, on a circle, with an arrow from each to those it names."""
+    """Returns the cells that were found and those that they name, on a circle, with an arrow from each to those it
+    names."""
     heard = {cell.pn: cell for cell in cells if cell.pn is not None}
     if not any(cell.neighbors for cell in heard.values()):
         return None
@@ -209,7 +210,7 @@ def map_plot(cells: list[HeardCell]) -> Plot | None:
 
 
 def addition_of(cells: list[HeardCell]) -> Addition:
-    """What the page gets: a section for each cell, who names whom, and the map."""
+    """Returns what the page gets: a section for each cell, the neighbors that each names, and the map."""
     table = section("Cells", table_of_facts(cells), name="cells")
     heading = section("Who names whom", neighbor_table(cells), name="named")
     links = [("cells", "Cells"), ("named", "Neighbors of all")]
@@ -219,5 +220,5 @@ def addition_of(cells: list[HeardCell]) -> Addition:
 
 
 def addition_why(why: Refused) -> Addition:
-    """What the page gets where no cell can be taken off: the reason."""
+    """Returns what the page gets if no cell can be subtracted: the reason."""
     return Addition([("named", "Neighbors of all")], section("Cells", element("p", str(why)), name="named"), [])

@@ -1,8 +1,8 @@
-"""The page of a report: one HTML file that stands alone.
+"""The page of a report: one self-contained HTML file.
 
-Plotly's script stands in it compressed, which the browser unpacks. The page's policy lets just its two scripts run, by
-their checksums, and nothing be fetched. A recording's text is joined with markup by `PageMarkup` alone, which
-leaves no markup in it.
+It contains Plotly's script compressed, which the browser unpacks. The page's policy allows only its two scripts, by
+their checksums, and no fetching. A recording's text is joined with markup only by `PageMarkup`, which leaves no markup
+in it.
 """
 
 import base64
@@ -63,7 +63,8 @@ class PageMarkup(Markup):
 
 
 class Addition(NamedTuple):
-    """More that a page has: the names of its parts with what their links say, their markup, plots, and its cells."""
+    """Further content of a page: the names of its parts with the texts of their links, their markup, plots, and its
+    cells."""
 
     links: list[tuple[str, str]] = []
     markup: Markup = Markup("")
@@ -72,7 +73,7 @@ class Addition(NamedTuple):
 
 
 class Table(NamedTuple):
-    """A table: its heads, none where it has none, and its rows; cells of which a head begins with # are numbers."""
+    """A table: its heads, which may be missing, and its rows; cells below a head that begins with # are numbers."""
 
     heads: tuple[str, ...]
     rows: Sequence[tuple[str, ...]]
@@ -135,7 +136,7 @@ def seconds_at(read: dict[str, Any]) -> str:
 
 
 def problems(gathered: Gathered, measured: Measured) -> list[str]:
-    """What isn't as it should be, in sentences."""
+    """Returns what isn't as it should be, in sentences."""
     said = []
     imported, follow = gathered.imported, gathered.follow
     if imported and imported.status:
@@ -181,7 +182,7 @@ def grouped(number: str) -> str:
 
 
 def kind_of(gathered: Gathered, measured: Measured) -> str:
-    """What a file is."""
+    """Returns the kind of a file."""
     if gathered.imported:
         return f"recording, imported with {' '.join(gathered.imported.words)}"
     if not measured.version:
@@ -190,7 +191,7 @@ def kind_of(gathered: Gathered, measured: Measured) -> str:
 
 
 def recording_card(gathered: Gathered, measured: Measured, notes: dict[str, str]) -> Markup:
-    """What the recording is."""
+    """Returns the card on the recording."""
     rows = [("File", gathered.name), ("Kind", kind_of(gathered, measured))]
     if told := notes.get("core:sample_rate"):
         rows.append(
@@ -232,7 +233,7 @@ def ec_io_told(gathered: Gathered, made: Waveform) -> list[tuple[str, str]]:
 
 
 def signal_card(gathered: Gathered, measured: Measured, made: Waveform) -> Markup:
-    """How strong the signal is, and what is left of carrier and clock."""
+    """Returns the card on the signal: its strength, and what is left of carrier and clock."""
     rows = level_told(measured) + ec_io_told(gathered, made)
     if pilots := gathered.find.reads("pilot"):
         rows.append(("Best phase", f"{pilots[0][1]['phase']:,} of 32,768"))
@@ -248,7 +249,7 @@ def signal_card(gathered: Gathered, measured: Measured, made: Waveform) -> Marku
 
 
 def found_card(gathered: Gathered) -> Markup:
-    """What the import found, by its own names."""
+    """Returns the card on the result of the import, by its own names."""
     if not gathered.imported:
         return Markup("")
     rows = []
@@ -262,13 +263,13 @@ def found_card(gathered: Gathered) -> Markup:
 
 
 def waveform_card(made: Waveform) -> Markup:
-    """How well the cell sends, and what the radio adds."""
+    """Returns the card on the waveform: how well the cell sends, and what the radio adds."""
     rows = waveform_rows(made)
     return section("Waveform", table_of(Table((), rows)), level="h3") if rows else Markup("")
 
 
 def station_card(gathered: Gathered) -> Markup:
-    """Whom the handset heard."""
+    """Returns the card on the base station that the handset received."""
     rows: list[tuple[str, str]] = []
     if found := last_of(gathered.follow, "sync", None):
         first = found[2][0]
@@ -285,7 +286,7 @@ def station_card(gathered: Gathered) -> Markup:
 
 
 def heard_card(run: Run) -> Markup:
-    """How many messages and frames were heard."""
+    """Returns the card on the numbers of messages and frames."""
     told: list[tuple[str, list[int]]] = [
         (name, [one.at for one in run.lanes[name]]) for name in LANES if name in run.lanes
     ]
@@ -334,7 +335,7 @@ def last_section(gathered: Gathered, heading: str, name: str, word: str) -> Mark
 def neighbor_section(
     gathered: Gathered, measured: Measured, surveyed: Sequence[Surveyed], cells: Sequence[CellFacts]
 ) -> Markup:
-    """The neighbors of the last list, with what was heard of them, or what the survey found."""
+    """Returns the neighbors of the last list, with what was received of them, or what the survey found."""
     found = last_of(gathered.follow, "paging", "neighbors")
     if not found:
         return Markup("")
@@ -352,7 +353,7 @@ def neighbor_section(
 
 
 def cell_told(cell: CellFacts) -> str:
-    """A neighbor that was heard as a cell of its own."""
+    """Returns the description of a neighbor that was found as a cell of its own."""
     return f"heard as cell {cell.rank}: {cell.ec_io_db:.2f} dB, {cell.delay_chips or 0.0:+.1f} chips"
 
 
@@ -376,7 +377,7 @@ def channel_section(gathered: Gathered) -> Markup:
 
 
 def notes_section(notes: dict[str, str]) -> Markup:
-    """What a recording says of itself."""
+    """Returns what a recording says of itself."""
     if not notes:
         return Markup("")
     rows = [(name[:MOST_TEXT], value[:MOST_TEXT]) for name, value in notes.items()]
@@ -401,7 +402,7 @@ def lines_section(gathered: Gathered) -> Markup:
 
 
 def script_text(thing: Any) -> str:
-    """JSON that can't end the script in which it stands."""
+    """Returns JSON that can't end the script that contains it."""
     text = json.dumps(thing, separators=(",", ":"), allow_nan=False)
     return text.replace("&", "\\u0026").replace("<", "\\u003c").replace(">", "\\u003e")
 
@@ -418,7 +419,7 @@ def packed(script: str) -> str:
 
 
 def asset(name: str) -> str:
-    """A file beside this one."""
+    """Returns a file next to this one."""
     with open(os.path.join(HERE, name), encoding="utf-8") as file:
         return file.read()
 
@@ -449,7 +450,7 @@ def plots_part(plots: list[Plot]) -> Markup:
 
 
 def links_of(plots: list[Plot], tables: dict[str, Markup], more: Addition) -> list[tuple[str, str]]:
-    """The names of the page's parts that are there, and what their links say."""
+    """Returns the names of the page's parts, and the texts of their links."""
     named = [(f"{plot.name}-part", PLOT_NAMES[plot.name]) for plot in plots]
     tabled = [(name, told) for name, told in TABLE_NAMES if tables[name]]
     return [("summary", "Summary"), *named, *tabled, *more.links, ("lines", "Lines")]
@@ -475,7 +476,7 @@ def message_tables(
     surveyed: Sequence[Surveyed] = (),
     cells: Sequence[CellFacts] = (),
 ) -> dict[str, Markup]:
-    """The tables of messages that tell of the system, by their names in TABLE_NAMES; empty where none was heard."""
+    """Returns the tables of system messages, by their names in TABLE_NAMES; empty if none was received."""
     return {
         "sync": sync_section(gathered),
         "system": last_section(gathered, "System Parameters", "system", "system"),
@@ -493,7 +494,7 @@ def tables_part(tables: dict[str, Markup]) -> Markup:
 
 
 def heard_at(gathered: Gathered) -> str:
-    """When the first sync message was heard, after a comma; empty where none was."""
+    """Returns the time of the first sync message, after a comma; empty if there was none."""
     found = last_of(gathered.follow, "sync", None)
     if not found:
         return ""
@@ -510,7 +511,7 @@ def body_of(
     made: Waveform,
     more: Addition,
 ) -> Markup:
-    """What the page shows."""
+    """Returns the content of the page."""
     run = Run(gathered.follow.reads("sync", "paging", "frame", "traffic", "sets"))
     cards = [
         recording_card(gathered, measured, notes),
@@ -541,7 +542,8 @@ def page_of(
     made: Waveform = Waveform(),
     more: Addition = Addition(),
 ) -> str:
-    """The whole page; `notes` are what a recording says of itself, by name, and `made` what was measured of it."""
+    """Returns the complete page; `notes` are what a recording says of itself, by name, and `made` what was measured of
+    it."""
     has_offset = bool(gathered.follow.reads("sync"))
     surveyed = pilots_of(gathered, measured, more.cells)
     plots = plots_of(gathered, measured, surveyed, has_offset) + waveform_plots(made) + more.plots

@@ -164,7 +164,7 @@ def survey_plot(pilots: list[Surveyed], measured: Measured, has_offset: bool) ->
 
 
 def span_text(measured: Measured) -> str:
-    """How long the samples of a search last."""
+    """Returns the length of the samples of a search."""
     return f"{measured.span:,} samples ({1_000 * measured.span / CHIP_RATE:.1f} ms)"
 
 

@@ -52,7 +52,7 @@ def last(ran: Ran, message: str) -> dict[str, Any] | None:
 
 
 def heard_of(gathered: Gathered, cells: Sequence[CellFacts]) -> Heard:
-    """What the messages of the strongest cell, and the table of cells, tell of the pilots around."""
+    """Returns what the messages of the strongest cell, and the table of cells, say of the pilots around."""
     syncs = gathered.follow.reads("sync")
     system, neighbors = last(gathered.follow, "system"), last(gathered.follow, "neighbors")
     widths = [WINDOW_CHIPS[system[f"win{name}"]] if system else DEFAULT_WINDOW for name in "anr"]
@@ -69,7 +69,7 @@ def heard_of(gathered: Gathered, cells: Sequence[CellFacts]) -> Heard:
 
 
 def rank_of(pn: int, late: int, heard: Heard) -> int | None:
-    """How likely a pilot is that of an offset, 0 for the most; None if it can't be."""
+    """Returns how likely a pilot is that of an offset, 0 for the most; None if it can't be."""
     if pn in heard.cells:
         return 0 if abs(late - heard.cells[pn]) <= SURE else None
     if pn == heard.serving:
@@ -95,9 +95,9 @@ def explained(pilot: Surveyed, heard: Heard) -> Surveyed:
 
 
 def explained_pilots(pilots: list[Surveyed], floor: float, heard: Heard) -> list[Surveyed]:
-    """The pilots of a survey, strongest first, each offset once: those above the floor where they are likely.
+    """Returns the pilots of a survey, strongest first, each offset once: those above the floor at likely offsets.
 
-    If no sync message tells the offsets, they stay as they are.
+    If no sync message has the offsets, they stay as they are.
     """
     if heard.serving is None:
         return pilots

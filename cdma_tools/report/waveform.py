@@ -69,7 +69,7 @@ def carrier_of(gathered: Gathered) -> float | None:
 def waveform_of(
     gathered: Gathered, file: str, phase: int | None, raw: Raw | None, seen: SeenLock | None = None
 ) -> Waveform:
-    """What a sample file and, where it comes of one, a recording show; what can't be measured is left out.
+    """Returns what a sample file, and the recording from which it comes, show; what can't be measured is left out.
 
     `seen` is what an import's lock showed.
     """

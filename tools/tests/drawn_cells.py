@@ -38,7 +38,7 @@ class DrawnCell:
         return self.pilot**2 + self.sync**2 + self.paging**2 + self.traffic**2
 
     def script(self, samples: int) -> str:
-        """Its script for so many samples, with pages that repeat."""
+        """Its script for `samples` samples, with pages that repeat."""
         draws = random.Random(self.seed)
         count = samples // 24_576 + 2
         frames = [f"frame 9600 172:{draws.randrange(1 << 171) << 4:044x} {'01' * 8}" for _ in range(count)]

@@ -214,7 +214,7 @@ class Compared:
 def compared(sent: Sent, lines: list[str], count: int) -> Compared:
     """Compares lines with what a cell of `chips` chips sends from the first sync message received on.
 
-    The chips of the two differ by one constant, which the first sync message tells; what is owed ends with the last
+    The chips of the two differ by one constant, which the first sync message tells; the expected lines end with the last
     line.
     """
     heard = []

@@ -27,18 +27,7 @@ from tools.tests.prose import (
 needs("numpy", "scipy", "matplotlib", "plotly", "tqdm", "distributed", "markupsafe")
 
 # Folders whose docstrings are held.
-FOLDERS = (
-    "cdma_tools/adapting",
-    "cdma_tools/conformance",
-    "cdma_tools/curves",
-    "cdma_tools/explaining",
-    "cdma_tools/packaging",
-    "cdma_tools/peers",
-    "cdma_tools/repository",
-    "model",
-)
-# Commands whose help and docstrings are not held yet.
-PENDING = ("domain", "import_capture", "listen", "report", "scan")
+FOLDERS = ("cdma_tools", "model")
 # Where a pattern is right. Each exception is needed, or a test fails.
 ALLOWED: tuple[Allowed, ...] = ()
 # Sentences that read as if translated word by word, as pages and docstrings had them; none may come back.
@@ -217,12 +206,6 @@ def modules_below(folder: str) -> Iterator[str]:
                 yield os.path.relpath(os.path.join(path, name), ROOT)
 
 
-def commands_held() -> list[str]:
-    """Returns the names of the commands whose help is held."""
-    names = [it.name for it in pkgutil.iter_modules(cdma_tools.commands.__path__)]
-    return [name for name in names if name not in PENDING]
-
-
 class Style(unittest.TestCase):
     """Every text that is held."""
 
@@ -237,16 +220,15 @@ class Style(unittest.TestCase):
             for place in modules_below(folder):
                 with self.subTest(place):
                     self.assertEqual(list(faults(sentences_in(place), ALLOWED, used)), [])
-        for command in commands_held():
-            with self.subTest(command):
-                found = help_sentences(command, parser_of(command))
+        for command in pkgutil.iter_modules(cdma_tools.commands.__path__):
+            with self.subTest(command.name):
+                found = help_sentences(command.name, parser_of(command.name))
                 self.assertEqual(list(faults(found, ALLOWED, used)), [])
         self.assertEqual(set(ALLOWED) - used, set())
 
     def test_old_sentences_are_gone(self) -> None:
         """From pages, and from everything in modules."""
-        places = [*PAGES, *(place for folder in FOLDERS for place in modules_below(folder))]
-        for place in [*places, *(f"cdma_tools/commands/{name}.py" for name in commands_held())]:
+        for place in [*PAGES, *(place for folder in FOLDERS for place in modules_below(folder))]:
             with open(os.path.join(ROOT, place), encoding="utf-8") as file:
                 text = re.sub(r"[\s#]+", " ", file.read().replace("`", "")).casefold()
             for sentence in GONE:
