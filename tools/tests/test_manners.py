@@ -535,7 +535,7 @@ class Random(unittest.TestCase):
     def test_random_runs(self) -> None:
         status, wrote, said = run_tool("hostile", "--tools", "--count", 100, "--seed", 3)
         self.assertEqual((status, said), (0, ""), wrote.decode())
-        self.assertTrue(wrote.endswith(b"100 runs of tools, 0 faults\n"))
+        self.assertTrue(wrote.endswith(b"100 runs of tools, seed 3, 0 faults\n"))
 
     def test_a_fault_is_told(self) -> None:
         """A tool that ends with a traceback, a warning, several lines or another status is seen."""

@@ -44,6 +44,8 @@ from cdma_tools.listening.searching import SLICE_BINS, LiveSearch
 from cdma_tools.listening.stream_lock import LockOptions, StreamLock
 from cdma_tools.radio.acquisition import bins_within
 
+# Where the pilot of the recording lies: the first slice of a live search finds it, however busy the machine is.
+NEAR = ["--shift", "3000", "--conjugate", "no"]
 KILLS = int(os.environ.get("CDMA_LISTEN_KILLS", "4"))
 HOURS, PIECE_SECONDS = 24, 4
 PERIOD, RATE = 32_768, 1_228_800.0
@@ -88,7 +90,7 @@ class StreamTest(test_listen.OneRecording):
 
     def start(self, *words: str) -> subprocess.Popen[bytes]:
         """A listening to standard input that hears interrupts."""
-        command = [*TOOL, *STREAM, *HANDSET, "-", *words]
+        command = [*TOOL, *STREAM, *NEAR, *HANDSET, "-", *words]
         pipe = subprocess.PIPE
         run = subprocess.Popen(
             command, stdin=pipe, stdout=pipe, stderr=pipe, env=ENVIRONMENT, preexec_fn=test_listen.hear_interrupts
@@ -106,7 +108,7 @@ class StreamTest(test_listen.OneRecording):
 
     def whole(self, data: bytes, *words: str) -> bytes:
         """What is heard of a stream that ends by itself."""
-        status, lines, said = test_listen.listen(*STREAM, *HANDSET, "-", *words, data=data)
+        status, lines, said = test_listen.listen(*STREAM, *NEAR, *HANDSET, "-", *words, data=data)
         self.assertEqual((status, said), (0, ""))
         return lines
 
