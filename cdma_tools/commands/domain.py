@@ -4,8 +4,8 @@ FILE_OR_RECORDING is a sample file, or a recording of a radio: a .sigmf-meta, or
 --rate. In a recording the strongest pilot is locked to first, as tools/import_capture --lock does. The first line has
 figures of the whole; "recording" and "file" mark those of only one kind of input:
 
-    rho              share of all power in the rows in use, without the interference of the pulse's own sides, at most 1;
-                     over several paths, the share that would go without the cell: 1 - left / all
+    rho              share of all power in the rows in use, without the interference of the pulse's own sides, at most
+                     1; over several paths, the share that would go without the cell: 1 - left / all
     rho_spread       standard deviation of rho, from parts of the chips
     rho_by           moments of the chips, or paths: of the pilot over several paths too, also if they have one peak
     pilot_share      share of all power in the pilot, on the strongest path
@@ -17,8 +17,8 @@ figures of the whole; "recording" and "file" mark those of only one kind of inpu
     chips, seconds   amount measured
     carrier_hz       recording: carrier above the middle, half way, in Hz
     clock_ppm        recording: slowness of the radio's clock relative to the base station's, in millionths
-    time_chips       recording: begin of the period of the code nearest to its middle, in chips of 1 / 1,228,800 s by the
-                     radio's clock
+    time_chips       recording: begin of the period of the code nearest to its middle, in chips of 1 / 1,228,800 s by
+                     the radio's clock
     paths            recording: delays in chips, each with its level in dB below the strongest
     carrier_left     file: carrier that is left in it, in Hz
     time_left        file: delay of the pilot after the instants at which chips were taken, in chips

@@ -120,7 +120,7 @@ def add_lock_words(words: argparse.ArgumentParser) -> None:
     lock = words.add_argument_group("with --lock")
     lock.add_argument("--lock", action="store_true", help="find the strongest pilot, its carrier and its clock")
     lock.add_argument(
-        "--fingers", type=int, choices=(1, 2, 3), help="number of paths that the receiver follows (default 1): the chips are taken"
+        "--fingers", type=int, choices=(1, 2, 3), help="number of paths that the receiver follows (default 1): chips are taken"
         " where that number of fingers, whole chips apart, have the most energy"
     )  # fmt: skip
     add_search_options(lock)
@@ -148,8 +148,8 @@ def add_check_words(words: argparse.ArgumentParser) -> None:
         "--complement-16", action="store_true", help="the 16-bit checks of messages are sent complemented"
     )
     words.add_argument(
-        "--checks", choices=("auto",), help="auto: the program follows the file with plain and with complemented 30-bit checks,"
-        " and the way that more messages pass is taken"
+        "--checks", choices=("auto",), help="auto: the program follows the file with plain and with complemented 30-bit"
+        " checks, and the way that more messages pass is taken"
     )  # fmt: skip
     add_program_option(words)
 

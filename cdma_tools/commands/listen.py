@@ -159,7 +159,7 @@ def parser() -> Parser:
     where = shared.add_mutually_exclusive_group()
     many = "number of processes of this machine (default 1)"
     where.add_argument("--workers", type=whole_within(1, MOST_WORKERS), default=1, metavar="N", help=many)
-    where.add_argument("--scheduler", metavar="ADDRESS", help="scheduler of dask.distributed, for example tcp://HOST:8786")
+    where.add_argument("--scheduler", metavar="ADDRESS", help="scheduler of dask.distributed, as tcp://HOST:8786")
     return words
 
 

@@ -88,7 +88,7 @@ def parser() -> argparse.ArgumentParser:
     )
     where = words.add_mutually_exclusive_group()
     where.add_argument(
-        "--step", type=number_within(1_000, MOST_HERTZ), metavar="HZ", help="step between centre frequencies (default 1,250,000)"
+        "--step", type=number_within(1_000, MOST_HERTZ), metavar="HZ", help="step of centre frequencies (default 1,250,000)"
     )
     where.add_argument("--all", action="store_true", help="every frequency in the width")
     add_capture_option(words)
