@@ -1,4 +1,4 @@
-"""Turns the program's lines into JSON, one object per line, and back into exactly the same lines, or into a CSV table.
+"""Turns the program's lines into JSON, one object per line, and back into the same lines; or into a table or packets.
 
 LINES is a file of lines that the program wrote, or - for standard input (default). The names of an object are those of
 the line's fields, in its order; docs/FORMATS.md lists them. "line" is the line's first word, "message" the kind of a
