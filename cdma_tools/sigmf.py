@@ -50,7 +50,12 @@ def brief(value: Any) -> str:
 
 def is_name(named: Any) -> bool:
     """Whether a value names a file in a folder."""
-    return isinstance(named, str) and named.isprintable() and os.path.basename(named) == named and named not in ("", ".", "..")
+    return (
+        isinstance(named, str)
+        and named.isprintable()
+        and os.path.basename(named) == named
+        and named not in ("", ".", "..")
+    )
 
 
 def samples_of(path: str, fields: dict[str, Any]) -> str:
@@ -180,10 +185,15 @@ def annotate(
         "core:comment": text,
         **(more or {}),
     }
+    annotate_all(meta, [note])
+
+
+def annotate_all(meta: dict[str, Any], added: list[dict[str, Any]]) -> None:
+    """Adds notes, in the order of their beginnings."""
     notes = meta.setdefault("annotations", [])
     if not isinstance(notes, list) or not all(isinstance(old, dict) for old in notes):
         raise Refused("'annotations' is no list of objects")
-    notes.append(note)
+    notes.extend(added)
     notes.sort(key=lambda old: start if isinstance(start := old.get("core:sample_start"), (int, float)) else 0)
 
 
@@ -218,17 +228,22 @@ def check_note(path: str, samples: str) -> None:
         raise Refused(f"{path}: it must stand in the folder of the samples, {os.path.dirname(samples) or '.'}")
 
 
-def note_lock(path: str, recording: str, kind: str, rate: Fraction, samples: str, skip: int, found: Described) -> None:
-    """Writes a .sigmf-meta at `path` that names the samples, with a note on the result of a lock.
+def meta_for(path: str, recording: str, kind: str, rate: Fraction, samples: str) -> dict[str, Any]:
+    """Returns the object of a .sigmf-meta at `path` that names the samples.
 
-    It keeps what is there already, or what the recording's own .sigmf-meta has.
+    It is what is there already, otherwise what the recording's own .sigmf-meta has.
     """
     if os.path.exists(path):
-        meta = read_json(path)
-    else:
-        meta = read_json(recording) if recording.endswith(META) else new_meta(kind, rate, "a recording of a radio")
-        if path[: -len(META)] + DATA != samples:
-            meta["global"]["core:dataset"] = os.path.basename(samples)
+        return read_json(path)
+    meta = read_json(recording) if recording.endswith(META) else new_meta(kind, rate, "a recording of a radio")
+    if path[: -len(META)] + DATA != samples:
+        meta["global"]["core:dataset"] = os.path.basename(samples)
+    return meta
+
+
+def note_lock(path: str, recording: str, kind: str, rate: Fraction, samples: str, skip: int, found: Described) -> None:
+    """Writes a .sigmf-meta at `path` that names the samples, with a note on the result of a lock."""
+    meta = meta_for(path, recording, kind, rate, samples)
     first = skip + round(found.begin * float(rate))
     count = round((found.end - found.begin) * float(rate))
     annotate(meta, first, count, "tools/import_capture --lock", "IS-95 pilot", found.line())

@@ -33,6 +33,10 @@ replaced; a listening that continues after the lines of --out writes packets onl
 
     tools/listen --type cu8 --rate 2400000 --pcapng - radio.cu8 | wireshark -k -i -
 
+--meta writes notes of SigMF (core:annotations) on what was decoded of a file of samples, each on the samples in which it
+was sent: a sync message on its frames, any other message on the frame in which it ends. It keeps what FILE has already,
+or what the recording's own .sigmf-meta has.
+
 A file of samples is processed in parts of --part seconds, by --workers processes of this machine, or by the workers of
 a --scheduler of dask.distributed, which need the same file and program at the same paths. The output is the same, byte
 for byte, for any number of workers.
@@ -55,6 +59,7 @@ import sys
 from collections.abc import Iterator
 from fractions import Fraction
 
+from cdma_tools import sigmf
 from cdma_tools.arguments import Parser, Within, number_within, rational, whole_within, wrong
 from cdma_tools.errors import Refused, WrongArguments
 from cdma_tools.frequencies import FREQUENCY_OPTIONS, add_frequency_options, frequency_fault, frequency_given
@@ -62,12 +67,13 @@ from cdma_tools.listening.follow_run import Handset
 from cdma_tools.listening.line_writer import LineWriter, Write
 from cdma_tools.listening.live import Stream, hear_stream
 from cdma_tools.listening.output import Output, open_output
+from cdma_tools.listening.notes import Notes
 from cdma_tools.listening.parts import PART, Recording
 from cdma_tools.listening.sharing import hear_recording
 from cdma_tools.listening.live_sources import FIXED_TYPES, RTL_TCP, SENT_TYPES, SOAPY, TUNED, LiveSource, scheme_of
 from cdma_tools.listening.sources import Tuning
 from cdma_tools.listening.stream_lock import LockOptions
-from cdma_tools.overwriting import STANDARD, InputFile, OutputFile
+from cdma_tools.overwriting import META, STANDARD, InputFile, OutputFile, UpdatedFile
 from cdma_tools.program import add_program_option, find_program
 from cdma_tools.radio.air import CHIP_RATE
 from cdma_tools.radio.search_policy import TRIES, add_search_options, policy_of
@@ -143,6 +149,8 @@ def parser() -> Parser:
         "write packets of messages and frames to FILE, or to standard output if it is - (then lines only with --out)"
     )
     words.add_argument("--pcapng", type=OutputFile, metavar="FILE", help=packets)
+    notes = "write the recording's .sigmf-meta with notes on what was decoded; for a file of samples"
+    words.add_argument("--meta", type=UpdatedFile, metavar="FILE", help=notes)
     add_program_option(words)
     add_capture_option(words)
     add_tuning(words)
@@ -202,6 +210,10 @@ def check(words: argparse.ArgumentParser, options: argparse.Namespace) -> None:
         words.error(f"--row {options.row} is the row of the sync channel or of the paging channel")
     if options.append and options.out is None:
         words.error("--append needs --out")
+    if options.meta is not None and not options.meta.endswith(META):
+        words.error(f"--meta names a {META}")
+    if options.meta is not None and options.capture is not None:
+        words.error("--meta goes with a whole recording, not with --capture")
     if options.json and options.pcapng == STANDARD and options.out is None:
         words.error("--json needs --out if standard output has the packets")
     if options.out is not None and os.path.isdir(options.out):
@@ -287,6 +299,23 @@ def opened_packets(options: argparse.Namespace) -> Iterator[PacketStream | None]
         yield PacketStream(capture.write, options.paging, options.row or 0)
 
 
+@contextlib.contextmanager
+def noted(options: argparse.Namespace, source: Stream | Recording) -> Iterator[Notes | None]:
+    """Yields where notes on what was decoded go, if they are asked for; they are written at the end."""
+    if options.meta is None:
+        yield None
+        return
+    if not isinstance(source, Recording):
+        raise WrongArguments("--meta goes with a file of samples")
+    sigmf.check_note(options.meta, source.path)
+    lock = source.lock
+    meta = sigmf.meta_for(options.meta, options.source, lock.kind, Fraction(lock.rate), source.path)
+    notes = Notes(lock.rate)
+    yield notes
+    sigmf.annotate_all(meta, notes.found)
+    sigmf.write_meta(options.meta, meta)
+
+
 def lines_to(options: argparse.Namespace, output: Output) -> Write:
     """Returns what writes lines: nothing does if standard output has the packets, and no file is named for lines."""
     is_dropped = options.pcapng == STANDARD and options.out is None
@@ -299,10 +328,10 @@ def listen(options: argparse.Namespace) -> int:
     is_json = options.json or (options.out or "").endswith(JSON_LINES)
     with contextlib.closing(open_output(options.out, is_json)) as output:
         check_output(options, isinstance(source, Recording), output)
-        with opened_packets(options) as packets:
+        with opened_packets(options) as packets, noted(options, source) as notes:
             already = output.already if isinstance(source, Recording) else None
             writer = LineWriter(lines_to(options, output), is_json, counts, already)
-            writer.packets = packets
+            writer.packets, writer.notes = packets, notes
             if isinstance(source, Recording):
                 is_heard = hear_recording(source, handset, writer, options.part, options.workers, options.scheduler)
             else:

@@ -10,6 +10,7 @@ from typing import Any
 from cdma_tools.errors import Refused, said
 from cdma_tools.lines import ORIGIN, TIME_NAME, NoLine, read_line
 from cdma_tools.listening.events import AT, Event, Remark
+from cdma_tools.listening.notes import Notes
 from cdma_tools.listening.system_time import SystemTime, time_told
 from cdma_tools.starting import called
 from cdma_tools.wireshark.stream import PacketStream
@@ -79,6 +80,7 @@ class LineWriter:
         self.written = 0  # lines
         self.time: SystemTime | None = None
         self.packets: PacketStream | None = None  # which gets each line's packet too
+        self.notes: Notes | None = None  # which gets a note on each message and frame
 
     def begin(self, origin: int) -> None:
         """Takes the number of the chip from which lines count."""
@@ -101,6 +103,8 @@ class LineWriter:
         self.put(text, event)
         if self.packets is not None:
             self.packets.take(object_of(text), event.chip, self.time)
+        if self.notes is not None:
+            self.notes.take(object_of(text), text, event.chip)
 
     def put(self, text: str, event: Event | None = None) -> None:
         """Writes a line, that of an event or one of the listening's own."""

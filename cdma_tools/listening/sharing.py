@@ -117,6 +117,8 @@ def hear_recording(
         with bar(total=len(parts) - first, text="parts", unit="") as shown:
             for joined in joined_parts(workers, parts, joiner, first):
                 writer.begin(joined.origin)
+                if writer.notes is not None:
+                    writer.notes.anchors = joiner.anchors
                 for remark in joined.remarks:
                     writer.remark(remark)
                 for event in joined.events:

@@ -81,7 +81,7 @@ NO_INPUT = {
     ("script", "out"),
 }
 # And the one output that is meant to be an input too: a metadata file that gets a note.
-UPDATED = {("import_capture", "meta")}
+UPDATED = {("import_capture", "meta"), ("listen", "meta")}
 # Names that a folder's files have, by the tool that writes them.
 IN_FOLDERS = {"curve": "curve.csv", "install": os.path.join("bin", "cdma_replay")}
 SHOWN = re.compile(r"(?m)^  ((?:pilot phase|(?:sync|paging|frame|traffic|sets|raw) at)=.+)$")

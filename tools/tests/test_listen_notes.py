@@ -1,0 +1,108 @@
+"""tools/listen --meta: notes of SigMF on the samples in which messages and frames were sent."""
+
+import json
+import os
+import re
+import subprocess
+import tempfile
+import unittest
+from typing import Any
+
+from tools.tests.helping import NO_PROGRAM, PROGRAM, PYTHON, ROOT, made_once, needs, run_inside, temporary_folder
+
+needs("numpy", "scipy")
+
+from cdma_tools.listening.listening import Anchor  # noqa: E402
+from cdma_tools.listening.notes import time_at  # noqa: E402
+from cdma_tools.listening.parts import chip_at  # noqa: E402
+from tools.tests.listening_cell import HANDSET, made_cell, write_cell  # noqa: E402
+
+SECONDS, RATE, CHIP_RATE, CLOCK = 4, 1_500_000, 1_228_800, 40
+STREAM = ["--type", "cu8", "--rate", str(RATE)]
+FRAME = 24_576
+LABELS = {"sync": "IS-95 sync", "paging": "IS-95 paging", "frame": "IS-95 frame", "traffic": "IS-95 traffic"}
+
+
+def make_recording(place: str) -> None:
+    """Writes a recording of the cell by a radio whose clock is wrong, so that chips and samples drift apart."""
+    with tempfile.TemporaryDirectory() as folder:
+        cell = write_cell(os.path.join(folder, "cell.is95"), made_cell(PROGRAM or "", SECONDS, 0))
+        path = os.path.join(folder, "radio.cu8")
+        words = [*STREAM, "--clock", str(CLOCK), cell, path]
+        subprocess.run([PYTHON, "-B", f"{ROOT}/tools/channel", *words], check=True, capture_output=True)
+        os.replace(path, place)
+
+
+@unittest.skipUnless(PROGRAM, NO_PROGRAM)
+class Noted(unittest.TestCase):
+    """A recording of some seconds."""
+
+    seconds = 15
+
+    def test_notes_match_the_samples(self) -> None:
+        """A frame or message that ends with chip `at` ends there in the samples of a clock that is wrong."""
+        folder = temporary_folder(self.addCleanup)
+        samples, meta = os.path.join(folder, "radio.cu8"), os.path.join(folder, "radio.sigmf-meta")
+        os.symlink(made_once(f"notes_{SECONDS}_{CLOCK}.cu8", make_recording), samples)
+        status, wrote, said = run_inside("listen", *STREAM, samples, *HANDSET, "--meta", meta)
+        self.assertEqual((status, said), (0, ""))
+        lines = [line for line in wrote.decode().splitlines() if line.split()[0] in LABELS]
+        with open(meta, encoding="utf-8") as file:
+            described = json.load(file)
+        self.assertEqual(described["global"]["core:dataset"], "radio.cu8")
+        notes = described["annotations"]
+        self.check_rules(notes, os.path.getsize(samples) // 2)
+        self.assertEqual(len(notes), len(lines))
+        for line in lines:
+            self.check_note(line, notes)
+
+    def check_rules(self, notes: list[dict[str, Any]], count: int) -> None:
+        """The rules of SigMF 1.0 for annotations: whole numbers, within the samples, in the order of their beginnings."""
+        starts = [note["core:sample_start"] for note in notes]
+        self.assertEqual(starts, sorted(starts))
+        for note in notes:
+            self.assertIs(type(note["core:sample_start"]), int)
+            self.assertIs(type(note["core:sample_count"]), int)
+            self.assertGreaterEqual(note["core:sample_start"], 0)
+            self.assertLessEqual(note["core:sample_start"] + note["core:sample_count"], count)
+            for name in ("core:label", "core:comment", "core:generator"):
+                self.assertIs(type(note[name]), str)
+
+    def check_note(self, line: str, notes: list[dict[str, Any]]) -> None:
+        """The line has one note, which ends where its last frame does."""
+        kind, at, comment = line.split(" ", 2)
+        told = [note for note in notes if note["core:label"] == LABELS[kind] and note["core:comment"] == comment]
+        late = {"sync": 32_768, "paging": FRAME}.get(kind, 0)
+        scale = RATE / CHIP_RATE / (1 + CLOCK * 1e-6)  # the clock is slow, so a chip has fewer samples
+        end = (int(re.sub("at=", "", at)) - late) * scale
+        near = [note for note in told if abs(note["core:sample_start"] + note["core:sample_count"] - end) < 3]
+        self.assertEqual(len(near), 1, line[:80])
+        if kind != "sync":
+            self.assertAlmostEqual(near[0]["core:sample_count"], FRAME * scale, delta=2)
+
+
+class Rules(unittest.TestCase):
+    """What needs no recording."""
+
+    seconds = 1
+
+    def test_times_of_chips(self) -> None:
+        """They are those at which the chips come."""
+        anchors = [Anchor(0.0, 64.0), Anchor(1_000.0, 1_065.0), Anchor(3_000.0, 3_064.0)]
+        for count in (1, 2, 3):
+            for time in (0.0, 400.0, 1_000.0, 1_700.0, 2_900.0, 4_000.0):
+                self.assertAlmostEqual(time_at(anchors[:count], chip_at(anchors[:count], time)), time)
+
+    def test_refusals(self) -> None:
+        words = [*STREAM, "--program", "/bin/true"]
+        for more, status, why in (
+            (["/dev/null", "--meta", "/tmp/none.sigmf-meta"], 2, "--meta goes with a file of samples"),
+            (["/dev/null", "--meta", "/tmp/none.json"], 2, "--meta names a .sigmf-meta"),
+        ):
+            ended, wrote, said = run_inside("listen", *words, *more)
+            self.assertEqual((ended, wrote, said.count("\n")), (status, b"", 1), said)
+            self.assertIn(why, said)
+
+
+if __name__ == "__main__":
+    unittest.main()
