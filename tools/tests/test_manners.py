@@ -145,7 +145,7 @@ class Command(unittest.TestCase):
         )
         self.assertEqual(ran.returncode, 0, ran.stderr)
         self.assertIn("usage: cdma-scan ", ran.stdout)
-        self.assertIn("\n    cdma-import --lock --shift 1249851 RECORDING FILE\n", ran.stdout)
+        self.assertIn("\n    cdma-import --lock --shift 1249851 radio.sigmf-meta radio.is95\n", ran.stdout)
 
 
 class Numbers(unittest.TestCase):

@@ -37,7 +37,8 @@ class Page(unittest.TestCase):
             self.assertIn(f".It Cm {command}\n", page)
         for option in set(re.findall(r"--(\w+)", usage)):
             self.assertRegex(page, rf"\n\.It Fl -{option} Ar [NH]\n")
-        statuses = re.findall(r"\n\| (\d) \|", formats[formats.index("| Status |") :])
+        table = formats[formats.index("| Status |") :].split("\n\n", 1)[0]
+        statuses = re.findall(r"\n\| (\d) \|", table)
         self.assertEqual(re.findall(r"\n\.It (\d)\n", page), statuses)
 
     def test_each_kind_of_line_stands_in_it(self) -> None:
