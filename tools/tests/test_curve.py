@@ -191,7 +191,7 @@ class Counts(Curves):
     def test_a_finished_run_is_told_again_and_a_longer_one_goes_on(self) -> None:
         self.assertEqual(self.ran(self.words(frames=12))[0], 0)
         rows = self.rows()
-        kept = os.path.join(self.at("out"), "curve.csv")
+        kept = shutil.copy(os.path.join(self.at("out"), "curve.csv"), self.at("kept.csv"))
         self.assertEqual(self.ran(self.words("--against", kept, frames=12))[0], 0)
         self.assertEqual((self.rows(), self.batches()), (rows, 4))
         code, _, lines = self.ran(self.words("--against", kept))
@@ -215,7 +215,8 @@ class Counts(Curves):
         self.assertRegex(table[-1], r"frame 9600 at 1.5 dB: above the limit of 1e-09: \d+ of 36 in error, from ")
         suite = xml.etree.ElementTree.parse(results).getroot()[0]
         self.assertEqual([suite.get(name) for name in ("name", "tests", "failures")], ["curve", "3", "1"])
-        code, said, _ = self.ran(self.words("--json", "--against", os.path.join(self.at("out"), "curve.csv")))
+        own = shutil.copy(os.path.join(self.at("out"), "curve.csv"), self.at("own.csv"))
+        code, said, _ = self.ran(self.words("--json", "--against", own))
         told = json.loads("\n".join(said))
         self.assertEqual((code, told["failed"], told["cases"][-1]["name"]), (0, 0, "against"))
         self.assertEqual([case["errors"] for case in told["cases"] if case.get("channel") == "frame 9600"], errors)
