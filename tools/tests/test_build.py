@@ -270,7 +270,7 @@ class Ends(Checkout):
     def test_refusals(self) -> None:
         self.refused("build: crates.txt has no crate none", "none")
         self.refused("build: no rt on the path", "top", PATH="/usr/bin:/bin")
-        self.refused("no checkout with crates: .*crates.txt: No such file", "--root", self.room)
+        self.refused("is not a checkout with crates: .*crates.txt: No such file", "--root", self.room)
         self.refused("--jobs: not 1 to 64: '0'", "--jobs", "0")
         self.refused("--memory: not above 0", "--memory", "0")
         self.refused("unrecognized arguments", "top", "core")

@@ -134,7 +134,7 @@ class Pictures(unittest.TestCase):
         self.refused("line 1 is not a line of follow: 'survey", "follow", out, data=b"survey pn=0 delta=0 energy=0\n")
         sets = b"sets at=1 time=1 active=511/10 candidate= report=0\n"
         self.refused("line 1 is not a line of follow: active: '511/10' hasn't 3 numbers", "follow", out, data=sets)
-        self.refused("isn't text of the program", "follow", out, data=b"\xff\n")
+        self.refused("is not text of the program", "follow", out, data=b"\xff\n")
         self.refused("ends within the header", "correlation", out, data=b"IS95")
         self.refused("no sample file", "correlation", out, data=b"is95" + short[4:])
         self.refused("has 64 samples, and the span is 2048", "correlation", out, data=short)
