@@ -244,6 +244,13 @@ class Turned(Imports):
         self.assertEqual(self.taken(recorded(SIXTEEN, "ci16_le"), "ci16_le", "--shift", "0")[2], SIXTEEN)
 
 
+# Captures that a radio was tuned anew between.
+SEVERAL: list[dict[str, object]] = [
+    {"core:sample_start": 0, "core:frequency": 878_490_000},
+    {"core:sample_start": 2, "core:frequency": 881_520_000},
+]
+
+
 class SigMF(Imports):
     def meta(
         self, fields: dict[str, object], captures: Sequence[dict[str, object]] = (), name: str = "radio"
@@ -281,9 +288,9 @@ class SigMF(Imports):
             ("no core:sample_rate; give --rate", {"core:datatype": "ci8"}, ()),
             ("core:sample_rate is 'fast'", {**good, "core:sample_rate": "fast"}, ()),
             ("core:sample_rate is 0", {**good, "core:sample_rate": 0}, ()),
-            ("2 capture segments", good, [{"core:sample_start": 0}, {"core:sample_start": 2}]),
-            ("among other bytes", good, [{"core:header_bytes": 16}]),
-            ("among other bytes", {**good, "core:trailing_bytes": 16}, ()),
+            ("2 captures of several frequencies: give --capture N", good, SEVERAL),
+            ("no samples in what is taken", good, [{"core:header_bytes": 16}]),
+            ("no samples in what is taken", {**good, "core:trailing_bytes": 16}, ()),
             ("without samples", {**good, "core:metadata_only": True}, ()),
             ("core:dataset is no file's name", {**good, "core:dataset": "../kept.bin"}, ()),
             ("its checksum isn't core:sha512", {**good, "core:sha512": "00"}, ()),
@@ -335,7 +342,7 @@ class Refusals(Imports):
         wrong: tuple[tuple[str, list[object]], ...] = (
             ("--type and --rate needed", [path]),
             ("--rate needed", ["--type", "ci8", path]),
-            ("invalid choice", ["--type", "cf64_le", "--rate", CHIP_RATE, path]),
+            ("invalid choice", ["--type", "cf16_le", "--rate", CHIP_RATE, path]),
             ("--rate: not 1 to 10,000,000,000", ["--type", "ci8", "--rate", "0", path]),
             ("no number", ["--type", "ci8", "--rate", "1/0", path]),
             ("no number", ["--type", "ci8", "--rate", CHIP_RATE, "--shift", "far", path]),
