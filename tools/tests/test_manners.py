@@ -163,9 +163,9 @@ class Numbers(unittest.TestCase):
 
     def test_help_tells_bounds(self) -> None:
         for tool, told in (
-            ("channel", "(-10,000 to 10,000)"), ("scan", "(1,000 to 10,000,000,000)"),
-            ("import_capture", "(1 to 10,000,000,000)"),
-            ("curve", "(-100 to 100)"), ("draw", "(1 to 512)"), ("explain", "(64 to 32,768)"), ("agree", "(1 to 64)"),
+            ("channel", "(-10,000 to 10,000, default"), ("scan", "(1,000 to 10,000,000,000, default"),
+            ("import_capture", "(1 to 10,000,000,000"), ("curve", "(-100 to 100"), ("draw", "(1 to 512"),
+            ("explain", "(64 to 32,768"), ("agree", "(1 to 64"),
         ):  # fmt: skip
             with self.subTest(tool):
                 words = ["survey", "--help"] if tool == "draw" else ["--help"]
@@ -306,7 +306,7 @@ class WrongInput(Folder):
         for why, *words in (
             ("more than 100000 centre frequencies", "--all", "--search", "1"),
             ("more than 2,000,000 carriers round 98,771 centre frequencies", "--step", "1000", "--search", "614400"),
-            (".*: give --step in place of --all", "--rate", "4e8", "--all", "--search", "5e3", "--conjugate", "try"),
+            (".*: give --step in place of --all", "--rate", "9e8", "--all", "--search", "9e3", "--conjugate", "try"),
         ):
             self.refused(1, why, *wide, *words)
 
