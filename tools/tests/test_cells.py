@@ -151,7 +151,7 @@ class Cells(Recordings):
             ("not 1 to 12: '0'", ("--cell", 0)),
             ("not 0 to 511: '512'", ("--pn", 512)),
             ("not allowed with", ("--pn", 7, "--cell", 2)),
-            ("--program goes with --checks or --pn", ("--program", "x")),
+            ("--program goes with --checks, --pn or --cells", ("--program", "x")),
         ):
             self.refused(why, path, *words, status=2)
         self.refused("no program at /none", path, "--pn", 3, "--program", "/none")
