@@ -132,7 +132,7 @@ class Recording:
         """Opens samples `skip` and on of a file with `rate` samples a second; with is_conjugate, their conjugates."""
         total = sample_count(path, kind)
         if total <= skip:
-            raise Refused(f"{path}: {total} samples, and none left" + (f" after --skip {skip}" if skip else ""))
+            raise Refused(f"{path}: no samples left" + (f" after --skip {skip}: it has {total}" if skip else ""))
         self.path, self.kind, self.rate, self.first = path, TYPES[kind], float(rate), first_byte(path)
         self.skip, self.count = skip, total - skip
         self.is_conjugate = is_conjugate
@@ -169,7 +169,7 @@ class Recording:
         except OSError as why:
             raise Refused(f"{self.path}: {why.strerror}") from None
         if len(parts) != 2 * (high - low):
-            raise Refused(f"{self.path}: ended early")
+            raise Refused(f"{self.path}: the file ended early")
         taken = parts.astype(numpy.float32)
         if self.kind.middle:
             taken -= numpy.float32(self.kind.middle)

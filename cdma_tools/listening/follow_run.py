@@ -223,5 +223,5 @@ def sets_of(text: str) -> Sets:
     try:
         read = read_line(text)
     except NoLine as why:
-        raise Refused(f"a line of the program is none: {why}: {text[:60]!r}") from None
+        raise Refused(f"the program wrote an invalid line: {why}: {text[:60]!r}") from None
     return Sets(tuple((pn, row) for pn, row, _ in read["active"]), tuple(read["candidate"]))

@@ -64,7 +64,7 @@ def object_of(text: str) -> dict[str, Any]:
     try:
         return read_line(text)
     except NoLine as why:
-        raise Refused(f"a line of the program is none: {why}: {text[:60]!r}") from None
+        raise Refused(f"the program wrote an invalid line: {why}: {text[:60]!r}") from None
 
 
 class LineWriter:

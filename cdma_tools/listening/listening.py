@@ -26,8 +26,8 @@ class Anchor:
 
 
 # What is searched while no pilot stands out, in words.
-SEARCHED = "of each 2.4 s half are searched, and half left out"
-SEARCHED_LIVE = "carriers are searched in turn, and what comes during a search is left out"
+SEARCHED = "half of each 2.4 s is searched, and the other half skipped"
+SEARCHED_LIVE = "carriers are searched in turn, and samples that arrive during a search are skipped"
 
 
 class Silence:
@@ -101,9 +101,9 @@ class Listening:
         if self.relay is not None:
             self.relay.finish()
         if self.lock.cut:
-            self.say(self.lock.seconds, f"{self.lock.cut} parts were cut at the ends of the range: by bursts")
+            self.say(self.lock.seconds, f"{self.lock.cut} I and Q values were clipped, by bursts")
         if self.lock.ring.damaged:
-            self.say(self.lock.seconds, f"{self.lock.ring.damaged} parts of samples weren't finite, and count as 0")
+            self.say(self.lock.seconds, f"{self.lock.ring.damaged} I and Q values were not finite, and count as 0")
 
     def kill(self) -> None:
         """Ends all that is running."""
@@ -127,7 +127,7 @@ class Listening:
         elif isinstance(piece, Lost):
             self.take_loss(piece)
         elif isinstance(piece, Break):
-            self.say(piece.seconds, "the pilot was away, and is heard again from here on: a new run begins")
+            self.say(piece.seconds, "the pilot was lost, and is received again from here on: a new run begins")
             if self.relay is not None:
                 self.relay.break_off()
 
@@ -136,8 +136,8 @@ class Listening:
         if lost.chips > MOST_ASTRAY:
             self.say(
                 lost.seconds,
-                f"samples were lost: zeros stand for {lost.chips} chips; a loss of {PERIOD} more, or of a multiple,"
-                " would look the same until the next sync message",
+                f"samples were lost: {lost.chips} chips were replaced by zeros; a loss of {PERIOD} more, or of a"
+                " multiple, would look the same until the next sync message",
             )
         if self.relay is not None:
             self.relay.feed_zeros(lost.chips)

@@ -77,7 +77,8 @@ class LiveListening:
             fault = why
         listening = self.listening
         if rest := len(listening.lock.ring.rest):
-            listening.say(listening.lock.seconds, f"the stream ended within a sample: {rest} bytes are left out")
+            text = f"the stream ended within a sample: its last {rest} bytes were dropped"
+            listening.say(listening.lock.seconds, text)
         listening.finish()
         if fault is not None:
             raise fault

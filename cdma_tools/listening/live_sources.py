@@ -66,7 +66,7 @@ class LiveSource:
         port = DEFAULT_PORT if port is None and self.scheme == RTL_TCP else port
         has_more = parts.path not in ("", "/") or parts.query or parts.fragment or parts.username
         if not parts.hostname or port is None or has_more:
-            raise Refused(f"{self.address}: no address {self.scheme}://HOST:PORT")
+            raise Refused(f"{self.address}: not an address of the form {self.scheme}://HOST:PORT")
         return parts.hostname, port
 
     def begin(self, backlog: Backlog) -> Callable[[], None]:
@@ -212,8 +212,8 @@ def soapy_samples(device: Any, stream: Any, source: LiveSource) -> Iterator[Item
         if ended.ret > 0:
             yield block[: ended.ret].tobytes()
         elif ended.ret == SOAPY_OVERFLOW:
-            yield Told(f"{source.address}: samples were lost, since they weren't taken in time")
+            yield Told(f"{source.address}: samples were lost because they were not read in time")
         elif ended.ret == SOAPY_TIMEOUT:
             raise Refused(f"{source.address}: no samples for {SERVER_TIMEOUT:.0f} s")
         else:
-            raise Refused(f"{source.address}: it failed, with {ended.ret}")
+            raise Refused(f"{source.address}: reading failed with error {ended.ret}")

@@ -128,7 +128,7 @@ class GrowingFile:
             if total > self.size:
                 os.ftruncate(self.file, self.size)
         except OSError as why:
-            held = "another listening adds to it" if isinstance(why, BlockingIOError) else why.strerror
+            held = "another process is appending to it" if isinstance(why, BlockingIOError) else why.strerror
             raise Refused(f"{self.path}: {held}") from None
 
     def whole_size(self, total: int) -> int:
@@ -150,7 +150,7 @@ class GrowingFile:
     @property
     def none(self) -> str:
         """Returns the report on a line that no listening wrote."""
-        return f"none that a listening wrote as {'JSON' if self.is_json else 'text'}"
+        return f"not one that listen writes as {'JSON' if self.is_json else 'text'}"
 
     def look(self) -> Already:
         """Returns the lines there; refuses a line that no listening of this kind wrote."""
@@ -180,7 +180,7 @@ class GrowingFile:
                 written += os.write(self.file, data[written:])
         except OSError as why:
             os.ftruncate(self.file, self.size)
-            raise Refused(f"{self.path}: {why.strerror}; it has all lines up to there") from None
+            raise Refused(f"{self.path}: {why.strerror}; all lines before are in the file") from None
         self.size += len(data)
 
     def reopen(self) -> None:

@@ -108,7 +108,7 @@ class Relay:
             self.next.poll()
             self.check_phase(self.next)
         if self.has_moved:
-            self.say(f"the time has moved: a multiple of {PERIOD} chips was lost; a new run begins")
+            self.say(f"the system time jumped: a multiple of {PERIOD} chips was lost; a new run begins")
             self.break_off()
 
     def break_off(self) -> None:
@@ -180,7 +180,7 @@ class Relay:
         self.killed += 1
         if not ended.is_killed or self.killed > MOST_KILLED:
             raise ended
-        self.say(f"a run of {NAME} follow was {ended.how}: another one takes its place")
+        self.say(f"a run of {NAME} follow was {ended.how}: another one replaces it")
 
     # Runs
 
@@ -198,12 +198,12 @@ class Relay:
             if self.hears_pilot(run):
                 if begin - beginning.wanted >= START and not self.is_astray(run):
                     late = (begin - beginning.wanted) / CHIP_RATE
-                    self.say(f"the pilot is faded where a run was to begin: it begins {late:.1f} s later")
+                    self.say(f"the pilot was in a fade when a run was due: it begins {late:.1f} s late")
                 self.beginning = None
                 return run
             run.kill()
             if not beginning.is_again:
-                self.say("a run hears noise in place of the pilot, and is begun anew")
+                self.say("a run locked to noise instead of the pilot, and is restarted")
             beginning.again(begin)
         return None
 
@@ -247,7 +247,7 @@ class Relay:
         self.tell(before)
         self.row = self.row_at(before, self.seam)
         if after is None:
-            self.say("no run has begun beside the one that ends here: the pilot is faded")
+            self.say("the pilot is in a fade: no run has begun that could take over from the one that ends here")
         else:
             after = self.carried(before, after)
         self.seams.append(self.seam)
@@ -262,7 +262,9 @@ class Relay:
             # Frames end every 20 ms once there is a mark: then all lines up to the seam have come.
             after.wait_past(self.seam, PATIENCE)
         if self.row_at(after, self.seam) != self.row:
-            self.say(f"a direction before the mark of the next run, which is started anew on row {self.row}")
+            self.say(
+                f"a handoff direction came before the mark of the next run, which is restarted on row {self.row}"
+            )
             after.kill()
             return self.start(after.begin, self.row)
         self.compare(before.sets_at(self.seam), after.sets_at(self.seam))
@@ -274,9 +276,9 @@ class Relay:
             return
         if len(before.active) > 1 and (after is None or after.active != before.active):
             pilots = ",".join(str(pn) for pn, _ in before.active)
-            self.say(f"of the active pilots {pilots} the reference alone goes on at a seam")
+            self.say(f"of the active pilots {pilots}, only the reference is kept at a seam")
         elif before.candidates and (after is None or after.candidates != before.candidates):
-            self.say("the candidate pilots and their timers begin anew at a seam")
+            self.say("the candidate pilots and their timers are reset at a seam")
 
     def row_at(self, run: FollowRun, chip: int) -> int | None:
         """Returns the row on which the reference sends the traffic channel at a chip, by the run's lines or its start.
@@ -305,7 +307,7 @@ class Relay:
     def check_phase(self, run: FollowRun) -> None:
         """Reports a run that finds another pilot than the one of the lock, by the code at its first chip."""
         if self.is_astray(run):
-            self.say(f"a run hears a pilot whose code is {astray_of(run)} chips from that of the lock: another cell's")
+            self.say(f"a run follows a pilot whose code is {astray_of(run)} chips from the lock's: another cell's")
         run.phase = None
 
     def is_astray(self, run: FollowRun) -> bool:

@@ -101,7 +101,7 @@ def blocks_of_file(path: str, first: int, count: int, block: int) -> Iterator[by
             while left > 0:
                 data = file.read(min(block, left))
                 if not data:
-                    raise Refused(f"{path}: ended early")
+                    raise Refused(f"{path}: the file ended early")
                 left -= len(data)
                 yield data
     except OSError as why:
@@ -200,10 +200,10 @@ class ServerReader:
             while len(head) < SERVER_HEADER.size:
                 piece = connection.recv(SERVER_HEADER.size - len(head))
                 if not piece:
-                    raise OSError("it closed the connection before its header")
+                    raise OSError("the server closed the connection before its header")
                 head += piece
             if SERVER_HEADER.unpack(head)[0] != SERVER_WORD:
-                raise OSError("it is no server of rtl_tcp")
+                raise OSError("this is not an rtl_tcp server")
             connection.sendall(b"".join(COMMAND.pack(*command) for command in server.commands()))
         except OSError:
             connection.close()
@@ -216,7 +216,7 @@ class ServerReader:
         while not self.backlog.is_stopped.is_set():
             try:
                 data = self.connection.recv(PIECE_BYTES)
-                why = "it closed the connection"
+                why = "the server closed the connection"
             except OSError as fault:
                 data, why = b"", fault.strerror or str(fault)
             if data:
@@ -249,7 +249,8 @@ class ServerReader:
         """Tries to connect to the server until it is there again."""
         self.connection.close()
         self.tell_lost()
-        self.backlog.put(Told(f"{self.server.name} is gone: {why}; it is tried again every {RETRY:.0f} s"))
+        lost = f"the connection to {self.server.name} was lost: {why}; connecting again every {RETRY:.0f} s"
+        self.backlog.put(Told(lost))
         while not self.backlog.is_stopped.wait(RETRY):
             since = self.since
             try:
@@ -258,5 +259,6 @@ class ServerReader:
                 continue
             away = self.since - since
             self.received = 0
-            self.backlog.put(Skipped(round(away * self.server.rate), f"{self.server.name} was away for {away:.1f} s"))
+            unreachable = f"{self.server.name} was unreachable for {away:.1f} s"
+            self.backlog.put(Skipped(round(away * self.server.rate), unreachable))
             return

@@ -157,8 +157,8 @@ def places_of(front: Front, parts: tuple[float, ...]) -> list[float]:
     """The times at which a pilot is looked for; refuses a recording that is shorter than one period of the code."""
     if front.length < PERIOD:
         raise Refused(
-            f"{front.length:.0f} chips are too few: a pilot is looked for in one period of the code, {PERIOD} chips or"
-            f" {1000 * PERIOD / CHIP_RATE:.1f} ms"
+            f"{front.length:.0f} chips are too few: the search for a pilot needs one period of the code, {PERIOD} chips"
+            f" or {1000 * PERIOD / CHIP_RATE:.1f} ms"
         )
     room = front.length - MOST_STRETCHES * STRETCH - 2 * GUARD
     return sorted({float(int(GUARD + room * part)) for part in parts})

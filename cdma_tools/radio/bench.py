@@ -266,14 +266,14 @@ def print_false_locks(bench: Bench) -> None:
         if not lock.status or os.path.exists(bench.at("none.is95")):
             locks += 1
             print(f"- without a pilot, number {number}: {lock.said}")
-        elif "none is heard beside it" in lock.said:
+        elif "nothing confirms it" in lock.said:
             unheard += 1
         else:
             words = lock.said.split()
             parts.append(float(words[words.index("energy") + 2]))
     print(
         f"- Twenty recordings of half a second without a pilot: {locks} locks; {unheard} passed the threshold and were"
-        f" refused since nothing was heard beside it; the best energies of the others are {min(parts):.2f} to"
+        f" refused since nothing confirmed them; the best energies of the others are {min(parts):.2f} to"
         f" {max(parts):.2f} of the threshold."
     )
 

@@ -186,7 +186,7 @@ class Link:
         self.noise = self.pilot / ratio_of(level) - self.power
         if self.noise < 0:
             clean = 10 * numpy.log10(self.pilot / self.power)
-            raise Refused(f"without noise Ec/Io is {clean:.1f} dB already: it can't be {level:g} dB")
+            raise Refused(f"Ec/Io can't be {level:g} dB: even without noise it is {clean:.1f} dB")
 
     def set_eb_nt(self, level: float, row: int, rate: int) -> None:
         """Adds so much noise that a bit of a row of the first cell, at `rate` bits a second, has this energy, in dB,
@@ -198,7 +198,7 @@ class Link:
         self.noise = bit / ratio_of(level) - others
         if self.noise < 0:
             raise Refused(
-                f"the other cells alone leave Eb/Nt {10 * numpy.log10(bit / others):.1f} dB: it can't be {level:g} dB"
+                f"Eb/Nt can't be {level:g} dB: the other cells limit it to {10 * numpy.log10(bit / others):.1f} dB"
             )
 
     def received(

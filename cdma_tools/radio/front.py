@@ -60,7 +60,10 @@ def block_size(ratio: float) -> Block:
         if error < MOST_STRETCH and (best is None or rank < best[0]):
             best = rank, Block(chips, samples)
     if best is None:
-        raise Refused(f"{ratio * CHIP_RATE:.6f} samples a second: no block of {SHORTEST} to {LONGEST} chips fits")
+        raise Refused(
+            f"{ratio * CHIP_RATE:.6f} samples a second: no block of {SHORTEST} to {LONGEST} chips has nearly a whole"
+            " number of samples"
+        )
     return best[1]
 
 

@@ -28,7 +28,7 @@ def bytes_of(path: str, skip: int) -> NDArray[numpy.uint8]:
     try:
         size, skip = sample_bytes(path) - skip, first_byte(path) + skip
         if size < LEAST_BYTES:
-            raise Refused(f"{path}: {max(size, 0)} bytes are too few to tell the type: give --type")
+            raise Refused(f"{path}: {max(size, 0)} bytes are too few to guess the sample type: give --type")
         places = numpy.linspace(0, max(0, size - PIECE), PIECES).astype(int) // 8 * 8
         return numpy.concatenate(
             [
@@ -67,7 +67,7 @@ def type_of(path: str, skip: int = 0) -> str:
     """Returns the type of the samples of a file after the first `skip` bytes; refuses one whose bytes show none."""
     data = bytes_of(path, skip)
     if shares(data).max() > 0.99:
-        raise Refused(f"{path}: the bytes tell no type, nearly all are the same: give --type")
+        raise Refused(f"{path}: the sample type can't be guessed, since nearly all bytes are the same: give --type")
     if is_floating(data):
         return "cf32_le"
     even, odd = shares(data[0::2]), shares(data[1::2])
@@ -77,5 +77,7 @@ def type_of(path: str, skip: int = 0) -> str:
         numpy.mean(data.view(numpy.int8).astype(float) ** 2)
     )
     if max(unsigned, signed) < LEAST_RATIO * min(unsigned, signed):
-        raise Refused(f"{path}: the bytes tell no type, they are spread over the whole range: give --type")
+        raise Refused(
+            f"{path}: the sample type can't be guessed, since the bytes are spread over the whole range: give --type"
+        )
     return "cu8" if unsigned < signed else "ci8"

@@ -88,16 +88,17 @@ class Locked(NamedTuple):
         """Returns what else a user should know, a line each."""
         said = [*self.said]
         said += [
-            f"samples were lost at {gap.seconds:.4f} s: zeros stand for {gap.chips} chips; a loss of {PERIOD} more, or of"
-            " a multiple, would look the same, and then no time after it is right"
+            f"samples were lost at {gap.seconds:.4f} s: {gap.chips} chips were replaced by zeros; a loss of {PERIOD}"
+            " more, or of a multiple, would look the same, and then every later time would be wrong"
             for gap in self.gaps
         ]
         if self.is_part:
             said.append(
-                f"the pilot is heard from {self.begin:.3f} s to {self.end:.3f} s of {self.seconds:.3f} s; the rest is left out"
+                f"the pilot is received from {self.begin:.3f} s to {self.end:.3f} s of {self.seconds:.3f} s;"
+                " the rest is skipped"
             )
         if self.cut:
-            said.append(f"{self.cut} parts were cut at the ends of the range: a burst, or a --scale that is too great")
+            said.append(f"{self.cut} I and Q values were clipped: by a burst, or because --scale is too great")
         return said
 
 
@@ -134,16 +135,18 @@ def check_pilot(pilot: Pilot, policy: SearchPolicy, shift: float) -> None:
     if excess <= 1:
         raise Refused(
             f"no pilot stands out {where}: the best energy is {excess:.2f} of the threshold, which noise"
-            f" alone reaches in one recording of {ONE_IN:,.0f}{policy.advice}"
+            f" by itself reaches in one recording of {ONE_IN:,.0f}{policy.advice}"
         )
     if not sure.is_pilot:
         raise Refused(
-            f"a pilot seemed to stand out {where}, and none is heard beside it: {sure.sigma:.1f} standard"
-            f" deviations of noise, and a pilot has {LEAST:.0f}, unless its clock is much more than"
+            f"a pilot seemed to stand out {where}, but nothing confirms it: {sure.sigma:.1f} standard"
+            f" deviations of noise, where a pilot has {LEAST:.0f} or more, unless its clock is much more than"
             f" {1e6 * MOST_CLOCK:.0f} millionths off{policy.advice}"
         )
     if not sure.is_followed:
-        raise Refused(f"the clock is more than {1e6 * MOST_CLOCK:.0f} millionths off, and such a clock isn't followed")
+        raise Refused(
+            f"the clock is more than {1e6 * MOST_CLOCK:.0f} millionths off, which is more than the lock follows"
+        )
 
 
 def check_length(front: Front, options: Options) -> None:
@@ -151,8 +154,8 @@ def check_length(front: Front, options: Options) -> None:
     most = MOST_CHIPS[options.version]
     if options.count is None and front.length - 2 * EDGE > most:
         raise Refused(
-            f"{front.length:.0f} chips, and a file of version {options.version} holds at most {most}: give --count {most},"
-            " and --skip for what comes after"
+            f"{front.length:.0f} chips, but a file of version {options.version} holds at most {most}: give"
+            f" --count {most}, and --skip for the rest"
         )
 
 
@@ -163,7 +166,7 @@ def follow(pilot: Pilot, tell: Callable[[float], None]) -> Track:
     tracked = track(front, found._replace(time=found.time + late), clock, tell)
     heard = sum(1 for point in tracked.points if point.snr)
     if heard < min(LEAST_POINTS, front.length // SEGMENT - 1) or not heard:
-        raise Refused("a pilot seemed to stand out, and couldn't be tracked")
+        raise Refused("a pilot seemed to stand out, but couldn't be tracked")
     return tracked
 
 

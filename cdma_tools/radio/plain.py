@@ -38,7 +38,7 @@ def recording_told(options: argparse.Namespace) -> tuple[str, Fraction, str]:
 def assumed(options: argparse.Namespace, kind: str, path: str) -> list[str]:
     """Returns the remarks on the samples' type: that it was taken from the bytes, or that these look like another."""
     if options.type == AUTO:
-        return [f"the samples are taken to be {kind}, as their bytes look"]
+        return [f"the sample type is guessed from the bytes: {kind}"]
     try:
         looks = type_of(path)
     except Refused:
@@ -46,7 +46,7 @@ def assumed(options: argparse.Namespace, kind: str, path: str) -> list[str]:
     return (
         []
         if looks == kind
-        else [f"the samples are read as {kind}, and their bytes look like {looks}: is the type right?"]
+        else [f"the samples are read as {kind}, but their bytes look like {looks}: is the type right?"]
     )
 
 
@@ -82,15 +82,15 @@ class Plan:
         self.offset = options.offset or 0
         self.has_sum = options.sum
         if ratio == 1 and (options.offset or options.sum):
-            raise Refused("at the chip rate a chip has one sample: --offset and --sum have no use")
+            raise Refused("--offset and --sum have no effect at the chip rate, with one sample to a chip")
         if not self.is_whole and (options.offset is not None or options.sum):
-            raise Refused(f"{text_of(rate)} is no multiple of the chip rate: --offset and --sum have no use")
+            raise Refused(f"--offset and --sum need a multiple of the chip rate, and {text_of(rate)} isn't one")
         if self.is_whole and self.offset >= self.multiple:
             raise Refused(
-                f"--offset is {self.offset}, and a chip has {self.multiple} samples, 0 to {self.multiple - 1}"
+                f"--offset is {self.offset}, but a chip has {self.multiple} samples: 0 to {self.multiple - 1}"
             )
         if not self.is_whole and max(self.up, self.down) > LARGEST_RATIO:
-            raise Refused(f"{text_of(rate)} to {CHIP_RATE} is {self.down} to {self.up}: no ratio of small numbers")
+            raise Refused(f"{text_of(rate)} to {CHIP_RATE} is {self.down} to {self.up}: not a ratio of small numbers")
 
     def samples_for(self, chips: int) -> int:
         """Returns the number of samples of a recording that suffice for `chips` chips."""
@@ -115,7 +115,7 @@ def read_samples(path: str, kind: str, skip: int, most: int | None) -> NDArray[A
     kept = TYPES[kind]
     total = sample_count(path, kind)
     if total <= skip:
-        raise Refused(f"{path}: {total} samples, and none left" + (f" after --skip {skip}" if skip else ""))
+        raise Refused(f"{path}: no samples left" + (f" after --skip {skip}: it has {total}" if skip else ""))
     count = total - skip
     if most is not None:
         count = min(count, most)
@@ -124,7 +124,7 @@ def read_samples(path: str, kind: str, skip: int, most: int | None) -> NDArray[A
     except OSError as why:
         raise Refused(f"{path}: {why.strerror}") from None
     if len(read) != 2 * count:
-        raise Refused(f"{path}: ended early")
+        raise Refused(f"{path}: the file ended early")
     parts = read.astype(numpy.float64 if kept.is_floating else numpy.int64).reshape(-1, 2) - kept.zero
     if kept.is_floating:
         lost = numpy.flatnonzero(~numpy.isfinite(parts).all(axis=1))
@@ -154,7 +154,7 @@ def scaled(chips: NDArray[Any], scale: float | str | None, version: int) -> tupl
     if len(outside):
         at = outside[0]
         raise Refused(
-            f"chip {at} would be ({parts[at, 0]:.0f}, {parts[at, 1]:.0f}), and version {version} holds"
+            f"chip {at} would be ({parts[at, 0]:.0f}, {parts[at, 1]:.0f}), but version {version} holds"
             f" {-most - 1} to {most}: give a --scale of at most {most / float(top):.9g}, or --scale fit"
         )
     return parts.astype(FORM[version]), factor
@@ -170,10 +170,10 @@ def plain_chips(options: argparse.Namespace) -> tuple[NDArray[Any], float]:
         parts = turned(parts, options.shift, rate)
     chips = plan.chips(parts)[: options.count]
     if not len(chips):
-        raise Refused(f"{path}: too few samples for a chip")
+        raise Refused(f"{path}: too few samples for one chip")
     if len(chips) > MOST_CHIPS[options.version]:
         raise Refused(
-            f"{path}: {len(chips)} chips, and a file of version {options.version} holds at most"
+            f"{path}: {len(chips)} chips, but a file of version {options.version} holds at most"
             f" {MOST_CHIPS[options.version]}: give --count"
         )
     return scaled(chips, options.scale, options.version)

@@ -214,7 +214,7 @@ class Recorded(Recordings):
         for status, why, words in (
             (1, "No such file", (self.at("none.is95"),)),
             (1, "no number: 'x'", (f"{self.cell}:x",)),
-            (1, "without noise Ec/Io is -3.6 dB already", ("--ec-io", -3, self.cell)),
+            (1, "even without noise it is -3.6 dB", ("--ec-io", -3, self.cell)),
             (1, "no sample file", (os.path.abspath(__file__),)),
             (1, "too few for a recording", ("--seconds", 1e-5, self.cell)),
             (2, "not 1 to 4 numbers", ("--paths", "1:2:3:4:5", self.cell)),

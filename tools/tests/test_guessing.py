@@ -44,8 +44,8 @@ class Types(Recordings):
 
     def test_what_tells_none(self) -> None:
         for data, why in (
-            (bytes(100_000), "nearly all are the same"),
-            (b"\x7f" * 90_000, "nearly all are the same"),
+            (bytes(100_000), "nearly all bytes are the same"),
+            (b"\x7f" * 90_000, "nearly all bytes are the same"),
             (b"ab" * 90, "180 bytes are too few"),
         ):
             with open(self.at("none.raw"), "wb") as file:
@@ -61,14 +61,14 @@ class Types(Recordings):
     def test_it_is_told(self) -> None:
         path = self.recorded("--type", "cu8", "--ec-io", -9, name="in.cu8")
         found = self.locked(path, "--type", "auto", "--rate", 2_400_000)
-        self.assertIn("import_capture: the samples are taken to be cu8, as their bytes look\n", self.said)
+        self.assertIn("import_capture: the sample type is guessed from the bytes: cu8\n", self.said)
         self.assertEqual(found, self.locked(path, "--type", "cu8", "--rate", 2_400_000))
         self.assertNotIn("bytes look", self.said)
         self.locked(path, "--type", "ci8", "--rate", 2_400_000)
-        self.assertIn("the samples are read as ci8, and their bytes look like cu8: is the type right?", self.said)
+        self.assertIn("the samples are read as ci8, but their bytes look like cu8: is the type right?", self.said)
         for name, words in (("scan", ("--search", 3_000)), ("domain", ())):
             said = run_main(name, "--type", "auto", "--rate", 2_400_000, *words, path)[2]
-            self.assertIn(f"{name}: the samples are taken to be cu8", said)
+            self.assertIn(f"{name}: the sample type is guessed from the bytes: cu8", said)
 
 
 class Flags(Recordings):

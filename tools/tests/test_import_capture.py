@@ -170,7 +170,7 @@ class Multiples(Imports):
     def test_a_sum_that_does_not_fit(self) -> None:
         path = self.keep("in.raw", recorded([(30_000, 0), (2_767, 1), (30_000, 0), (2_768, -1)], "ci16_le"))
         words = ["--type", "ci16_le", "--rate", 2 * CHIP_RATE, "--sum", path, self.out]
-        self.refused(r"chip 1 would be \(32768, -1\), and version 1 holds -32768 to 32767", *words)
+        self.refused(r"chip 1 would be \(32768, -1\), but version 1 holds -32768 to 32767", *words)
 
     def test_count_with_a_multiple(self) -> None:
         taken = self.taken(self.data, "ci16_le", "--offset", 1, "--count", 2, "--skip", 1, rate=3 * CHIP_RATE)
@@ -314,18 +314,18 @@ class Refusals(Imports):
         chip_rate = ["--type", "ci16_le", "--rate", CHIP_RATE]
         for why, words in (
             ("fewer than the chip rate", ["--type", "ci16_le", "--rate", CHIP_RATE - 1, path]),
-            ("no ratio of small numbers", ["--type", "ci16_le", "--rate", CHIP_RATE + 1, path]),
+            ("not a ratio of small numbers", ["--type", "ci16_le", "--rate", CHIP_RATE + 1, path]),
             ("20 bytes are no whole number of samples of 8 bytes", ["--type", "cf32_le", "--rate", CHIP_RATE, path]),
-            ("0 samples, and none left", [*chip_rate, self.keep("empty.raw", b"")]),
-            ("5 samples, and none left after --skip 5", [*chip_rate, "--skip", 5, path]),
-            ("--offset and --sum have no use", [*chip_rate, "--sum", path]),
-            ("--offset and --sum have no use", [*chip_rate, "--offset", 1, path]),
-            ("no multiple of the chip rate: --offset and --sum", ["--type", "ci8", "--rate", 2_048_000, "--offset", 0, path]),
-            ("--offset is 2, and a chip has 2 samples, 0 to 1", ["--type", "ci8", "--rate", 2_457_600, "--offset", 2, path]),
-            ("too few samples for a chip", ["--type", "ci16_le", "--rate", 8 * CHIP_RATE, "--sum", path]),
+            ("no samples left", [*chip_rate, self.keep("empty.raw", b"")]),
+            ("no samples left after --skip 5: it has 5", [*chip_rate, "--skip", 5, path]),
+            ("--offset and --sum have no effect at the chip rate", [*chip_rate, "--sum", path]),
+            ("--offset and --sum have no effect at the chip rate", [*chip_rate, "--offset", 1, path]),
+            ("--offset and --sum need a multiple of the chip rate", ["--type", "ci8", "--rate", 2_048_000, "--offset", 0, path]),
+            ("--offset is 2, but a chip has 2 samples: 0 to 1", ["--type", "ci8", "--rate", 2_457_600, "--offset", 2, path]),
+            ("too few samples for one chip", ["--type", "ci16_le", "--rate", 8 * CHIP_RATE, "--sum", path]),
             ("No such file", [*chip_rate, self.at("none.raw")]),
             ("Is a directory|no whole number of samples", [*chip_rate, self.folder]),
-            (r"chip 1 would be \(-1, 255\), and version 2 holds -128 to 127", [*chip_rate, "--format", 2, path]),
+            (r"chip 1 would be \(-1, 255\), but version 2 holds -128 to 127", [*chip_rate, "--format", 2, path]),
         ):
             with self.subTest(why):
                 self.refused(why, *words, self.out)
@@ -335,7 +335,7 @@ class Refusals(Imports):
         with open(path, "wb") as file:
             file.truncate(2 * 33_554_433)
         words = ["--type", "ci8", "--rate", CHIP_RATE, path, self.out]
-        self.refused("33554433 chips, and a file of version 1 holds at most 33554432: give --count", *words)
+        self.refused("33554433 chips, but a file of version 1 holds at most 33554432: give --count", *words)
 
     def test_words(self) -> None:
         path = self.keep("in.raw", recorded(SIXTEEN, "ci16_le"))

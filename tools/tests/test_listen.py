@@ -300,7 +300,7 @@ class ListenAgainTest(OneRecording):
         shell = f"trap '' XFSZ; ulimit -f {limit // 1024}; exec {words}"
         ran = subprocess.run(["bash", "-c", shell], capture_output=True, env=ENVIRONMENT)
         self.assertEqual(ran.returncode, 1)
-        self.assertIn("it has all lines up to there", ran.stderr.decode())
+        self.assertIn("all lines before are in the file", ran.stderr.decode())
         with open(out, "rb") as file:
             text = file.read()
         self.assertTrue(self.lines.startswith(text) and text.endswith(b"\n") and len(text) > 20_000)
@@ -392,7 +392,7 @@ class ServerTest(unittest.TestCase):
         said = []
         for line in run.stderr:
             said.append(line)
-            if sum("is gone" in line for line in said) == 3:
+            if sum("was lost" in line for line in said) == 3:
                 break
         run.send_signal(signal.SIGINT)
         run.communicate(timeout=60)
@@ -424,8 +424,8 @@ class NoServerTest(unittest.TestCase):
         with socket.create_server(("127.0.0.1", 0)) as free:
             port = free.getsockname()[1]
         for address, why in (
-            (wrong.address, "it is no server of rtl_tcp"),
-            (short.address, "it closed the connection before its header"),
+            (wrong.address, "this is not an rtl_tcp server"),
+            (short.address, "the server closed the connection before its header"),
             (f"rtl_tcp://127.0.0.1:{port}", "Connection refused"),
             ("rtl_tcp://127.0.0.1:99999", "Port out of range"),
             ("rtl_tcp://", "no address"),
@@ -477,7 +477,7 @@ class RefusedTest(unittest.TestCase):
             ([odd], "no whole number of samples"),
             ([odd, "--program", "/nowhere"], "whole number|/nowhere"),
             (["-", "--out", os.path.join(folder, "no", "file")], "No such file"),
-            (["-", "--out", lines], "line 2 is none that a listening wrote as text"),
+            (["-", "--out", lines], "line 2 is not one that listen writes as text"),
         ):
             status, wrote, said = listen(*STREAM, *words, data=b"")
             self.assertEqual((status, wrote, len(said.splitlines())), (1, b"", 1), said)
@@ -619,7 +619,7 @@ class SilenceTest(unittest.TestCase):
         seconds = [remark.seconds for remark in heard.remarks]
         self.assertEqual(len(seconds), 4)
         self.assertTrue(all(60 <= after - before < 63 for before, after in zip(seconds, seconds[1:])), seconds)
-        self.assertIn("half are searched, and half left out", heard.remarks[0].text)
+        self.assertIn("is searched, and the other half skipped", heard.remarks[0].text)
         self.assertRegex(heard.remarks[-1].text, r"^no pilot has stood out for 1\d\d s$")
 
 

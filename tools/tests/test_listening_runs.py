@@ -190,7 +190,7 @@ class LossTest(unittest.TestCase):
         fed(relay, self.cell[: 2 * half], first)
         fed(relay, self.cell[2 * (half + PERIOD) :], first + half)
         lines = self.heard(relay, collected)
-        self.assertEqual([remark.text[:18] for remark in collected.remarks], ["the time has moved"])
+        self.assertEqual([remark.text[:18] for remark in collected.remarks], ["the system time jumped"])
         again = [line for line in lines if line.startswith("pilot ")]
         self.assertEqual(len(again), 2)
         good = compared(Sent(script_of(1, 1, 0, PIECE)), lines[lines.index(again[1]) :], 12 * CHIP_RATE)
@@ -280,7 +280,7 @@ class FadeTest(unittest.TestCase):
 
     def late(self, seconds: float) -> str:
         """The remark that a run begins some seconds late."""
-        return f"the pilot is faded where a run was to begin: it begins {seconds:.1f} s later"
+        return f"the pilot was in a fade when a run was due: it begins {seconds:.1f} s late"
 
     def test_no_run_begins_within_a_fade(self) -> None:
         begin, end = self.BEGIN - 0.1, self.BEGIN + 0.5
@@ -295,7 +295,7 @@ class FadeTest(unittest.TestCase):
             lines = self.lines(self.faded(begin, end), [self.SEAM])
         # The second run and the third, half a second later, hear noise; the fourth doesn't.
         self.assertEqual(self.begun.call_count, 4)
-        noise = "a run hears noise in place of the pilot, and is begun anew"
+        noise = "a run locked to noise instead of the pilot, and is restarted"
         self.assertEqual(self.remarks(), [noise, self.late(1.0)])
         self.check_missing(lines, begin, end)
 
@@ -311,8 +311,8 @@ class FadeTest(unittest.TestCase):
         self.check_missing(lines, begin, end + self.LATEST)
         # A run begins without a pilot after 2.5 seconds, and then 3 seconds later; both hear noise, and a third is heard.
         self.assertEqual(self.begun.call_count, 4)
-        gone = "no run has begun beside the one that ends here: the pilot is faded"
-        noise = "a run hears noise in place of the pilot, and is begun anew"
+        gone = "the pilot is in a fade: no run has begun that could take over from the one that ends here"
+        noise = "a run locked to noise instead of the pilot, and is restarted"
         self.assertEqual(self.remarks(), [noise, gone, self.late(self.OVERLAP + 0.2)])
 
     def test_a_stronger_cell_is_told_once_a_run(self) -> None:
@@ -320,7 +320,7 @@ class FadeTest(unittest.TestCase):
         stronger = 2 * numpy.roll(self.cell.astype(numpy.int16), 2 * astray)
         self.lines(self.cell + stronger, [self.SEAM])
         self.assertEqual(self.begun.call_count, 2)
-        told_twice = [f"a run hears a pilot whose code is {-astray} chips from that of the lock: another cell's"] * 2
+        told_twice = [f"a run follows a pilot whose code is {-astray} chips from the lock's: another cell's"] * 2
         self.assertEqual(self.remarks(), told_twice)
 
 
@@ -387,7 +387,8 @@ class PhaseTest(unittest.TestCase):
 
     def test_another_pilot_is_told(self) -> None:
         # Where the numbers aren't the pilot's, so that it isn't found by them, the run begins 2.5 seconds later.
-        parts, late = made_cell(PROGRAM or "", 2.7), "the pilot is faded where a run was to begin: it begins 2.5 s later"
+        late = "the pilot was in a fade when a run was due: it begins 2.5 s late"
+        parts = made_cell(PROGRAM or "", 2.7)
         # Numbers that are some chips off, as another path's would be, and those of pilots 64 and 7 x 64 chips away.
         for astray, told in ((0, False), (32, False), (-32, False), (64, True), (-448, True)):
             first, collected = -64 * PN % PERIOD - astray, Collected()
@@ -397,7 +398,7 @@ class PhaseTest(unittest.TestCase):
                 relay.finish()
             finally:
                 relay.kill()
-            wanted = [f"a run hears a pilot whose code is {astray} chips from that of the lock: another cell's"]
+            wanted = [f"a run follows a pilot whose code is {astray} chips from the lock's: another cell's"]
             wanted = wanted if told else [late] if astray else []
             self.assertEqual([remark.text for remark in collected.remarks], wanted)
 

@@ -71,7 +71,7 @@ class Found(Recordings):
     def test_a_clock_beyond_that_is_refused(self) -> None:
         for clock in (125, -140):
             path = self.recorded("--clock", clock, "--ec-io", -9)
-            self.refused("the clock is more than 110 millionths off, and such a clock isn't followed", path)
+            self.refused("the clock is more than 110 millionths off, which is more than the lock follows", path)
 
     def test_at_the_chip_rate(self) -> None:
         path = self.recorded("--rate", CHIP_RATE, "--delay", 0.5, "--ec-io", -10, "--ideal", self.at("ideal.is95"))
@@ -153,7 +153,7 @@ class Written(Recordings):
 
     def test_what_does_not_fit_is_cut_and_said(self) -> None:
         self.locked(self.recorded("--ec-io", -9), "--scale", 5_000)
-        self.assertRegex(self.said, r"import_capture: \d+ parts were cut at the ends of the range")
+        self.assertRegex(self.said, r"import_capture: \d+ I and Q values were clipped")
 
     def test_little_more_than_a_period(self) -> None:
         found = self.locked(self.recorded("--ec-io", -9, "--clock", 5, "--carrier", 900, "--seconds", 0.028))
@@ -205,7 +205,7 @@ class Losses(Recordings):
         found = self.locked(path)
         # 700 samples of 2.4 million a second are 358.4 chips.
         self.assertIn(int(found["lost"]), (358, 359))
-        self.assertRegex(self.said, r"samples were lost at 0\.41\d\d s: zeros stand for 35[89] chips")
+        self.assertRegex(self.said, r"samples were lost at 0\.41\d\d s: 35[89] chips were replaced by zeros")
         got, sent = self.aligned(self.at("out.is95"), found)
         self.assertGreater(signal_to_noise(got[:450_000], sent[:450_000]), -6.5)
         self.assertGreater(signal_to_noise(got[600_000:], sent[600_000:]), -6.5)
@@ -228,7 +228,7 @@ class Losses(Recordings):
             with self.subTest(name):
                 numpy.concatenate(parts).tofile(data)
                 found = self.locked(path)
-                heard = [float(word) for word in self.said.split("is heard from ")[1].replace(" s", "").split()[:3:2]]
+                heard = [float(word) for word in self.said.split("is received from ")[1].replace(" s", "").split()[:3:2]]
                 self.assertAlmostEqual(heard[0], begin, delta=0.06)
                 if end is not None:
                     self.assertAlmostEqual(heard[1], end, delta=0.06)
@@ -272,14 +272,14 @@ class Refusals(Recordings):
     def test_a_signal_that_passes_the_threshold(self) -> None:
         words = (*self.raw(without_pilot(19, 1_200_000)), "--conjugate", "no")
         where = "within 21,000 Hz of the middle in the spectrum as it is"
-        why = rf"a pilot seemed to stand out {where}, and none is heard beside it: \d\.\d standard deviations"
+        why = rf"a pilot seemed to stand out {where}, but nothing confirms it: \d\.\d standard deviations"
         self.refused(why, *words, "--search", 21_000)
 
     def test_zeros_and_direct_current(self) -> None:
         self.refused("no pilot stands out", *self.raw(numpy.ones(200_000) + 1e-9), "--search", 1_000)
 
     def test_too_short(self) -> None:
-        self.refused("10240 chips are too few: a pilot is looked for in one period", *self.raw(self.noise(20_000)))
+        self.refused("10240 chips are too few: the search for a pilot needs one period", *self.raw(self.noise(20_000)))
 
     def test_a_rate_below_the_chip_rate(self) -> None:
         path, *_ = self.raw(self.noise(40_000))

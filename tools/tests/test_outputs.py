@@ -334,12 +334,12 @@ class ListeningFileTest(Folder):
             with self.subTest(kind), self.unchanged(out):
                 status, wrote, said = self.listen(out)
                 self.assertEqual((status, wrote, said.count("\n")), (1, b"", 1), said)
-                why = "(its last line|line [0-9]+) is none that a listening wrote as text"
+                why = "(its last line|line [0-9]+) is not one that listen writes as text"
                 self.assertRegex(said, f"^listen: {out}: {why}$")
         for kind, data in {"lines": self.LINES, "other objects": b'{"line":"notes"}\n', "a list": b"[1"}.items():
             out = self.keep("notes.jsonl", data)
             with self.subTest(kind), self.unchanged(out):
-                self.assertRegex(self.listen(out)[2], "is none that a listening wrote as JSON$")
+                self.assertRegex(self.listen(out)[2], "is not one that listen writes as JSON$")
 
     def test_broken_lines_of_a_listening_are_taken_away(self) -> None:
         last = self.LINES.splitlines(keepends=True)[-1]
@@ -366,7 +366,7 @@ class ListeningFileTest(Folder):
     def test_a_file_that_another_listening_holds(self) -> None:
         out = self.keep("lines.txt", self.LINES + b"frame at=71")
         with contextlib.closing(GrowingFile(out, False)), self.unchanged(out):
-            self.assertEqual(self.listen(out)[::2], (1, f"listen: {out}: another listening adds to it\n"))
+            self.assertEqual(self.listen(out)[::2], (1, f"listen: {out}: another process is appending to it\n"))
 
 
 class SpecialOutputTest(Folder):

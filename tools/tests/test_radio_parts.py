@@ -74,7 +74,7 @@ class Raw(unittest.TestCase):
     def test_faults(self) -> None:
         with self.assertRaisesRegex(Refused, "3 bytes are no whole number of samples of 2 bytes"):
             self.kept(bytes(3), "ci8")
-        with self.assertRaisesRegex(Refused, "none left after --skip 4"):
+        with self.assertRaisesRegex(Refused, "no samples left after --skip 4"):
             self.kept(bytes(8), "ci8", skip=4)
         recording = self.kept(numpy.array([0, 0, 0, numpy.nan], dtype="<f4").tobytes(), "cf32_le")
         with self.assertRaisesRegex(Refused, "sample 1 isn't finite"):

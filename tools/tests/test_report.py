@@ -445,13 +445,13 @@ class Recordings(Folder):
 
     def test_a_recording(self) -> None:
         meta = self.meta()
-        self.imports(["3 parts were cut"])
+        self.imports(["3 I and Q values were clipped"])
         page = self.page("--fingers", "3", "--import=--skip 100 --search 3000", file=meta)
         options = self.taken[0]
         self.assertEqual((options.recording, options.fingers, options.skip, options.search), (meta, 3, 100, 3_000))
         self.assertFalse(os.path.exists(options.file))
         self.assert_holds(page, "--lock --fingers=3 --skip 100 --search 3000")
-        for text in ("1999.6 Hz above", "4.989 ppm", "2,400,000 samples a second, cu8", "3 parts were cut", "878490000", "-10.01 dB"):
+        for text in ("1999.6 Hz above", "4.989 ppm", "2,400,000 samples a second, cu8", "3 I and Q values were clipped", "878490000", "-10.01 dB"):
             self.assert_holds(page, text)
         self.assertEqual(len(self.plots(page)), 5)
 

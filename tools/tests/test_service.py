@@ -232,7 +232,7 @@ class AppendTest(unittest.TestCase):
     def test_a_line_that_is_no_origin(self) -> None:
         for line in (b"origin\n", b"origin utc=now\n", b"origin utc=2026-13-30T21:30:00.000000Z\n", self.origin + b"x"):
             self.keep(LINE + line)
-            self.assertRegex(self.listen("-", "--out", self.out, "--append")[1], "none that a listening wrote")
+            self.assertRegex(self.listen("-", "--out", self.out, "--append")[1], "not one that listen writes")
             self.assertEqual(read(self.out), LINE + line)
 
     def test_broken_origins_are_taken_away(self) -> None:
@@ -295,7 +295,7 @@ class KilledRunTest(unittest.TestCase):
     @staticmethod
     def remark(name: str) -> str:
         """What is said of a run that was killed."""
-        return f"a run of cdma_replay follow was ended by {name}: another one takes its place"
+        return f"a run of cdma_replay follow was ended by {name}: another one replaces it"
 
     def test_runs_that_are_killed_again_and_again(self) -> None:
         killed = Handset(os.path.join(temporary_folder(self.addCleanup), "killed"))
