@@ -24,6 +24,7 @@ class BadFile(Exception):
 
     def __init__(self, kind: str, place: int) -> None:
         super().__init__(f"{kind} at {place}")
+        self.kind, self.place = kind, place
 
 
 @dataclass(frozen=True)

@@ -28,7 +28,7 @@ from cdma_tools.overwriting import InputFile, OutputFile
 from cdma_tools.reading import all_of
 from cdma_tools.scripting import arguments as program_arguments
 from cdma_tools.scripting import beginning, showing
-from cdma_tools.scripting.checking import Fault, check, verdict
+from cdma_tools.scripting.checking import Fault, check, fault_text, verdict
 from cdma_tools.scripting.values import LONGEST_SHOWN
 from cdma_tools.writing import write_out
 
@@ -131,12 +131,6 @@ def data_of(path: str) -> tuple[bytes, str]:
         return all_of(file, path, MOST_BYTES), path
 
 
-def fault_line(fault: Fault, name: str) -> str:
-    """Returns the line that reports a fault."""
-    value = f"{fault.value[:LONGEST_SHOWN]}: " if fault.value.strip() else ""
-    return printable(f"{name}:{fault.line}:{fault.column}: {value}{fault.reason}") + "\n"
-
-
 def fault_object(fault: Fault) -> str:
     """Returns the JSON object that reports a fault."""
     return json.dumps({**dataclasses.asdict(fault), "kind": fault.kind.value}) + "\n"
@@ -147,7 +141,7 @@ def run_check(options: argparse.Namespace) -> int:
     data, name = data_of(options.script)
     found = check(data, options.bits)
     for fault in found[: options.most]:
-        sys.stdout.write(fault_object(fault) if options.json else fault_line(fault, name))
+        sys.stdout.write(fault_object(fault) if options.json else fault_text(fault, name) + "\n")
     if options.json:
         return 1 if found else 0
     if len(found) > options.most:
@@ -162,7 +156,7 @@ def run_show(options: argparse.Namespace) -> int:
     data, name = data_of(options.script)
     found = check(data, options.bits)
     if found:
-        raise Refused(f"{fault_line(found[0], name).rstrip()} (check reports all faults)")
+        raise Refused(f"{fault_text(found[0], name)} (check reports all faults)")
     sys.stdout.write(showing.shown(data.decode("ascii"), options.bits))
     return 0
 

@@ -9,9 +9,10 @@ import difflib
 import enum
 import re
 
+from cdma_tools.errors import printable
 from cdma_tools.scripting import statements
 from cdma_tools.scripting.statements import Cycle
-from cdma_tools.scripting.values import BitText, Commands, Reader, Wrong, quoted
+from cdma_tools.scripting.values import LONGEST_SHOWN, BitText, Commands, Reader, Wrong, quoted
 
 MOST_BYTES = 1_048_576
 MOST_SAMPLES = {16: 33_554_432, 8: 67_108_864}
@@ -91,6 +92,12 @@ def verdict(faults: list[Fault]) -> str | None:
         if first:
             return first.verdict
     return None
+
+
+def fault_text(fault: Fault, name: str) -> str:
+    """Returns the line, without its line feed, that reports a fault of the script with a name."""
+    value = f"{fault.value[:LONGEST_SHOWN]}: " if fault.value.strip() else ""
+    return printable(f"{name}:{fault.line}:{fault.column}: {value}{fault.reason}")
 
 
 def words_of(line: str) -> list[Word]:
