@@ -9,11 +9,12 @@ from collections.abc import Iterable, Iterator
 
 from cdma_tools import __version__
 from cdma_tools.errors import Refused
-from cdma_tools.packaging.tree import DISSECTOR, DOCUMENTS, EXECUTABLE, MANUALS, NAME, PLAIN, ZSH, Entry, put
+from cdma_tools.packaging.tree import DISSECTOR, DOCUMENTS, EXECUTABLE, MANUALS, NAME, PLAIN, SHARED, ZSH, Entry, put
 
 ARCHITECTURE = "amd64"
 VENDOR_ZSH = "share/zsh/vendor-completions"  # where zsh looks for those of packages
 PLUGINS = "lib/x86_64-linux-gnu/wireshark/plugins"  # where Wireshark looks for dissectors of packages
+MODULES = "lib/python3/dist-packages"  # where Debian's Python looks for modules of packages
 MAINTAINER = "Rolvenst maintainers <maintainers@users.noreply.rolvenst.example>"
 DATE = "Sun, 29 Nov 2026 12:00:00 +0000"
 SECONDS = (
@@ -75,6 +76,8 @@ def as_packaged(files: Iterable[Entry]) -> Iterator[Entry]:
             yield Entry(f"usr/{place.replace(ZSH, VENDOR_ZSH)}", data, mode)
         if place == DISSECTOR:
             yield Entry(f"usr/{PLUGINS}/{os.path.basename(place)}", data, mode)
+    # Lets every program of Debian's Python import the library `cdma`.
+    yield Entry(f"usr/{MODULES}/{NAME}.pth", f"/usr/{SHARED}\n".encode(), PLAIN)
     yield Entry(f"usr/{DOCUMENTS}/copyright", COPYRIGHT.encode(), PLAIN)
     yield Entry(f"usr/{DOCUMENTS}/changelog.gz", packed(CHANGELOG.encode()), PLAIN)
     yield Entry(f"usr/share/lintian/overrides/{NAME}", OVERRIDES.encode(), PLAIN)

@@ -22,7 +22,7 @@ MANUALS = "share/man/man1"
 ZSH = "share/zsh/site-functions"  # which zsh looks at below /usr/local
 PLAIN, EXECUTABLE = 0o644, 0o755
 # Folders of the checkout that are laid as they are, without what a run of Python leaves in them.
-FOLDERS = ("cdma_tools", "model", "conformance", "examples")
+FOLDERS = ("cdma", "cdma_tools", "model", "conformance", "examples")
 # Pages outside docs/ to which those that are installed lead, each at its place in the checkout.
 PAGES = ("README.md", "CONTRIBUTING.md", "CHANGELOG.md", "conformance/README.md")
 # What a command is: it finds the package beside it, wherever the prefix lies, and leaves nothing behind.

@@ -49,14 +49,14 @@ class Code(unittest.TestCase):
     seconds = 60
 
     def test_each_function_has_types(self) -> None:
-        for place, module in [*modules("cdma_tools"), *modules("tools/tests")]:
+        for place, module in [*modules("cdma"), *modules("cdma_tools"), *modules("tools/tests")]:
             for node in ast.walk(module):
                 if isinstance(node, (ast.FunctionDef, ast.AsyncFunctionDef)):
                     with self.subTest(f"{place}:{node.lineno} {node.name}"):
                         self.assertEqual(untyped(node), [])
 
     def test_each_says_what_it_is_for(self) -> None:
-        for place, module in modules("cdma_tools"):
+        for place, module in [*modules("cdma"), *modules("cdma_tools")]:
             with self.subTest(place):
                 self.assertTrue(ast.get_docstring(module))
             for node in definitions(module.body):
@@ -69,7 +69,7 @@ class Code(unittest.TestCase):
             for node in ast.walk(module):
                 names = [name.name for name in node.names] if isinstance(node, ast.Import) else []
                 names += [node.module or ""] if isinstance(node, ast.ImportFrom) else []
-                self.assertFalse([name for name in names if name.split(".")[0] in ("cdma_tools", "tools")], place)
+                self.assertFalse([name for name in names if name.split(".")[0] in ("cdma", "cdma_tools", "tools")], place)
 
     def test_no_tool_changes_where_python_looks_for_modules(self) -> None:
         """Nothing in the package reaches for modules by itself: so no class is loaded twice."""
@@ -84,14 +84,14 @@ class Code(unittest.TestCase):
 
     @unittest.skipUnless(importlib.util.find_spec("mypy"), "no mypy: install the package mypy")
     def test_mypy(self) -> None:
-        parts = ["cdma_tools", "model", "tools/tests"]
+        parts = ["cdma", "cdma_tools", "model", "tools/tests"]
         words = [PYTHON, "-m", "mypy", "--cache-dir", os.devnull, *parts]  # strict, by pyproject.toml; nothing is kept
         ran = subprocess.run(words, capture_output=True, text=True, cwd=ROOT, timeout=600)
         self.assertEqual(ran.returncode, 0, ran.stdout[-4_000:])
 
     @unittest.skipUnless(importlib.util.find_spec("pyflakes"), "no pyflakes: install the package python3-pyflakes")
     def test_pyflakes(self) -> None:
-        words = [PYTHON, "-m", "pyflakes", "cdma_tools", "model", "tools/tests"]
+        words = [PYTHON, "-m", "pyflakes", "cdma", "cdma_tools", "model", "tools/tests"]
         ran = subprocess.run(words, capture_output=True, text=True, cwd=ROOT, timeout=600)
         self.assertEqual((ran.returncode, ran.stdout), (0, ""))
 

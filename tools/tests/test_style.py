@@ -27,7 +27,7 @@ from tools.tests.prose import (
 needs("numpy", "scipy", "matplotlib", "plotly", "tqdm", "distributed", "markupsafe")
 
 # Folders whose docstrings are held.
-FOLDERS = ("cdma_tools", "model")
+FOLDERS = ("cdma", "cdma_tools", "model")
 # Where a pattern is right. Each exception is needed, or a test fails.
 ALLOWED: tuple[Allowed, ...] = ()
 # Sentences that read as if translated word by word, as pages and docstrings had them; none may come back.

@@ -1,0 +1,58 @@
+"""The tools of Rolvenst as a library: make a cell's samples, and follow what a handset hears of them.
+
+    import cdma
+
+    cell = cdma.Cell(pn=511)
+    cell.add_sync()
+    for event in cdma.follow(cdma.make(cell)):
+        print(event)
+
+The functions run the program `cdma_replay`, which is found as the tools find it, or the Python model after
+`cdma.use_model()`. They print nothing and set no signal handlers. Parameters have the names and bounds of the options
+(docs/FORMATS.md). Each error is a `cdma.Error`, whose text is the line that a tool prints.
+
+Names without an underscore here are public, and change only with the major version.
+"""
+
+from cdma.bits import Bits, bit_text, bits
+from cdma.cells import Cell, make, read_script
+from cdma.chips import Chips, load, save
+from cdma.errors import Error, FileError, NoProgramError, ParameterError, ScriptError
+from cdma.events import Event, Frame, Page, Pilot, PilotSets, Rank, RawMessage, Sync, Table, TrafficMessage
+from cdma.programs import use_model, use_program
+from cdma.receiving import Run, find, follow, survey
+from cdma_tools import __version__
+
+__all__ = [
+    "Bits",
+    "Cell",
+    "Chips",
+    "Error",
+    "Event",
+    "FileError",
+    "Frame",
+    "NoProgramError",
+    "Page",
+    "ParameterError",
+    "Pilot",
+    "PilotSets",
+    "Rank",
+    "RawMessage",
+    "Run",
+    "ScriptError",
+    "Sync",
+    "Table",
+    "TrafficMessage",
+    "__version__",
+    "bit_text",
+    "bits",
+    "find",
+    "follow",
+    "load",
+    "make",
+    "read_script",
+    "save",
+    "survey",
+    "use_model",
+    "use_program",
+]

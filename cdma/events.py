@@ -1,0 +1,219 @@
+"""Events: what a handset hears, each as a dataclass whose fields have the names of the lines (docs/FORMATS.md)."""
+
+import dataclasses
+import html
+from collections.abc import Callable, Iterable
+from typing import Any, ClassVar, TypeVar
+
+from cdma.errors import Error
+from cdma_tools.lines import read_line, spell_line
+
+MOST_SHOWN = 20  # rows of a table in a notebook
+
+
+@dataclasses.dataclass(frozen=True, slots=True)
+class Event:
+    """Anything that the program writes in one line; `str(event)` is that line."""
+
+    first: ClassVar[str]
+
+    def to_dict(self) -> dict[str, Any]:
+        """Returns the JSON object of the line, as `tools/lines` writes it."""
+        found = {"line": self.first}
+        for field in dataclasses.fields(self):
+            value = getattr(self, field.name)
+            if field.name == "fields":
+                found |= plain(value)
+            elif value is not None:
+                found[field.name] = plain(value)
+        return found
+
+    def __str__(self) -> str:
+        """Returns the line, without a line feed."""
+        return spell_line(self.to_dict())
+
+    @property
+    def kind(self) -> str:
+        """The kind of the event, as `tools/lines --csv` names it: `sync`, `paging-system`, `frame`, `raw-sync`."""
+        second = getattr(self, "message", None) or getattr(self, "channel", None)
+        return f"{self.first}-{second}" if second else self.first
+
+
+@dataclasses.dataclass(frozen=True, slots=True)
+class Pilot(Event):
+    """The pilot that the search finds: `phase`, 0 to 32,767 chips, and its `energy`."""
+
+    first: ClassVar[str] = "pilot"
+    phase: int
+    energy: int
+
+
+@dataclasses.dataclass(frozen=True, slots=True)
+class Rank(Event):
+    """The strength of pilot `pn`: `energy` at its best phase, `delta` chips above its own."""
+
+    first: ClassVar[str] = "survey"
+    pn: int
+    delta: int
+    energy: int
+
+
+@dataclasses.dataclass(frozen=True, slots=True)
+class Sync(Event):
+    """A sync message, known at sample `at`, with the standard's fields; `freq` is None if the message has none.
+
+    `rest` has the bits after the fields as N:HEX.
+    """
+
+    first: ClassVar[str] = "sync"
+    at: int
+    prev: int
+    min: int
+    sid: int
+    nid: int
+    pn: int
+    lc: int
+    time: int
+    lp: int
+    ltm: int
+    daylt: int
+    prat: int
+    rest: str
+    freq: int | None = None
+
+
+@dataclasses.dataclass(frozen=True, slots=True)
+class Page(Event):
+    """A message of a paging channel, known at sample `at`.
+
+    `message` is `system`, `neighbors`, `channels` or `other`, and `fields` has its fields by their names in the line.
+    """
+
+    first: ClassVar[str] = "paging"
+    at: int
+    message: str
+    fields: dict[str, Any]
+
+
+@dataclasses.dataclass(frozen=True, slots=True)
+class Frame(Event):
+    """A frame of a traffic channel that ended at sample `at`: its `rate` in bits per second, and whether it is `good`.
+
+    `bits` are its information bits as N:HEX, and `commands` its sixteen power control bits.
+    """
+
+    first: ClassVar[str] = "frame"
+    at: int
+    rate: int
+    good: bool
+    bits: str
+    commands: tuple[int, ...]
+
+
+@dataclasses.dataclass(frozen=True, slots=True)
+class TrafficMessage(Event):
+    """A message of the traffic channel, known at sample `at`, with the fields of its head.
+
+    `message` is `system`, `neighbors`, `handoff` or `other`, and `fields` has the other fields by their names in the
+    line.
+    """
+
+    first: ClassVar[str] = "traffic"
+    at: int
+    ack: int
+    seq: int
+    req: int
+    enc: int
+    message: str
+    fields: dict[str, Any]
+
+
+@dataclasses.dataclass(frozen=True, slots=True)
+class PilotSets(Event):
+    """The pilot sets at sample `at`, whose system time is `time` units of 80 ms.
+
+    `active` has the offset, Walsh row and power control subchannel of each active pilot, and `candidate` the offsets of
+    candidates. `report` says whether a pilot strength report is due.
+    """
+
+    first: ClassVar[str] = "sets"
+    at: int
+    time: int
+    active: tuple[tuple[int, ...], ...]
+    candidate: tuple[int, ...]
+    report: bool
+
+
+@dataclasses.dataclass(frozen=True, slots=True)
+class RawMessage(Event):
+    """A message as received, on the `channel` `sync`, `paging` or `traffic`: its whole capsule in `bits`, as N:HEX."""
+
+    first: ClassVar[str] = "raw"
+    at: int
+    channel: str
+    bits: str
+
+
+EVENTS: tuple[type[Event], ...] = (Pilot, Rank, Sync, Page, Frame, TrafficMessage, PilotSets, RawMessage)
+KINDS = {kind.first: kind for kind in EVENTS}
+NAMES = {kind: frozenset(field.name for field in dataclasses.fields(kind)) for kind in EVENTS}
+FLAGS = ("good", "report")  # fields that are true or false
+EventType = TypeVar("EventType", bound=Event)
+
+
+def plain(value: Any) -> Any:
+    """Returns a value as JSON has it: lists for tuples, and numbers for what is true or false."""
+    if isinstance(value, tuple):
+        return [plain(part) for part in value]
+    return int(value) if isinstance(value, bool) else value
+
+
+def held(name: str, value: Any) -> Any:
+    """Returns a value of a line's object as an event has it."""
+    if isinstance(value, list):
+        return tuple(held(name, part) for part in value)
+    return bool(value) if name in FLAGS else value
+
+
+def event_of(line: str) -> Event:
+    """Returns the event of a line of the program, without its line feed."""
+    read = read_line(line)
+    kind = KINDS[read.pop("line")]
+    names = NAMES[kind]
+    values = {name: held(name, value) for name, value in read.items() if name in names}
+    if "fields" in names:
+        values["fields"] = {name: value for name, value in read.items() if name not in names}
+    return kind(**values)
+
+
+class Table(list[EventType]):
+    """A list of events of one kind, which a notebook shows as a table."""
+
+    def to_pandas(self) -> Any:
+        """Returns a `pandas.DataFrame` with a column for each field; raises `cdma.Error` without pandas."""
+        try:
+            import pandas
+        except ModuleNotFoundError:
+            raise Error("no pandas: install the package python3-pandas") from None
+        return pandas.DataFrame(rows_of(self))
+
+    def _repr_html_(self) -> str:
+        """Returns the first rows as an HTML table."""
+        return html_table(rows_of(self[:MOST_SHOWN]), len(self))
+
+
+def rows_of(events: Iterable[Event]) -> list[dict[str, Any]]:
+    """Returns the fields of events by their names, without the line's first word."""
+    return [{name: value for name, value in event.to_dict().items() if name != "line"} for event in events]
+
+
+def html_table(rows: list[dict[str, Any]], count: int, shown: Callable[[Any], str] = str) -> str:
+    """Returns rows as an HTML table, with a line below it if they are fewer than `count`."""
+    names = list(dict.fromkeys(name for row in rows for name in row))
+    head = "".join(f"<th>{html.escape(name)}</th>" for name in names)
+    body = "".join(
+        "<tr>" + "".join(f"<td>{html.escape(shown(row.get(name, '')))}</td>" for name in names) + "</tr>"
+        for row in rows
+    )
+    more = f"<p>{len(rows)} of {count:,} rows</p>" if len(rows) < count else ""
+    return f"<table><thead><tr>{head}</tr></thead><tbody>{body}</tbody></table>{more}"

@@ -1,0 +1,58 @@
+"""Parameters: values are checked by the bounds of the program's options, whose names they have."""
+
+import operator
+from collections.abc import Mapping
+from typing import SupportsIndex
+
+from cdma.errors import ParameterError
+from cdma_tools.scripting import arguments
+from cdma_tools.scripting.values import Wrong
+
+Number = SupportsIndex  # int, and numpy's whole numbers
+HexNumber = SupportsIndex | str  # a number, or its hex digits
+
+
+def whole(name: str, value: object) -> int:
+    """Returns a whole number; raises ParameterError for anything that isn't one."""
+    try:
+        return operator.index(value)  # type: ignore[arg-type]
+    except TypeError:
+        raise ParameterError(name, f"a whole number is needed, not {value!r:.60}") from None
+
+
+def number_within(name: str, value: object, least: int, most: int) -> int:
+    """Returns a whole number from `least` to `most`."""
+    number = whole(name, value)
+    if not least <= number <= most:
+        raise ParameterError(name, f"{number} is out of range ({least:,} to {most:,})")
+    return number
+
+
+def hex_text(name: str, value: object, digits: int) -> str:
+    """Returns a number in hex digits, from a number or from such a text."""
+    if isinstance(value, str):
+        return value
+    number = whole(name, value)
+    if number < 0:
+        raise ParameterError(name, f"{number} is negative")
+    return f"{number:0{digits}x}"
+
+
+def option_words(command: str, values: Mapping[str, object]) -> list[str]:
+    """Returns the command of the program with the options that aren't None; raises ParameterError if one is wrong."""
+    given: dict[str, int | None] = {}
+    words = [command]
+    for name, value in values.items():
+        if value is None:
+            continue
+        bounds = arguments.COMMANDS[command][name]
+        text = hex_text(name, value, 8) if isinstance(bounds, str) else str(whole(name, value))
+        try:
+            given[name] = arguments.number_of(name, text, bounds)
+        except Wrong as why:
+            raise ParameterError(name, str(why)) from None
+        words += [f"--{name}", text]
+    for fault in arguments.group_faults(command, given):
+        name, _, reason = fault.replace("--", "").partition(" ")
+        raise ParameterError(name, reason)
+    return words
