@@ -1,75 +1,41 @@
 -- What is written of a file, slot by slot.
-use Rattle.std.proofs.Common.{◌≡◌, ℕ, ◌+◌, ◌-◌, ◌*◌, ◌<◌, ◌≤◌, ◌&&◌, Bool, true, false, List, [], length, filter, refl, sym, ap, ◌∙◌, arith}
-use Rattle.std.proofs.Common.{inl, inr, nat_le, nat_lt, Option, None, Some, subst, zero, suc, ◌++◌, take, drop, ℤ, ◌∷◌, map, length-append}
-use Rattle.std.specs.Prelude.{if◌then◌else◌}
-use Rattle.std.specs.List.{Contains, flat_map}
+use Rattle.std.proofs.Common.{nat_le, nat_lt}
 use Rattle.std.proofs.Math.Bool.{and-false, and-true}
-use Rattle.std.proofs.lemmas.Bool.{and_from, and_parts, cases_Bool, false_from_ne_true, le-leb}
-use Rattle.chip_core.specs.Bits.{places}
-use Rattle.chip_core.proofs.Ranges.{filter_enough, filter_ext_places, filter_none_places, flat_map_ext_filter_places, flat_map_ext_places}
-use Rattle.chip_core.specs.declared.sample.Sample.{Sample}
-use Rattle.chip_core.specs.declared.width.Width.{Width}
-use Rattle.slot_mode.specs.Slots.{is_monitored}
-use Rattle.cell_plan.specs.Pages.{sent_paging_rate, page_cycle}
-use Rattle.cell_plan.specs.declared.plan.CellPlan.{CellPlan}
-use Rattle.cell_plan.specs.declared.plan.PagingPlan.{PagingPlan}
-use Rattle.cell_plan.specs.declared.plan.SyncPlan.{SyncPlan}
-use Rattle.heard_events.specs.Channels.{channel_stream}
-use Rattle.heard_events.specs.Marks.{mark}
-use Rattle.rake_finger.specs.Streams.{is_in_file, frame_softs}
-use Rattle.heard_events.specs.Streams.{Stream}
-use Rattle.heard_events.specs.Tuning.{Tuning}
+use Rattle.std.proofs.lemmas.Bool.{and_parts}
+use Rattle.clean_frames.proofs.Common.{take_at, flat_map-add, take-append-add, size_large, is_between}
+use Rattle.clean_link.proofs.Common.{◌≡◌, ℕ, ◌+◌, ◌-◌, ◌*◌, ◌<◌, ◌≤◌, ◌&&◌, Bool, true, false, List, [], length, filter, refl, sym, ap, ◌∙◌}
+use Rattle.clean_link.proofs.Common.{arith, inl, inr, Option, None, Some, subst, zero, suc, ◌++◌, take, drop, ℤ, ◌∷◌, map, length-append}
+use Rattle.clean_link.proofs.Common.{if◌then◌else◌, Contains, flat_map, and_from, cases_Bool, false_from_ne_true, le-leb, places}
+use Rattle.clean_link.proofs.Common.{filter_enough, filter_ext_places, filter_none_places, flat_map_ext_filter_places, flat_map_ext_places}
+use Rattle.clean_link.proofs.Common.{Sample, Width, sent_paging_rate, page_cycle, CellPlan, PagingPlan, SyncPlan, mark, is_in_file}
+use Rattle.clean_link.proofs.Common.{frame_softs, Stream, Tuning, Mark, IsOnPath, IsTrueMark, FromMark, MarkIsAt, PagingFrameHasSigns}
+use Rattle.clean_link.proofs.Common.{IsReceivable, IsStatedPaging, All-contains, CheckForm, Rate, HasSign, cycle_frame_bits, cycled}
+use Rattle.clean_link.proofs.Common.{paging_frame_size, cycle_of, drop_at, flat_map-next, flat_map-zero, data_shape, sent, repeats_of}
+use Rattle.clean_link.proofs.Common.{length-sent, IsAllowed, continued_symbols, option_to_list, flat_map-map, capsule, M30, half_frame_body}
+use Rattle.clean_link.proofs.Common.{half_frame_capsule_ending, paging_reading, PagingMessage, as_spelled_page, ReadPage}
+use Rattle.clean_link.proofs.Common.{capsules_with_frames, cycle_half_frames, frame_capsules, placed, sending_of, Placed}
+use Rattle.clean_signal.proofs.Common.{HaveSigns, take-append-le, Free, own_bits, Channel, length-frames, span_codeword, mul-le-mul_right}
+use Rattle.heard_events.proofs.Common.{channel_stream}
 use Rattle.heard_events.specs.declared.channel.Channel.TheVariants.{Paging}
-use Rattle.heard_events.specs.declared.mark.Mark.{Mark}
-use Rattle.event_tap.specs.SlotLines.{frame_of_slot, frame_of_slot_end, is_heard, is_slot_within, lines_behind, lines_by_times}
-use Rattle.event_tap.specs.SlotLines.{lines_of_slot, lines_of_slots, slot_bound, slot_lines, slot_softs, slot_pages}
-use Rattle.clean_link.specs.CleanLink.{IsOnPath, IsTrueMark}
-use Rattle.clean_link.specs.SentSigns.{FromMark, MarkIsAt, PagingFrameHasSigns}
-use Rattle.cell_plan.specs.Stated.{IsReceivable, IsStatedPaging}
-use Rattle.clean_link.proofs.frames.Times.{paging_alone, paging_file_from, paging_file_to, known_at_once}
-use Rattle.clean_signal.proofs.frames.Times.{IsAlone}
+use Rattle.paging_message.proofs.Common.{capsules_in}
+use Rattle.clean_frames.proofs.pages.CyclesBack.{stated_pages, cycle_some, page_sendings_back}
 use Rattle.clean_link.proofs.frames.ChannelFrames.{paging_frame_shown, read_after}
+use Rattle.clean_link.proofs.frames.Times.{paging_alone, paging_file_from, paging_file_to, known_at_once}
+use Rattle.clean_link.proofs.pages.Back.{flat_map-flat_map, pages_placed, told_each, IsPlaced, page_read}
+use Rattle.clean_signal.proofs.frames.Heard.{order_of}
+use Rattle.clean_signal.proofs.frames.Scores.{ShowCodeword, shown_codeword_own, whole_frames, frame_at, length-before, sent_as_one}
+use Rattle.clean_signal.proofs.frames.Times.{IsAlone}
 use Rattle.clean_signal.proofs.noise.Near.{zipped_frames}
+use Rattle.event_tap.specs.SlotLines.{frame_of_slot, frame_of_slot_end, is_heard, is_slot_within, lines_behind, lines_by_times}
+use Rattle.event_tap.specs.SlotLines.{lines_of_slot, slot_bound, slot_lines, slot_softs, slot_pages}
+use Rattle.frame_decoder.specs.Spans.{paging_channel}
+use Rattle.slot_mode.specs.Frames.{slot_bits, slot_frame_bits}
+use Rattle.slot_mode.specs.Slots.{is_monitored}
 use Rattle.slot_link.specs.Laws.{HearsSlots, SlotTextsComeBack, AreSlotPages, SlotsComeBack, SlotBitsComeBackBySigns, SpansComeBackBySigns}
 use Rattle.slot_link.specs.Laws.{SlotPagesComeBack, monitored_slots, sent_slot, slots_behind_mark, slots_after, slots_to_end, sent_in_span}
 use Rattle.slot_link.specs.Laws.{pages_in_slot, bits_in_slot, placed_message, round_in_slot}
-use Rattle.std.proofs.lemmas.List.Elements.{All-contains}
-use Rattle.chip_core.specs.declared.check_form.CheckForm.{CheckForm}
-use Rattle.quality_bits.specs.declared.rate.Rate.{Rate}
-use Rattle.viterbi.specs.Signs.{HasSign, HaveSigns}
-use Rattle.slot_mode.specs.Frames.{slot_bits, slot_frame_bits}
-use Rattle.cell_plan.specs.PageCycles.{cycle_frame_bits, cycled, paging_frame_size}
-use Rattle.cell_plan.specs.Signal.{cycle_of}
 use Rattle.heard_events.specs.PagingStreams as streams
-use Rattle.clean_signal.proofs.frames.Heard.{order_of}
-use Rattle.clean_frames.proofs.pages.CyclesBack.{stated_pages, cycle_some, page_sendings_back}
-use Rattle.std.proofs.lemmas.List.{drop_at, take_at, take-append-le}
-use Rattle.chip_core.proofs.Counted.{flat_map-add, flat_map-next, flat_map-zero}
-use Rattle.symbol_path.specs.SentOrder.{data_shape, sent}
-use Rattle.quality_bits.specs.TrafficCodewords.{repeats_of}
-use Rattle.symbol_path.proofs.Agreement.{length-sent}
-use Rattle.viterbi.specs.Best.{IsAllowed}
-use Rattle.viterbi.specs.declared.codeword.Ends.TheVariants.{Free}
-use Rattle.frame_decoder.specs.Spans.{own_bits, paging_channel, Channel}
 use Rattle.frame_decoder.specs.declared.span_format.FrameKind.TheVariants as kinds
-use Rattle.frame_decoder.proofs.Parts.{length-frames}
-use Rattle.cell_plan.specs.Sendings.{continued_symbols}
-use Rattle.clean_signal.specs.Signals.{span_codeword}
-use Rattle.clean_signal.proofs.frames.Scores.{ShowCodeword, shown_codeword_own, whole_frames, frame_at, length-before, sent_as_one}
-use Rattle.std.specs.Option.{option_to_list}
-use Rattle.std.proofs.Math.Nat.{mul-le-mul_right}
-use Rattle.std.proofs.Math.Seq.{take-append-add}
-use Rattle.std.proofs.lemmas.List.Folds.{flat_map-map}
-use Rattle.quality_bits.specs.Capsules.{capsule}
-use Rattle.quality_bits.specs.declared.kind.Kind.TheVariants.{M30}
-use Rattle.paging_message.specs.HalfFrames.{capsules_in, half_frame_body, half_frame_capsule_ending}
-use Rattle.paging_message.specs.Reading.{paging_reading}
-use Rattle.paging_message.specs.declared.message.PagingMessage.{PagingMessage}
-use Rattle.cell_plan.proofs.LaidPages.{size_large}
-use Rattle.heard_events.specs.PagingEvents.{as_spelled_page}
-use Rattle.clean_link.specs.HeardPages.{ReadPage}
-use Rattle.clean_frames.specs.WholePages.{capsules_with_frames, cycle_half_frames, frame_capsules, is_between, placed, sending_of, Placed}
-use Rattle.clean_link.proofs.pages.Back.{flat_map-flat_map, pages_placed, told_each, IsPlaced, page_read}
 
 -- ---- any span
 

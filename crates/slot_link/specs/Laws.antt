@@ -1,41 +1,26 @@
 -- The laws of slots, by the signs of a paging channel's soft values.
+use Rattle.std.specs.List.{Contains, flat_map}
 use Rattle.std.specs.Prelude.{ℕ, ◌+◌, ◌*◌, ◌<◌, ◌≡◌, Bool, List, length, ℤ, Some, ◌-◌, ◌/◌}
 use Rattle.std.specs.Prelude.{if◌then◌else◌, nat_lt, [], filter, Option, None, map}
-use Rattle.std.specs.List.{Contains, flat_map}
-use Rattle.chip_core.specs.Air.{superframe_chips}
-use Rattle.chip_core.specs.Bits.{places}
-use Rattle.chip_core.specs.declared.check_form.CheckForm.{CheckForm}
-use Rattle.chip_core.specs.declared.sample.Sample.{Sample}
-use Rattle.chip_core.specs.declared.width.Width.{Width}
-use Rattle.symbol_path.specs.SentOrder.{sent}
-use Rattle.quality_bits.specs.declared.rate.Rate.{Rate}
-use Rattle.viterbi.specs.Signs.{HaveSigns}
-use Rattle.frame_decoder.specs.Spans.{Channel, own_bits, paging_channel}
-use Rattle.slot_mode.specs.Frames.{slot_bits}
-use Rattle.cell_plan.specs.PageCycles.{cycled, paging_frame_size}
-use Rattle.cell_plan.specs.Pages.{page_cycle, sent_paging_rate}
-use Rattle.cell_plan.specs.Sendings.{continued_symbols}
-use Rattle.cell_plan.specs.declared.plan.CellPlan.{CellPlan}
-use Rattle.cell_plan.specs.declared.plan.Page.{Page}
-use Rattle.cell_plan.specs.declared.plan.PagingPlan.{PagingPlan}
-use Rattle.cell_plan.specs.declared.plan.SyncPlan.{SyncPlan}
-use Rattle.heard_events.specs.Channels.{channel_stream}
-use Rattle.heard_events.specs.Marks.{mark}
-use Rattle.heard_events.specs.PagingStreams as heard
-use Rattle.heard_events.specs.Tuning.{Tuning}
-use Rattle.heard_events.specs.declared.channel.Channel.TheVariants as channels
-use Rattle.heard_events.specs.declared.mark.Mark.{Mark}
-use Rattle.event_tap.specs.SlotLines.{lines_of_slots, slot_pages, slot_softs, slot_lines}
-use Rattle.clean_link.specs.CleanLink.{IsOnPath}
-use Rattle.clean_link.specs.SentSigns.{FromMark, IsCellMark, MarkIsAt, PagingFrameHasSigns}
-use Rattle.clean_frames.specs.WholeSendings.{told_with_sync}
-use Rattle.cell_plan.specs.Stated.{IsReceivable}
-use Rattle.clean_signal.specs.Signals.{IsWholeChannel}
+use Rattle.clean_frames.specs.Common.{CheckForm, cycled, paging_frame_size, half_frame_body}
+use Rattle.clean_frames.specs.Common.{PagingMessage}
+use Rattle.clean_link.specs.Common.{superframe_chips, places, Sample, Width, sent, Rate, page_cycle}
+use Rattle.clean_link.specs.Common.{sent_paging_rate, continued_symbols, CellPlan, Page, PagingPlan}
+use Rattle.clean_link.specs.Common.{SyncPlan, mark, Tuning, Mark, IsReceivable}
+use Rattle.clean_signal.specs.Common.{HaveSigns}
 use Rattle.clean_frames.specs.WholePages.{AreWholePages, end_chip, message_in, cycle_half_frames}
 use Rattle.clean_frames.specs.WholePages.{is_between, placed, Placed}
+use Rattle.clean_frames.specs.WholeSendings.{told_with_sync}
+use Rattle.clean_link.specs.CleanLink.{IsOnPath}
+use Rattle.clean_link.specs.SentSigns.{FromMark, IsCellMark, MarkIsAt, PagingFrameHasSigns}
+use Rattle.clean_signal.specs.Signals.{IsWholeChannel}
+use Rattle.event_tap.specs.SlotLines.{lines_of_slots, slot_pages, slot_softs, slot_lines}
+use Rattle.frame_decoder.specs.Spans.{Channel, own_bits, paging_channel}
+use Rattle.heard_events.specs.Channels.{channel_stream}
+use Rattle.slot_mode.specs.Frames.{slot_bits}
 use Rattle.slot_mode.specs.Slots.{is_monitored}
-use Rattle.paging_message.specs.HalfFrames.{half_frame_body}
-use Rattle.paging_message.specs.declared.message.PagingMessage.{PagingMessage}
+use Rattle.heard_events.specs.PagingStreams as heard
+use Rattle.heard_events.specs.declared.channel.Channel.TheVariants as channels
 
 -- the bits of the four frames from frame `first` on, where a channel sends these in each frame
 abbrev pub bits_in_slot : (ℕ → List Bool) → ℕ → List Bool

@@ -1,16 +1,10 @@
 -- Worked values of the pages in a slot, which the checker computes.
 use Rattle.std.specs.Prelude.{◌≡◌, refl, true, false, List, [], ◌∷◌, ◌++◌, replicate}
-use Rattle.chip_core.specs.Bits.{binary, places}
-use Rattle.chip_core.specs.declared.check_form.CheckForm.TheVariants.{Plain}
-use Rattle.quality_bits.specs.Capsules.{capsule}
-use Rattle.quality_bits.specs.Quality.{check_bits}
-use Rattle.quality_bits.specs.declared.rate.Rate.TheVariants.{R9600}
-use Rattle.paging_message.specs.Laying.{fill, framed, half_frames_of, laid_on}
+use Rattle.clean_frames.specs.Common.{PagingMessage}
+use Rattle.clean_link.specs.Common.{binary, places, Plain, capsule, check_bits, R9600, fill, framed}
+use Rattle.clean_link.specs.Common.{half_frames_of, laid_on, page_cycle, Page}
 use Rattle.paging_message.specs.Reading.{message_at}
-use Rattle.paging_message.specs.declared.message.PagingMessage.{PagingMessage}
 use Rattle.paging_message.specs.declared.message.PagingMessage.TheVariants.{Other}
-use Rattle.cell_plan.specs.Pages.{page_cycle}
-use Rattle.cell_plan.specs.declared.plan.Page.{Page}
 use Rattle.slot_link.specs.Laws.{pages_in_slot}
 
 -- A page of 10 bits of body, and one of 146: in half-frames of 95 bits the first one lies in a
