@@ -8,16 +8,13 @@ use Rattle.clean_frames.proofs.Common.{flat_map-zero, flat_map-repeated, repeate
 use Rattle.clean_frames.proofs.Common.{and_left, and_right, cases_lt, le-leb, le-ltb, lt-leb, lt-ltb, le-div, paging_frame_size}
 use Rattle.clean_frames.proofs.Common.{IsStatedPaging, PagingPlan, flat_map_ext_places, WholePagesComeBack, frame_capsules, is_whole_page}
 use Rattle.clean_frames.proofs.Common.{flat_map-nothing, zero, append_assoc, map-append, filter-append, mul-add-div, flat_map-next}
-use Rattle.clean_frames.proofs.Common.{length-repeated, ◌%◌, get_or, get_or-append-add, get_or_append_left, mod-mul-add, mod_below}
-use Rattle.clean_frames.proofs.Common.{div-add-mod, map-places-all, map_ext_places, map-add}
-use Rattle.paging_message.proofs.Runs.{no_width, run_piece, run_pieces, run_width, run_width_some, AreChained}
-use Rattle.paging_message.proofs.Scans.{length-stream, no_piece, stream, whole-append, AreWhole, scan, bits_of}
+use Rattle.clean_frames.proofs.Common.{length-repeated, ◌%◌, get_or, mod_below, get_or-repeated, mul-le-mul_right, take_at, drop_at}
+use Rattle.clean_frames.proofs.Common.{drop-drop, no_width, run_piece, run_pieces, run_width, run_width_some, AreChained, length-stream}
+use Rattle.clean_frames.proofs.Common.{no_piece, stream, whole-append, AreWhole, scan, bits_of, turned_back, whole_rows, run_pieces_whole}
 use Rattle.clean_frames.proofs.pages.Scans.{frames_scanned, in_frame, AreFrames}
 use Rattle.clean_frames.proofs.pages.Laid.{length-page, page_capsule, pages_placed, placed-begins, runs-begin, runs-follow, runs_laid}
 use Rattle.clean_frames.proofs.pages.Laid.{runs_of, first_begins, first_runs, placed-follows}
-use Rattle.paging_message.proofs.LaidRuns.{turned_back, whole_rows}
 use Rattle.clean_frames.proofs.pages.RunsHeard.{from_within, is_inside, pieces_of, placed_runs, selected, told, AreRuns, placed_run}
-use Rattle.paging_message.proofs.Carried.{run_pieces_whole}
 use Rattle.paging_message.specs.Laying as laying
 
 -- ---- a later round
@@ -99,64 +96,50 @@ placed-append size spell o (x ∷ xs) ys =
     (placed_runs size spell (o + w + length (pieces_of size spell xs)) ys))
     ∙ ap (λ (n : ℕ). (first ++ rest) ++ placed_runs size spell n ys) e
 
--- the pages of the rounds, round by round
-pub rounds_placed : (size : ℕ) (spell : Page → List Bool) (n : ℕ) (runs : List (List Page)) →
-    0 < size → AreRuns size spell runs →
-    placed_runs size spell 0 (repeated n runs)
-    ≡ flat_map
-    (λ r. map (later (length (pieces_of size spell runs) * r)) (placed_runs size spell 0 runs))
-    (places n)
-rounds_placed size spell zero runs large are =
-    sym (flat_map-zero (λ r. map (later (length (pieces_of size spell runs) * r))
-    (placed_runs size spell 0 runs)))
-rounds_placed size spell (suc n) runs large are =
-    let w = length (pieces_of size spell runs) in
-    let g = λ (r : ℕ). map (later (w * r)) (placed_runs size spell 0 runs) in
-    let before = length (pieces_of size spell (repeated n runs)) in
-    let long : before ≡ w * n =
-    ap (λ (l : List Piece). length l)
-    (flat_map-repeated (λ run. run_pieces size (map spell run)) n runs)
-    ∙ length-repeated n (pieces_of size spell runs) in
-    let e : 0 + before ≡ w * n + 0 = omega (arith, long) in
-    placed-append size spell 0 (repeated n runs) runs
-    ∙ ap (λ (l : List Placed). l ++ placed_runs size spell (0 + before) runs)
-    (rounds_placed size spell n runs large are)
-    ∙ ap (λ (l : List Placed). flat_map g (places n) ++ l)
-    (runs_later size spell (w * n) 0 (0 + before) runs large are e)
-    ∙ sym (flat_map-next g n)
+-- what is said of the pages that are inside
+module _ {X : Type 0} (h : Placed → X) (low high : ℕ) where
+  -- of a round, so many half-frames later
+  abbrev round : ℕ → List Placed → List X
+  round x ps = map (λ p. h (later x p)) (filter (is_between low high x) ps)
 
--- what is said of a round's pages that are inside
-round_said : {X : Type 0} (h : Placed → X) (low high x : ℕ) (ps : List Placed) →
-    map h (filter (is_inside low high) (map (later x) ps))
-    ≡ map (λ p. h (later x p)) (filter (is_between low high x) ps)
-round_said h low high x [] = refl
-round_said {X} h low high x (p ∷ ps) =
-    let rest = round_said h low high x ps in
-    elim (cases_Bool (is_between low high x p)) [
-      | inl t ↦ rw t (ap (λ (l : List X). h (later x p) ∷ l) rest)
-      | inr f ↦ rw f rest
-    ]
+  round_said : (x : ℕ) (ps : List Placed) →
+      map h (filter (is_inside low high) (map (later x) ps)) ≡ round x ps
+  round_said x [] = refl
+  round_said x (p ∷ ps) =
+      let rest = round_said x ps in
+      elim (cases_Bool (is_between low high x p)) [
+        | inl t ↦ rw t (ap (λ (l : List X). h (later x p) ∷ l) rest)
+        | inr f ↦ rw f rest
+      ]
 
--- and of those of all rounds
-pub rounds_said : {X : Type 0} (h : Placed → X) (low high n w : ℕ) (ps : List Placed) →
-    map h (filter (is_inside low high) (flat_map (λ r. map (later (w * r)) ps) (places n)))
-    ≡ flat_map
-    (λ r. map (λ p. h (later (w * r) p)) (filter (is_between low high (w * r)) ps)) (places n)
-rounds_said h low high zero w ps =
-    ap (λ (l : List Placed). map h (filter (is_inside low high) l))
-    (flat_map-zero (λ r. map (later (w * r)) ps))
-    ∙ sym (flat_map-zero (λ r. map (λ p. h (later (w * r) p))
-    (filter (is_between low high (w * r)) ps)))
-rounds_said {X} h low high (suc n) w ps =
-    let g = λ (r : ℕ). map (later (w * r)) ps in
-    let s = λ (r : ℕ). map (λ p. h (later (w * r) p)) (filter (is_between low high (w * r)) ps) in
-    let inside = filter (is_inside low high) in
-    ap (λ (l : List Placed). map h (inside l)) (flat_map-next g n)
-    ∙ ap (map h) (filter-append (is_inside low high) (flat_map g (places n)) (g n))
-    ∙ map-append h (inside (flat_map g (places n))) (inside (g n))
-    ∙ ap (λ (l : List X). l ++ map h (inside (g n))) (rounds_said h low high n w ps)
-    ∙ ap (λ (l : List X). flat_map s (places n) ++ l) (round_said h low high (w * n) ps)
-    ∙ sym (flat_map-next s n)
+  -- Of all rounds it is said round by round: a round's pages lie as many half-frames later as the rounds
+  -- before it have.
+  rounds_said : (size : ℕ) (spell : Page → List Bool) (n : ℕ) (runs : List (List Page)) → 0 < size →
+      AreRuns size spell runs →
+      map h (filter (is_inside low high) (placed_runs size spell 0 (repeated n runs)))
+      ≡ flat_map (λ r. round (length (pieces_of size spell runs) * r) (placed_runs size spell 0 runs))
+      (places n)
+  rounds_said size spell zero runs large are =
+      sym (flat_map-zero (λ r. round (length (pieces_of size spell runs) * r) (placed_runs size spell 0 runs)))
+  rounds_said size spell (suc n) runs large are =
+      let w = length (pieces_of size spell runs) in
+      let s = λ (r : ℕ). round (w * r) (placed_runs size spell 0 runs) in
+      let inside = filter (is_inside low high) in
+      let front = placed_runs size spell 0 (repeated n runs) in
+      let before = length (pieces_of size spell (repeated n runs)) in
+      let last = placed_runs size spell (0 + before) runs in
+      let long : before ≡ w * n =
+      ap (λ (l : List Piece). length l) (flat_map-repeated (λ run. run_pieces size (map spell run)) n runs)
+      ∙ length-repeated n (pieces_of size spell runs) in
+      ap (λ (l : List Placed). map h (inside l)) (placed-append size spell 0 (repeated n runs) runs)
+      ∙ ap (map h) (filter-append (is_inside low high) front last)
+      ∙ map-append h (inside front) (inside last)
+      ∙ ap (λ (l : List X). l ++ map h (inside last)) (rounds_said size spell n runs large are)
+      ∙ ap (λ (l : List X). flat_map s (places n) ++ l)
+      (ap (λ (l : List Placed). map h (inside l))
+      (runs_later size spell (w * n) 0 (0 + before) runs large are (omega (arith, long)))
+      ∙ round_said (w * n) (placed_runs size spell 0 runs))
+      ∙ sym (flat_map-next s n)
 
 long_at : (size : ℕ) (pieces : List Piece) (t : ℕ) → AreWhole size pieces → t < length pieces →
     length (get_or pieces t no_piece).body ≡ size
@@ -164,87 +147,61 @@ long_at size [] t are lt = absurd (omega (arith, lt))
 long_at size (p ∷ pieces) zero are lt = are.0
 long_at size (p ∷ pieces) (suc t) are lt = long_at size pieces t are.1 (omega (arith, lt))
 
--- bit i of half-frame t
-bit_at : (size : ℕ) (pieces : List Piece) (t i : ℕ) → AreWhole size pieces → t < length pieces →
-    i < size + 1 →
-    get_or (stream pieces) ((size + 1) * t + i) false
-    ≡ get_or (bits_of (get_or pieces t no_piece)) i false
-bit_at size [] t i are lt low = absurd (omega (arith, lt))
-bit_at size (p ∷ pieces) zero i are lt low =
-    let e : (size + 1) * zero + i ≡ i = omega arith in
-    ap (λ (k : ℕ). get_or (stream (p ∷ pieces)) k false) e
-    ∙ get_or_append_left (bits_of p) (stream pieces) false i (omega (arith, low, are.0))
-bit_at size (p ∷ pieces) (suc t) i are lt low =
-    let own = bits_of p in
-    let rest = stream pieces in
-    let e : (size + 1) * suc t + i ≡ length own + ((size + 1) * t + i) = omega (arith, are.0) in
-    ap (λ (k : ℕ). get_or (own ++ rest) k false) e
-    ∙ get_or-append-add own rest ((size + 1) * t + i) false
-    ∙ bit_at size pieces t i are.1 (omega (arith, lt)) low
+repeated_whole : (size n : ℕ) (pieces : List Piece) → AreWhole size pieces →
+    AreWhole size (repeated n pieces)
+repeated_whole size zero pieces are = tt
+repeated_whole size (suc n) pieces are =
+    whole-append size (repeated n pieces) pieces (repeated_whole size n pieces are) are
 
--- where bit i of half-frame g lies in a cycle of so many half-frames
-place_in_cycle : (h cycle g i : ℕ) → 0 < cycle → i < h →
-    (h * g + i) % (h * cycle) ≡ h * (g % cycle) + i
-place_in_cycle h cycle g i some lt =
-    let q = g / cycle in
-    let t = g % cycle in
-    let low : t < cycle = mod_below g cycle some in
-    let room : h * suc t ≤ h * cycle = mul-le-mul_left h low in
-    let e : h * g + i ≡ q * (h * cycle) + (h * t + i) =
-    ap (λ (k : ℕ). h * k + i) (sym (div-add-mod g cycle)) ∙ turned h cycle q t i in
-    ap (λ (k : ℕ). k % (h * cycle)) e
-    ∙ mod-mul-add q (h * cycle) (h * t + i) (omega (arith, room, lt))
-  where
-    turned : (h cycle q t i : ℕ) →
-        h * (cycle * q + t) + i ≡ q * (h * cycle) + (h * t + i)
-    turned h cycle q t i = omega arith
+-- two neighbouring half-frames of a stream
+two_of_stream : (size : ℕ) (pieces : List Piece) (t : ℕ) → AreWhole size pieces →
+    suc t < length pieces →
+    take (2 * (size + 1)) (drop ((size + 1) * t) (stream pieces))
+    ≡ bits_of (get_or pieces t no_piece) ++ bits_of (get_or pieces (suc t) no_piece)
+two_of_stream size [] t are lt = absurd (omega (arith, lt))
+two_of_stream size (p ∷ []) t are lt = absurd (omega (arith, lt))
+two_of_stream size (p ∷ q ∷ pieces) zero are lt =
+    let both = 2 * (size + 1) in
+    let e : (size + 1) * zero ≡ 0 = omega arith in
+    ap (λ (k : ℕ). take both (drop k (stream (p ∷ q ∷ pieces)))) e
+    ∙ ap (take both) (sym (append_assoc (bits_of p) (bits_of q) (stream pieces)))
+    ∙ take_at (bits_of p ++ bits_of q) (stream pieces) both
+    (omega (arith, length-append (bits_of p) (bits_of q), are.0, are.1.0))
+two_of_stream size (p ∷ q ∷ pieces) (suc t) are lt =
+    let both = 2 * (size + 1) in
+    let rest = stream (q ∷ pieces) in
+    let e : (size + 1) * suc t ≡ (size + 1) + (size + 1) * t = omega arith in
+    ap (λ (k : ℕ). take both (drop k (bits_of p ++ rest))) e
+    ∙ ap (take both) (sym (drop-drop ((size + 1) * t) (size + 1) (bits_of p ++ rest))
+    ∙ ap (drop ((size + 1) * t)) (drop_at (bits_of p) rest (size + 1) (omega (arith, are.0))))
+    ∙ two_of_stream size (q ∷ pieces) t are.1 (omega (arith, lt))
 
--- the bits of half-frame g
-half_frame_at : (size : ℕ) (pieces : List Piece) (g : ℕ) → AreWhole size pieces →
-    0 < length pieces →
-    map (λ i. get_or (stream pieces) (((size + 1) * g + i) % length (stream pieces)) false)
-    (places (size + 1))
-    ≡ bits_of (get_or pieces (g % length pieces) no_piece)
-half_frame_at size pieces g are some =
-    let w = length pieces in
-    let t = g % w in
-    let low : t < w = mod_below g w some in
-    let long = length-stream size pieces are in
-    let own : length (bits_of (get_or pieces t no_piece)) ≡ size + 1 =
-    omega (arith, long_at size pieces t are low) in
-    sym (map-places-all
-    (λ i. get_or (stream pieces) (((size + 1) * g + i) % length (stream pieces)) false)
-    (bits_of (get_or pieces t no_piece)) (size + 1) false own
-    (λ i lt. sym (ap (λ (k : ℕ). get_or (stream pieces) (((size + 1) * g + i) % k) false) long
-    ∙ ap (λ (k : ℕ). get_or (stream pieces) k false) (place_in_cycle (size + 1) w g i some lt)
-    ∙ bit_at size pieces t i are low lt)))
-
--- a frame is two half-frames
+-- A frame is two half-frames: with rounds enough the cycle's bits from the frame on are those of the
+-- half-frames repeated so often.
 frame_at : (size : ℕ) (pieces : List Piece) (k : ℕ) → AreWhole size pieces → 0 < length pieces →
     cycled (stream pieces) (2 * (size + 1)) k
     ≡ bits_of (get_or pieces ((2 * k) % length pieces) no_piece) ++
     bits_of (get_or pieces (suc (2 * k) % length pieces) no_piece)
 unfolding cycled
 frame_at size pieces k are some =
-    let h = size + 1 in
-    let bit = λ (n : ℕ). get_or (stream pieces) (n % length (stream pieces)) false in
-    let two : 2 * h ≡ h + h = omega arith in
-    ap (λ (m : ℕ). map (λ i. bit (2 * h * k + i)) (places m)) two
-    ∙ map-add (λ i. bit (2 * h * k + i)) h h
-    ∙ ap (λ (l : List Bool). l ++ map (λ i. bit (2 * h * k + (h + i))) (places h))
-    (map_ext_places (λ i. bit (2 * h * k + i)) (λ i. bit (h * (2 * k) + i)) h
-    (λ i lt. ap bit (first_place h k i))
-    ∙ half_frame_at size pieces (2 * k) are some)
-    ∙ ap (λ (l : List Bool). bits_of (get_or pieces ((2 * k) % length pieces) no_piece) ++ l)
-    (map_ext_places (λ i. bit (2 * h * k + (h + i))) (λ i. bit (h * suc (2 * k) + i)) h
-    (λ i lt. ap bit (second_place h k i))
-    ∙ half_frame_at size pieces (suc (2 * k)) are some)
-  where
-    first_place : (h k i : ℕ) → 2 * h * k + i ≡ h * (2 * k) + i
-    first_place h k i = omega arith
-
-    second_place : (h k i : ℕ) → 2 * h * k + (h + i) ≡ h * suc (2 * k) + i
-    second_place h k i = omega arith
+    let n = suc (suc (2 * k)) in
+    let w = length pieces in
+    let both = 2 * (size + 1) in
+    let all = repeated n pieces in
+    let more : 1 * n ≤ w * n = mul-le-mul_right n some in
+    let bits : (size + 1) * (1 * n) ≤ (size + 1) * (w * n) = mul-le-mul_left (size + 1) more in
+    let room : both * k + both ≤ length (stream pieces) * n =
+    subst (λ (l : ℕ). both * k + both ≤ l * n) (sym (length-stream size pieces are)) (omega (arith, bits)) in
+    let place : both * k ≡ (size + 1) * (2 * k) = omega arith in
+    repeated-part n (stream pieces) (both * k) both false room
+    ∙ ap (λ (l : List Bool). take both (drop (both * k) l)) (sym (flat_map-repeated bits_of n pieces))
+    ∙ ap (λ (d : ℕ). take both (drop d (stream all))) place
+    ∙ two_of_stream size all (2 * k) (repeated_whole size n pieces are)
+    (omega (arith, length-repeated n pieces, more))
+    ∙ ap (λ (p : Piece). bits_of p ++ bits_of (get_or all (suc (2 * k)) no_piece))
+    (get_or-repeated n pieces (2 * k) no_piece (omega (arith, more)))
+    ∙ ap (λ (p : Piece). bits_of (get_or pieces ((2 * k) % w) no_piece) ++ bits_of p)
+    (get_or-repeated n pieces (suc (2 * k)) no_piece (omega (arith, more)))
 
 -- half-frame j after frame `first`
 abbrev pub heard_piece : List Piece → ℕ → ℕ → Piece
@@ -335,95 +292,72 @@ cycle_placed size form page pages large f =
 
 -- ---- heard from a frame on
 
--- what is heard of runs that go round
-runs_heard : (size : ℕ) (spell : Page → List Bool) (runs : List (List Page)) (first n rounds : ℕ) →
-    0 < size → AreRuns size spell runs → 0 < length (pieces_of size spell runs) →
-    2 * first + 2 * n ≤ length (pieces_of size spell runs) * rounds →
-    capsules_with_frames size
-    (λ k. cycled (stream (pieces_of size spell runs)) (2 * (size + 1)) (first + k)) n
-    ≡ map (in_frame first)
-    (selected spell (2 * first) (2 * first + 2 * n)
-    (placed_runs size spell 0 (repeated rounds runs)))
-runs_heard size spell runs first n rounds large are some room =
-    let pieces = pieces_of size spell runs in
-    let own = λ (k : ℕ). cycled (stream pieces) (2 * (size + 1)) (first + k) in
-    let low = 2 * first in
-    let cut = λ (l : List Piece). take (2 * n) (drop low l) in
-    let all = repeated rounds runs in
-    let e : 0 + low ≡ low = omega arith in
-    frames_scanned size own (heard_piece pieces first) first n large
-    (cycle_has_frames size pieces first (pieces_whole size spell runs large) some)
-    ∙ ap (λ (l : List Piece). map (in_frame first) (scan size [] low l))
-    (repeated-part rounds pieces low (2 * n) no_piece room
-    ∙ ap cut (sym (flat_map-repeated (λ run. run_pieces size (map spell run)) rounds runs)))
-    ∙ ap (map (in_frame first))
-    (ap (λ (k : ℕ). scan size [] k (cut (pieces_of size spell all))) (sym e)
-    ∙ from_within size spell all 0 low (2 * n) large (repeated_are_runs size spell rounds runs are)
-    ∙ ap (λ (k : ℕ). selected spell k (k + 2 * n) (placed_runs size spell 0 all)) e)
+module _ (size : ℕ) (form : CheckForm) (first n rounds : ℕ) (large : 0 < size) where
+  -- the transmissions of pages that lie in n frames from frame `first` on, round by round
+  abbrev by_rounds : ℕ → ℕ → List Placed → List (ℕ × List Bool)
+  by_rounds w high ps =
+      flat_map
+      (λ r. map (sending_of form first (w * r)) (filter (is_between (2 * first) high (w * r)) ps))
+      (places rounds)
 
--- round by round
-runs_heard_by_rounds : (size : ℕ) (form : CheckForm) (runs : List (List Page))
-    (first n rounds : ℕ) →
-    0 < size → AreRuns size (page_capsule form) runs →
-    0 < length (pieces_of size (page_capsule form) runs) →
-    2 * first + 2 * n ≤ length (pieces_of size (page_capsule form) runs) * rounds →
-    capsules_with_frames size
-    (λ k. cycled (stream (pieces_of size (page_capsule form) runs)) (2 * (size + 1)) (first + k)) n
-    ≡ flat_map
-    (λ r. map (sending_of form first (length (pieces_of size (page_capsule form) runs) * r))
-    (filter (is_between (2 * first) (2 * first + 2 * n)
-    (length (pieces_of size (page_capsule form) runs) * r))
-    (placed_runs size (page_capsule form) 0 runs)))
-    (places rounds)
-runs_heard_by_rounds size form runs first n rounds large are some room =
-    let spell = page_capsule form in
-    let low = 2 * first in
-    let high = 2 * first + 2 * n in
-    let w = length (pieces_of size spell runs) in
-    let ps = placed_runs size spell 0 runs in
-    let all = flat_map (λ r. map (later (w * r)) ps) (places rounds) in
-    runs_heard size spell runs first n rounds large are some room
-    ∙ ap (λ (l : List Placed). map (in_frame first) (selected spell low high l))
-    (rounds_placed size spell rounds runs large are)
-    ∙ map-map (in_frame first) (told spell) (filter (is_inside low high) all)
-    ∙ rounds_said (λ p. in_frame first (told spell p)) low high rounds w ps
+  -- what the frames of a cycle with these bits end
+  abbrev heard_of : List Bool → List (ℕ × List Bool)
+  heard_of cycle = capsules_with_frames size (λ k. cycled cycle (2 * (size + 1)) (first + k)) n
 
--- a cycle whose half-frames are known
-cycle_heard : (size : ℕ) (form : CheckForm) (page : Page) (pages : List Page)
-    (cycle : List Bool) (first n rounds : ℕ) → 0 < size → AreSendable size 0 (page ∷ pages) →
-    AreHeard size 0 (page ∷ pages) →
-    cycle ≡ laying.half_frames_of size (laid_pages size form (page ∷ pages)) →
-    2 * (first + n) ≤ length cycle / (size + 1) * rounds →
-    capsules_with_frames size (λ k. cycled cycle (2 * (size + 1)) (first + k)) n
-    ≡ flat_map
-    (λ r. map (sending_of form first (length cycle / (size + 1) * r))
-    (filter (is_between (2 * first) (2 * (first + n)) (length cycle / (size + 1) * r))
-    (placed size form 0 0 (page ∷ pages))))
-    (places rounds)
-cycle_heard size form page pages cycle first n rounds large sent heard is room =
-    let spell = page_capsule form in
-    let runs = runs_of (page ∷ []) pages in
-    let pieces = pieces_of size spell runs in
-    let f = first_begins size form page pages large sent heard in
-    let are = first_runs size form page pages large sent heard in
-    let some = pieces_some size spell runs large (runs_some pages (page ∷ [])) are in
-    let same : cycle ≡ stream pieces = is ∙ runs_laid size form page pages large f in
-    let count = cycle_count size form page pages cycle large f is in
-    let e : 2 * (first + n) ≡ 2 * first + 2 * n = omega arith in
-    let enough : 2 * first + 2 * n ≤ length pieces * rounds =
-    subst (λ (k : ℕ). k ≤ length pieces * rounds) e
-    (subst (λ (k : ℕ). 2 * (first + n) ≤ k * rounds) count room) in
-    let by_rounds = λ (w high : ℕ) (ps : List Placed). flat_map
-    (λ r. map (sending_of form first (w * r)) (filter (is_between (2 * first) high (w * r)) ps))
-    (places rounds) in
-    ap (λ (l : List Bool). capsules_with_frames size
-    (λ k. cycled l (2 * (size + 1)) (first + k)) n) same
-    ∙ runs_heard_by_rounds size form runs first n rounds large are some enough
-    ∙ ap (λ (w : ℕ). by_rounds w (2 * first + 2 * n) (placed_runs size spell 0 runs)) (sym count)
-    ∙ ap (λ (high : ℕ). by_rounds (length cycle / (size + 1)) high (placed_runs size spell 0 runs))
-    (sym e)
-    ∙ ap (by_rounds (length cycle / (size + 1)) (2 * (first + n)))
-    (sym (cycle_placed size form page pages large f))
+  -- what is heard of runs that go round
+  runs_heard : (runs : List (List Page)) → AreRuns size (page_capsule form) runs →
+      0 < length (pieces_of size (page_capsule form) runs) →
+      2 * first + 2 * n ≤ length (pieces_of size (page_capsule form) runs) * rounds →
+      heard_of (stream (pieces_of size (page_capsule form) runs))
+      ≡ by_rounds (length (pieces_of size (page_capsule form) runs)) (2 * first + 2 * n)
+      (placed_runs size (page_capsule form) 0 runs)
+  runs_heard runs are some room =
+      let spell = page_capsule form in
+      let pieces = pieces_of size spell runs in
+      let own = λ (k : ℕ). cycled (stream pieces) (2 * (size + 1)) (first + k) in
+      let low = 2 * first in
+      let cut = λ (l : List Piece). take (2 * n) (drop low l) in
+      let all = repeated rounds runs in
+      let e : 0 + low ≡ low = omega arith in
+      frames_scanned size own (heard_piece pieces first) first n large
+      (cycle_has_frames size pieces first (pieces_whole size spell runs large) some)
+      ∙ ap (λ (l : List Piece). map (in_frame first) (scan size [] low l))
+      (repeated-part rounds pieces low (2 * n) no_piece room
+      ∙ ap cut (sym (flat_map-repeated (λ run. run_pieces size (map spell run)) rounds runs)))
+      ∙ ap (map (in_frame first))
+      (ap (λ (k : ℕ). scan size [] k (cut (pieces_of size spell all))) (sym e)
+      ∙ from_within size spell large all 0 low (2 * n) (repeated_are_runs size spell rounds runs are)
+      ∙ ap (λ (k : ℕ). selected spell k (k + 2 * n) (placed_runs size spell 0 all)) e)
+      ∙ map-map (in_frame first) (told spell)
+      (filter (is_inside low (low + 2 * n)) (placed_runs size spell 0 all))
+      ∙ rounds_said (λ p. in_frame first (told spell p)) low (low + 2 * n) size spell rounds runs large are
+
+  -- a cycle whose half-frames are known
+  cycle_heard : (page : Page) (pages : List Page) (cycle : List Bool) →
+      AreSendable size 0 (page ∷ pages) → AreHeard size 0 (page ∷ pages) →
+      cycle ≡ laying.half_frames_of size (laid_pages size form (page ∷ pages)) →
+      2 * (first + n) ≤ length cycle / (size + 1) * rounds →
+      heard_of cycle
+      ≡ by_rounds (length cycle / (size + 1)) (2 * (first + n)) (placed size form 0 0 (page ∷ pages))
+  cycle_heard page pages cycle sent heard is room =
+      let spell = page_capsule form in
+      let runs = runs_of (page ∷ []) pages in
+      let pieces = pieces_of size spell runs in
+      let f = first_begins size form page pages large sent heard in
+      let are = first_runs size form page pages large sent heard in
+      let some = pieces_some size spell runs large (runs_some pages (page ∷ [])) are in
+      let same : cycle ≡ stream pieces = is ∙ runs_laid size form page pages large f in
+      let count = cycle_count size form page pages cycle large f is in
+      let e : 2 * (first + n) ≡ 2 * first + 2 * n = omega arith in
+      let enough : 2 * first + 2 * n ≤ length pieces * rounds =
+      subst (λ (k : ℕ). k ≤ length pieces * rounds) e
+      (subst (λ (k : ℕ). 2 * (first + n) ≤ k * rounds) count room) in
+      ap heard_of same
+      ∙ runs_heard runs are some enough
+      ∙ ap (λ (w : ℕ). by_rounds w (2 * first + 2 * n) (placed_runs size spell 0 runs)) (sym count)
+      ∙ ap (λ (high : ℕ). by_rounds (length cycle / (size + 1)) high (placed_runs size spell 0 runs)) (sym e)
+      ∙ ap (by_rounds (length cycle / (size + 1)) (2 * (first + n)))
+      (sym (cycle_placed size form page pages large f))
 
 cycle_is : (rate : Rate) (form : CheckForm) (pages : List Page) →
     page_cycle rate form pages
@@ -435,8 +369,8 @@ pub page_sendings_back : PageSendingsComeBack
 page_sendings_back rate form [] first n rounds are room =
     let some = are.some in absurd (omega (arith, some))
 page_sendings_back rate form (page ∷ pages) first n rounds are room =
-    cycle_heard (half_frame_body rate) form page pages (page_cycle rate form (page ∷ pages)) first n
-    rounds (size_large rate) are.sendable are.heard (cycle_is rate form (page ∷ pages)) room
+    cycle_heard (half_frame_body rate) form first n rounds (size_large rate) page pages
+    (page_cycle rate form (page ∷ pages)) are.sendable are.heard (cycle_is rate form (page ∷ pages)) room
 
 -- a cycle has half-frames
 pub cycle_some : (rate : Rate) (form : CheckForm) (pages : List Page) → AreWholePages rate pages →

@@ -2,12 +2,10 @@
 use Rattle.clean_frames.proofs.Common.{◌≡◌, ℕ, ◌+◌, ◌-◌, ◌*◌, ◌/◌, ◌<◌, Bool, true, false, List, [], ◌∷◌, ◌++◌, length, map, refl, sym, ap}
 use Rattle.clean_frames.proofs.Common.{◌∙◌, arith, inl, inr, append_assoc, length-append, if◌then◌else◌, cases_Bool, map-append}
 use Rattle.clean_frames.proofs.Common.{mul-add-div, CheckForm, capsule, Piece, M30, length-capsule, put_of, Page, placed, Placed, subst}
-use Rattle.clean_frames.proofs.Common.{AreSendable, AreHeard, laid_pages, puts_lawful}
-use Rattle.paging_message.proofs.Runs.{joined, run_pieces, width}
-use Rattle.paging_message.proofs.Scans.{stream}
+use Rattle.clean_frames.proofs.Common.{AreSendable, AreHeard, laid_pages, puts_lawful, joined, run_pieces, width, stream, AreChainedRuns}
+use Rattle.clean_frames.proofs.Common.{AreSome, first_put_begins, first_puts_chained, first_puts_laid, joined-push, put-begins, put-follows}
+use Rattle.clean_frames.proofs.Common.{runs_pieces, runs_put, turned_back}
 use Rattle.clean_frames.proofs.pages.RunsHeard.{pieces_of, placed_run, placed_runs, spelled, AreRuns}
-use Rattle.paging_message.proofs.LaidRuns.{AreChainedRuns, AreSome, first_put_begins, first_puts_chained, first_puts_laid, joined-push}
-use Rattle.paging_message.proofs.LaidRuns.{put-begins, put-follows, runs_pieces, runs_put, turned_back}
 use Rattle.paging_message.specs.Laying as laying
 
 -- ---- runs

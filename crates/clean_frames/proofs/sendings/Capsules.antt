@@ -6,8 +6,8 @@ use Rattle.clean_frames.proofs.Common.{and_from, flat_map-append, append-nil, le
 use Rattle.clean_frames.proofs.Common.{div-mul-add, mod-mul-add, number, FillsCapsule, front_capsule, is_stated, octets, stated_bits, Piece}
 use Rattle.clean_frames.proofs.Common.{piece, bodies, from_last_start, but_last, capsule_ending, M30, whole-capsule, CheckForm, sync_body}
 use Rattle.clean_frames.proofs.Common.{sync_capsule, SyncFields, length-body, message_of, padded_sending, superframes_a_sending}
-use Rattle.clean_frames.proofs.Common.{sync_frame_bits, CellPlan, length-sending, length-sync, length-append}
-use Rattle.paging_message.proofs.Pieces.{first_starts, length-run, none_starts, run, run-append, run-push, started_behind}
+use Rattle.clean_frames.proofs.Common.{sync_frame_bits, CellPlan, length-sending, length-sync, length-append, first_starts, length-run}
+use Rattle.clean_frames.proofs.Common.{none_starts, run, run-append, run-push, started_behind}
 
 -- ---- the end of a message
 -- what it gives where its size is known
