@@ -2,22 +2,22 @@
 use Rattle.std.proofs.Common.{nat_le, nat_lt}
 use Rattle.std.proofs.Math.Bool.{and-false, and-true}
 use Rattle.std.proofs.lemmas.Bool.{and_parts}
-use Rattle.clean_frames.proofs.Common.{take_at, flat_map-add, take-append-add, size_large, is_between}
+use Rattle.clean_frames.proofs.Common.{take_at, flat_map-add, size_large, is_between}
 use Rattle.clean_link.proofs.Common.{◌≡◌, ℕ, ◌+◌, ◌-◌, ◌*◌, ◌<◌, ◌≤◌, ◌&&◌, Bool, true, false, List, [], length, filter, refl, sym, ap, ◌∙◌}
-use Rattle.clean_link.proofs.Common.{arith, inl, inr, Option, None, Some, subst, zero, suc, ◌++◌, take, drop, ℤ, ◌∷◌, map, length-append}
-use Rattle.clean_link.proofs.Common.{if◌then◌else◌, Contains, flat_map, and_from, cases_Bool, false_from_ne_true, le-leb, places}
-use Rattle.clean_link.proofs.Common.{filter_enough, filter_ext_places, filter_none_places, flat_map_ext_filter_places, flat_map_ext_places}
-use Rattle.clean_link.proofs.Common.{Sample, Width, sent_paging_rate, page_cycle, CellPlan, PagingPlan, SyncPlan, mark, is_in_file}
-use Rattle.clean_link.proofs.Common.{frame_softs, Stream, Tuning, Mark, IsOnPath, IsTrueMark, FromMark, MarkIsAt, PagingFrameHasSigns}
-use Rattle.clean_link.proofs.Common.{IsReceivable, IsStatedPaging, All-contains, CheckForm, Rate, HasSign, cycle_frame_bits, cycled}
-use Rattle.clean_link.proofs.Common.{paging_frame_size, cycle_of, drop_at, flat_map-next, flat_map-zero, data_shape, sent, repeats_of}
-use Rattle.clean_link.proofs.Common.{length-sent, IsAllowed, continued_symbols, option_to_list, flat_map-map, capsule, M30, half_frame_body}
+use Rattle.clean_link.proofs.Common.{arith, inl, inr, Option, None, Some, subst, zero, suc, ◌++◌, take, drop, ℤ, ◌∷◌, map, if◌then◌else◌}
+use Rattle.clean_link.proofs.Common.{Contains, flat_map, and_from, cases_Bool, false_from_ne_true, le-leb, places, filter_enough}
+use Rattle.clean_link.proofs.Common.{filter_ext_places, filter_none_places, flat_map_ext_filter_places, flat_map_ext_places, Sample, Width}
+use Rattle.clean_link.proofs.Common.{sent_paging_rate, page_cycle, CellPlan, PagingPlan, SyncPlan, mark, is_in_file, frame_softs, Stream}
+use Rattle.clean_link.proofs.Common.{Tuning, Mark, IsOnPath, IsTrueMark, FromMark, MarkIsAt, PagingFrameHasSigns, IsReceivable}
+use Rattle.clean_link.proofs.Common.{IsStatedPaging, All-contains, CheckForm, Rate, HasSign, cycle_frame_bits, cycled, paging_frame_size}
+use Rattle.clean_link.proofs.Common.{cycle_of, drop_at, flat_map-next, flat_map-zero, data_shape, sent, repeats_of, length-sent, IsAllowed}
+use Rattle.clean_link.proofs.Common.{continued_symbols, option_to_list, flat_map-map, capsule, M30, half_frame_body}
 use Rattle.clean_link.proofs.Common.{half_frame_capsule_ending, paging_reading, PagingMessage, as_spelled_page, ReadPage}
 use Rattle.clean_link.proofs.Common.{capsules_with_frames, cycle_half_frames, frame_capsules, placed, sending_of, Placed}
-use Rattle.clean_signal.proofs.Common.{HaveSigns, take-append-le, Free, own_bits, Channel, length-frames, span_codeword, mul-le-mul_right}
+use Rattle.clean_signal.proofs.Common.{HaveSigns, Free, own_bits, Channel, length-frames, span_codeword, mul-le-mul_right}
 use Rattle.heard_events.proofs.Common.{channel_stream}
-use Rattle.heard_events.specs.declared.channel.Channel.TheVariants.{Paging}
 use Rattle.paging_message.proofs.Common.{capsules_in}
+use Rattle.paging_message.proofs.Scans.{ended_by-append}
 use Rattle.clean_frames.proofs.pages.CyclesBack.{stated_pages, cycle_some, page_sendings_back}
 use Rattle.clean_link.proofs.frames.ChannelFrames.{paging_frame_shown, read_after}
 use Rattle.clean_link.proofs.frames.Times.{paging_alone, paging_file_from, paging_file_to, known_at_once}
@@ -29,6 +29,7 @@ use Rattle.clean_signal.proofs.noise.Near.{zipped_frames}
 use Rattle.event_tap.specs.SlotLines.{frame_of_slot, frame_of_slot_end, is_heard, is_slot_within, lines_behind, lines_by_times}
 use Rattle.event_tap.specs.SlotLines.{lines_of_slot, slot_bound, slot_lines, slot_softs, slot_pages}
 use Rattle.frame_decoder.specs.Spans.{paging_channel}
+use Rattle.heard_events.specs.declared.channel.Channel.TheVariants.{Paging}
 use Rattle.slot_mode.specs.Frames.{slot_bits, slot_frame_bits}
 use Rattle.slot_mode.specs.Slots.{is_monitored}
 use Rattle.slot_link.specs.Laws.{HearsSlots, SlotTextsComeBack, AreSlotPages, SlotsComeBack, SlotBitsComeBackBySigns, SpansComeBackBySigns}
@@ -149,30 +150,6 @@ signed_slot_bits_back rate bits_of first softs each have =
 
 -- ---- capsules frame by frame
 
--- what more bits end after others
-capsules-append : (size : ℕ) (before own : List Bool) →
-    capsules_in size (before ++ own) ≡ capsules_in size before ++
-    flat_map (λ i. option_to_list (half_frame_capsule_ending size (before ++ take (i + 1) own)))
-    (places (length own))
-unfolding capsules_in
-capsules-append size before own =
-    let all = before ++ own in
-    let ended = λ (bits : List Bool). option_to_list (half_frame_capsule_ending size bits) in
-    let first = flat_map (λ i. ended (take (i + 1) before)) (places (length before)) in
-    ap (λ (n : ℕ). flat_map (λ i. ended (take (i + 1) all)) (places n)) (length-append before own)
-    ∙ flat_map-add (λ i. ended (take (i + 1) all)) (length before) (length own)
-    ∙ ap (λ (l : List (List Bool)). l ++
-    flat_map (λ i. ended (take (length before + i + 1) all)) (places (length own)))
-    (flat_map_ext_places (λ i. ended (take (i + 1) all)) (λ i. ended (take (i + 1) before))
-    (length before)
-    (λ i lt. ap ended (take-append-le (i + 1) before own (omega (arith, lt)))))
-    ∙ ap (λ (l : List (List Bool)). first ++ l)
-    (flat_map_ext_places (λ i. ended (take (length before + i + 1) all))
-    (λ i. ended (before ++ take (i + 1) own)) (length own)
-    (λ i lt.
-    let e : length before + i + 1 ≡ length before + (i + 1) = omega arith in
-    ap (λ (n : ℕ). ended (take n all)) e ∙ ap ended (take-append-add before own (i + 1))))
-
 capsules_of_frames : (size : ℕ) (own : ℕ → List Bool) (n : ℕ) →
     capsules_in size (flat_map own (places n)) ≡ flat_map (frame_capsules size own) (places n)
 unfolding capsules_in
@@ -183,7 +160,7 @@ capsules_of_frames size own zero =
     ∙ sym (flat_map-zero (frame_capsules size own))
 capsules_of_frames size own (suc n) =
     ap (capsules_in size) (flat_map-next own n)
-    ∙ capsules-append size (flat_map own (places n)) (own n)
+    ∙ ended_by-append size [] (flat_map own (places n)) (own n)
     ∙ ap (λ (l : List (List Bool)). l ++ frame_capsules size own n)
     (capsules_of_frames size own n)
     ∙ sym (flat_map-next (frame_capsules size own) n)
