@@ -65,7 +65,7 @@ abbrev file_events : ℕ → Settings → List Sample → List Event
 file_events span settings samples = events (tuning_for settings (take span samples)) samples
 
 -- those of a clean link are the cell's
-clean_events-are : (width : Width) (script : List ℕ) (plan : CellPlan)
+pub clean_events-are : (width : Width) (script : List ℕ) (plan : CellPlan)
     (span fingers paging : ℕ) (traffic : Option Traffic) (header : Header)
     (samples : List Sample) →
     IsCleanLink width script plan span fingers paging traffic header

@@ -1,13 +1,19 @@
--- The file that is made of a script can be read, and is a clean link where the search finds the
--- cell's path.
-use Rattle.reply_laws.proofs.Common.{clean_sent, clean_signs, ◌≡◌, ℕ, ◌+◌, ◌-◌, ◌*◌, ◌%◌, ◌<◌, ◌≤◌, Bool, true, false, List, ◌++◌, get_or}
-use Rattle.reply_laws.proofs.Common.{take, All, refl, sym, ap, ◌∙◌, subst, arith, ℤ, ◌*ℤ◌, unsigned_abs, Option, Ok, ◌+ℤ◌, ◌-ℤ◌, flat_map}
-use Rattle.reply_laws.proofs.Common.{ints, All-from_get_or, sign, of_sample, point, times, Pair, Sample, pilot_chip, HasBits}
+-- The file that is made of a script can be read and is a clean link where the search finds the cell's path;
+-- what it is owed if the cell's pilot is louder than all of its other channels together.
+use Rattle.reply_laws.proofs.Common.{clean_sent, clean_signs, ◌≡◌, ℕ, ◌+◌, ◌-◌, ◌*◌, ◌<◌, ◌≤◌, List, ◌++◌, get_or, take, All, refl, sym, ap}
+use Rattle.reply_laws.proofs.Common.{◌∙◌, subst, arith, unsigned_abs, Option, Ok, flat_map, All-from_get_or, Sample, HasBits}
 use Rattle.reply_laws.proofs.Common.{IsLawfulHeader, IsSampleFile, header_spelling, most_samples, sample_spelling, width_of, Width, Sixteen}
-use Rattle.reply_laws.proofs.Common.{Eight, best_phase, CellPlan, IsLawfulPlan, loudness, most_part, plan_named, amplitudes, carriers}
-use Rattle.reply_laws.proofs.Common.{scaled, header_of, phase_at, version_of, chip_fits, signal_of_carriers, named_plan, no_sample, events}
-use Rattle.reply_laws.proofs.Common.{Traffic, IsNotDirected, IsOnPath, tuning_to, IsCleanLink, cell_energy, FollowsSent, signaling_sent}
-use Rattle.reply_laws.proofs.Common.{no_event_directed, made_samples, made_file, named_receivable, length-made, made_at}
+use Rattle.reply_laws.proofs.Common.{Eight, best_phase, CellPlan, IsLawfulPlan, loudness, most_part, header_of, phase_at, version_of}
+use Rattle.reply_laws.proofs.Common.{named_plan, no_sample, events, Traffic, IsOnPath, tuning_to, cell_energy, no_event_directed}
+use Rattle.reply_laws.proofs.Common.{made_samples, made_file, named_receivable, length-made, made_at, length, kept_by, run_text, clean_end}
+use Rattle.reply_laws.proofs.Common.{settings_for, tuning_for, energy, event_line, Job, Status, TrafficPlan, SendsSetOne, SendsSetTwo}
+use Rattle.reply_laws.proofs.Common.{IsLineOfSetOne, IsLineOfSetTwo, RepliesComeBack, found_alone, Event, Pilot, cell_borne, end_is}
+use Rattle.reply_laws.proofs.Common.{one_reply, IsCellFile, Done, list_job, rate2_job, HasLouderPilot, IsSmall, sample_small, part_fits}
+use Rattle.reply_laws.proofs.Common.{clean_events-are, plan_named, Header}
+use Rattle.reply_laws.proofs.Owed.{find_owes, follow_owes}
+use Rattle.reply_laws.proofs.NoisyReplies.{list_replies, rate2_replies, idle_replies}
+use Rattle.command_line.specs.declared.job.Job.TheVariants as jobs
+use Rattle.reply_laws.specs.MadeLinks as laws
 
 -- ---- the header
 
@@ -31,44 +37,18 @@ made_header width plan few = record {
 
 -- ---- the samples
 
--- a product with a point of the constellation
-turned_i_most : (x y : ℤ) (b c : Bool) →
-    unsigned_abs ((x *ℤ sign b) -ℤ (y *ℤ sign c)) ≤ unsigned_abs x + unsigned_abs y
-turned_i_most x y true true = omega (arith, ints)
-turned_i_most x y true false = omega (arith, ints)
-turned_i_most x y false true = omega (arith, ints)
-turned_i_most x y false false = omega (arith, ints)
-
-turned_q_most : (x y : ℤ) (b c : Bool) →
-    unsigned_abs ((x *ℤ sign c) +ℤ (y *ℤ sign b)) ≤ unsigned_abs x + unsigned_abs y
-turned_q_most x y true true = omega (arith, ints)
-turned_q_most x y true false = omega (arith, ints)
-turned_q_most x y false true = omega (arith, ints)
-turned_q_most x y false false = omega (arith, ints)
-
--- so a sample that is such a product fits the width
-turned_fits : (width : Width) (plan : CellPlan) (chip : ℕ) (chips : Bool × Bool) (s : Sample) →
-    loudness plan ≤ most_part width →
-    of_sample s ≡ times (scaled (amplitudes chip (carriers plan)) plan.link.factor) (point chips) →
-    HasBits width s
-turned_fits width plan chip chips s loud is =
-    let x = amplitudes chip (carriers plan) *ℤ plan.link.factor.i in
-    let y = amplitudes chip (carriers plan) *ℤ plan.link.factor.q in
-    let i : s.i ≡ (x *ℤ sign chips.0) -ℤ (y *ℤ sign chips.1) = ap (λ (z : Pair). z.i) is in
-    let q : s.q ≡ (x *ℤ sign chips.1) +ℤ (y *ℤ sign chips.0) = ap (λ (z : Pair). z.q) is in
-    chip_fits width plan chip (record { i = x; q = y }) s refl loud
-    (subst (λ (part : ℤ). unsigned_abs part ≤ unsigned_abs x + unsigned_abs y) (sym i)
-    (turned_i_most x y chips.0 chips.1))
-    (subst (λ (part : ℤ). unsigned_abs part ≤ unsigned_abs x + unsigned_abs y) (sym q)
-    (turned_q_most x y chips.0 chips.1))
-
--- each sample of a lawful plan is one
+-- each sample of a lawful plan fits the width, since both of its parts are as small as the plan's loudness
 made_fits : (width : Width) (plan : CellPlan) (k : ℕ) → loudness plan ≤ most_part width →
     k < plan.link.samples → HasBits width (get_or (made_samples plan) k no_sample)
 made_fits width plan k loud below =
-    let chip = plan.link.start + k in
-    turned_fits width plan chip (pilot_chip ((chip + 32768 - 64 * plan.cell.pn) % 32768))
-    (get_or (made_samples plan) k no_sample) loud (made_at plan k below ∙ signal_of_carriers plan k)
+    let s = get_or (made_samples plan) k no_sample in
+    let small = subst (IsSmall (loudness plan)) (sym (made_at plan k below)) (sample_small plan k) in
+    let i : unsigned_abs s.i ≤ loudness plan = small.i in
+    let q : unsigned_abs s.q ≤ loudness plan = small.q in
+    record {
+      in_phase = part_fits width s.i (omega (arith, i, loud));
+      quadrature = part_fits width s.q (omega (arith, q, loud));
+    }
 
 all_made_fit : (width : Width) (plan : CellPlan) → loudness plan ≤ most_part width →
     All (HasBits width) (made_samples plan)
@@ -104,32 +84,30 @@ lawful_readable width plan lawful =
 -- ---- the laws
 
 -- the file that is made of a script is a sample file of the cell's samples
-pub made_readable : (width : Width) (script : List ℕ) (plan : CellPlan) →
-    plan_named width script ≡ Ok plan →
-    IsSampleFile (made_file width plan) (header_of width plan) (made_samples plan)
+pub made_readable : laws.IsReadableWhenMade
 made_readable width script plan named =
     lawful_readable width plan (named_plan width script plan named).0
 
+-- samples and flags of a cell whose path the search finds are a file of the cell, with one finger
+cell_file : {width : Width} {script : List ℕ} {plan : CellPlan} {span : ℕ} {header : Header}
+    {samples : List Sample} → plan_named width script ≡ Ok plan →
+    best_phase (take span (made_samples plan)) ≡ phase_at plan plan.link.start →
+    samples ≡ made_samples plan → header.check30 ≡ plan.cell.check30 →
+    header.check16 ≡ plan.cell.check16 → IsCellFile width script plan span 1 header samples
+cell_file {span = span} named found sent long short = record {
+  named = named;
+  sent = sent;
+  checks_of_30 = long;
+  checks_of_16 = short;
+  found = ap (λ (xs : List Sample). best_phase (take span xs)) sent ∙ found;
+  alone = refl;
+}
+
 -- and a clean link, where the search finds the cell's path, there is one finger, and no handoff is
 -- directed
-pub made_clean : (width : Width) (script : List ℕ) (plan : CellPlan) (span paging : ℕ)
-    (traffic : Option Traffic) → plan_named width script ≡ Ok plan →
-    best_phase (take span (made_samples plan)) ≡ phase_at plan plan.link.start →
-    All IsNotDirected
-    (events (tuning_to plan (cell_energy span plan) paging traffic) (made_samples plan)) →
-    IsCleanLink width script plan span 1 paging traffic (header_of width plan) (made_samples plan)
+pub made_clean : laws.IsCleanWhenMade
 made_clean width script plan span paging traffic named found undirected =
-    record {
-      file = record {
-        named = named;
-        sent = refl;
-        checks_of_30 = refl;
-        checks_of_16 = refl;
-        found = found;
-        alone = refl;
-      };
-      undirected = undirected;
-    }
+    record { file = cell_file named found refl refl refl; undirected = undirected }
 
 -- a handset on it lies on the cell's path
 made_tuned : (plan : CellPlan) (energy paging : ℕ) (traffic : Option Traffic) →
@@ -143,12 +121,7 @@ made_tuned plan energy paging traffic = record {
 }
 
 -- so no handoff is directed where none of the messages that are sent does that
-pub made_clean_sent : (width : Width) (script : List ℕ) (plan : CellPlan) (span paging : ℕ)
-    (traffic : Option Traffic) → plan_named width script ≡ Ok plan →
-    best_phase (take span (made_samples plan)) ≡ phase_at plan plan.link.start →
-    FollowsSent plan traffic →
-    All IsNotDirected (signaling_sent plan traffic) →
-    IsCleanLink width script plan span 1 paging traffic (header_of width plan) (made_samples plan)
+pub made_clean_sent : laws.IsCleanWhenSent
 made_clean_sent width script plan span paging traffic named found follows none =
     let receivable = named_receivable width script plan named in
     made_clean width script plan span paging traffic named found
@@ -156,3 +129,85 @@ made_clean_sent width script plan span paging traffic named found follows none =
     (clean_signs width plan receivable) (made_tuned plan (cell_energy span plan) paging traffic) follows
     (λ p channel chosen has assigned superframes k told.
     clean_sent receivable p has (4 * superframes + k)) none)
+
+-- ---- a cell with a louder pilot
+
+module _ {width : Width} {script : List ℕ} {plan : CellPlan} {span : ℕ}
+    (loud : HasLouderPilot width script plan span) where
+  -- the search finds the path
+  found : best_phase (take span (made_samples plan)) ≡ phase_at plan plan.link.start
+  found = found_alone width plan span (named_receivable width script plan loud.named) loud.louder
+      loud.least loud.enough
+
+  pub readable : IsSampleFile (made_file width plan) (header_of width plan) (made_samples plan)
+  readable = made_readable width script plan loud.named
+
+  pub enough : span ≤ length (made_samples plan)
+  enough = rw (length-made plan) loud.enough
+
+pub cell_files : laws.LouderPilotsMakeCellFiles
+cell_files width script plan span header samples loud sent long short =
+    cell_file loud.named (found loud) sent long short
+
+-- what `make` writes of the script
+made_cell : {width : Width} {script : List ℕ} {plan : CellPlan} {span : ℕ} →
+    HasLouderPilot width script plan span →
+    IsCellFile width script plan span 1 (header_of width plan) (made_samples plan)
+made_cell {width} {script} {plan} {span} loud =
+    cell_files width script plan span (header_of width plan) (made_samples plan) loud refl refl refl
+
+pub clean_links : laws.LouderPilotsMakeCleanLinks
+clean_links width script plan span paging traffic loud follows none =
+    made_clean_sent width script plan span paging traffic loud.named (found loud) follows none
+
+pub louder_find : laws.FindsLouderPilots
+louder_find workers forms script width plan span reply loud owed =
+    one_reply forms (jobs.Find span workers) (made_file width plan) reply _ owed
+    (find_owes forms span workers (made_file width plan) (header_of width plan) (made_samples plan)
+    (readable loud) (enough loud))
+    ∙ ap (λ (phase : ℕ). Ok (event_line (Pilot phase (energy (take span (made_samples plan)) phase)), Done))
+    (found loud)
+
+-- The one reply that is owed is the text of the handset's events, and of a clean link these are what
+-- the cell sends: the handset is tuned to the cell, since the search finds its path.
+pub louder_follow : laws.LouderFollowRepliesComeBack
+louder_follow workers paging traffic limits one forms script width plan span reply loud owed free follows none =
+    let samples = made_samples plan in
+    let header = header_of width plan in
+    let file = readable loud in
+    let clean = clean_links width script plan span paging traffic loud follows none in
+    let t = tuning_for (settings_for header 1 paging traffic) (take span samples) in
+    one_reply forms (jobs.Follow span workers 1 paging traffic limits) (made_file width plan) reply _ owed
+    (follow_owes forms span workers 1 paging traffic limits (made_file width plan) header samples file
+    (enough loud))
+    ∙ ap (λ (end : Status). Ok (run_text (kept_by limits forms) (events t samples), end))
+    (end_is 1 paging traffic (cell_borne clean.file file.counted))
+    ∙ ap (λ (es : List Event). Ok (run_text (kept_by limits forms) es, clean_end plan))
+    (clean_events-are width script plan span 1 paging traffic header samples clean free follows file.counted
+    one)
+
+-- from replies of any file of a cell to those of the file that `make` writes
+of_made : (job : ℕ → ℕ → ℕ → Traffic → Job) (Sends : TrafficPlan → Type 0)
+    (Is : CellPlan → TrafficPlan → ℕ → List ℕ → Type 0) → RepliesComeBack job Sends Is →
+    laws.LouderRepliesComeBack (λ span workers traffic. job span workers 1 traffic) Sends Is
+of_made job Sends Is back workers traffic forms script width plan span reply loud owed p has assigned
+    sends =
+    back forms script (made_file width plan) width plan p span workers 1 traffic (header_of width plan)
+    (made_samples plan) reply (record {
+      file = readable loud;
+      enough = enough loud;
+      cell = made_cell loud;
+      sent = has;
+      assigned = assigned;
+    }) sends owed
+
+pub louder_rate2 : laws.LouderRate2RepliesComeBack
+louder_rate2 = of_made rate2_job SendsSetTwo IsLineOfSetTwo rate2_replies
+
+pub louder_list : laws.LouderListRepliesComeBack
+louder_list k least = of_made (list_job k) SendsSetOne IsLineOfSetOne (list_replies k least)
+
+pub louder_idle : laws.LouderIdleRepliesComeBack
+louder_idle workers key cycle p forms script width plan span reply loud owed has =
+    idle_replies forms script (made_file width plan) width plan p span workers 1 key cycle
+    (header_of width plan) (made_samples plan) reply (readable loud) (enough loud) (made_cell loud) has owed

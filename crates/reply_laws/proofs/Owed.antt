@@ -1,17 +1,15 @@
 -- Each input is owed a reply, the number of workers changes none, and what each command owes.
 use Rattle.reply_laws.proofs.Common.{◌≡◌, ℕ, zero, suc, ◌*◌, ◌+◌, ◌≤◌, ◌++◌, inl, inr, List, [], ◌∷◌, length, take, drop, refl, sym, ap}
-use Rattle.reply_laws.proofs.Common.{◌∙◌, arith, All, append-nil, length-drop, length-take-le, take-append-drop, Result, Ok, Err, cases_lt}
-use Rattle.reply_laws.proofs.Common.{All-cons, flat_map, read_sfits, Sample, Width, Eight, Sixteen, HasBits, IsSampleFile, integer_width_of}
-use Rattle.reply_laws.proofs.Common.{header_spelling, opening, sample_len, sample_spelling, width_of, FileFault, Extra, Short, TooFew}
-use Rattle.reply_laws.proofs.Common.{Header, AreBytes, AreBytes-drop, AreBytes-from_all, AreBytes-take, opening-ok, sample_bytes, sample_in}
-use Rattle.reply_laws.proofs.Common.{plan_named, CellPlan, ScriptFault, KeptTap, Channel, TunedText, IsFaultIn, file_end, ByFrames}
-use Rattle.reply_laws.proofs.Common.{best_pilot, file_end_of, file_text, told, tuning_for, waiting, made_file, IsFileReply, IsScriptReply}
-use Rattle.reply_laws.proofs.Common.{IsTaskReply, IsWholeFile, Reply, taps_by, EachInputIsOwed, FindOwesThePilot, FollowOwesTheEvents}
-use Rattle.reply_laws.proofs.Common.{IdleOwesTheSlots, ListOwesTheFrames, MakeOwesTheFile, Rate2OwesTheFrames, SurveyOwesTheRanks}
-use Rattle.reply_laws.proofs.Common.{TrialOwesItsLine, WorkersChangeNoReply, hearing, task_of, trial_line, Reception, Status, Task, Make}
-use Rattle.reply_laws.proofs.Common.{Receive, Trial, nil_from_length}
-use Rattle.owed_replies.proofs.Files.{none_within}
-use Rattle.owed_replies.proofs.Replies.{whole_file}
+use Rattle.reply_laws.proofs.Common.{◌∙◌, arith, All, append-nil, length-drop, length-take-le, take-append-drop, Ok, Err, cases_lt}
+use Rattle.reply_laws.proofs.Common.{All-cons, flat_map, read_sfits, Sample, Width, Eight, Sixteen, HasBits, integer_width_of}
+use Rattle.reply_laws.proofs.Common.{header_spelling, sample_spelling, width_of, Header, AreBytes, AreBytes-drop, AreBytes-from_all}
+use Rattle.reply_laws.proofs.Common.{AreBytes-take, opening-ok, sample_bytes, sample_in, plan_named, CellPlan, KeptTap, best_pilot}
+use Rattle.reply_laws.proofs.Common.{file_end_of, file_text, told, made_file, IsFileReply, Reply, Reception, Status, Task, Make, Receive}
+use Rattle.reply_laws.proofs.Common.{Trial, nil_from_length, none_within, whole_file}
+use Rattle.owed_replies.proofs.Common.{Result, opening, sample_len, FileFault, Extra, Short, TooFew, ScriptFault, IsFaultIn, file_end}
+use Rattle.owed_replies.proofs.Common.{IsScriptReply, IsTaskReply, IsWholeFile, taps_by, task_of, trial_line}
+use Rattle.reply_laws.specs.ReplyLaws.{EachInputIsOwed, FindOwesThePilot, FollowOwesTheEvents, IdleOwesTheSlots, ListOwesTheFrames}
+use Rattle.reply_laws.specs.ReplyLaws.{MakeOwesTheFile, Rate2OwesTheFrames, SurveyOwesTheRanks, TrialOwesItsLine, WorkersChangeNoReply}
 use Rattle.command_line.specs.declared.job.Job.TheVariants as jobs
 
 -- ---- bytes are those of samples
@@ -133,25 +131,16 @@ each_owed forms job bytes small = task_owed forms (task_of job) bytes (AreBytes-
 abbrev shared_by : ℕ → Reception → Reception
 shared_by n r = record { span = r.span; workers = n; purpose = r.purpose }
 
-shared_text : (taps : List KeptTap) (r : Reception) (n : ℕ) (header : Header)
-    (samples : List Sample) → file_text taps r header samples ≡ file_text taps (shared_by n r) header samples
-unfolding file_text
-shared_text taps r n header samples = refl
-
-shared_end : (r : Reception) (n : ℕ) (header : Header) (samples : List Sample) →
-    file_end_of r header samples ≡ file_end_of (shared_by n r) header samples
-unfolding file_end_of
-shared_end r n header samples = refl
-
 shared : (taps : List KeptTap) (r : Reception) (n : ℕ) (bytes : List ℕ) (reply : Reply) →
     IsFileReply taps r bytes reply → IsFileReply taps (shared_by n r) bytes reply
+unfolding file_text file_end_of
 shared taps r n bytes (Ok all) w = record {
   header = w.header;
   samples = w.samples;
   file = w.file;
   enough = w.enough;
-  text_is = w.text_is ∙ shared_text taps r n w.header w.samples;
-  end_is = w.end_is ∙ shared_end r n w.header w.samples;
+  text_is = w.text_is;
+  end_is = w.end_is;
 }
 shared taps r n bytes (Err end) f = f
 
@@ -184,31 +173,17 @@ pub follow_owes : FollowOwesTheEvents
 unfolding file_text file_end_of told
 follow_owes forms span workers fingers paging traffic limits bytes header samples file enough = whole_file file enough
 
-frames_owed : (span workers fingers : ℕ) (channel : Channel) (text : TunedText) (bytes : List ℕ)
-    (header : Header) (samples : List Sample) → IsSampleFile bytes header samples →
-    span ≤ length samples →
-    IsFileReply [] (hearing span workers fingers channel text) bytes
-    (Ok (
-      told (ByFrames (tuning_for (waiting header fingers) (take span samples)) channel text) samples,
-      file_end_of (hearing span workers fingers channel text) header samples,
-    ))
-unfolding file_text
-frames_owed span workers fingers channel text bytes header samples file enough = whole_file file enough
-
 pub rate2_owes : Rate2OwesTheFrames
-unfolding file_end_of told
-rate2_owes span workers fingers offset esn row forms bytes header samples file enough =
-    frames_owed span workers fingers _ _ bytes header samples file enough
+unfolding file_text file_end_of told
+rate2_owes span workers fingers offset esn row forms bytes header samples file enough = whole_file file enough
 
 pub list_owes : ListOwesTheFrames
-unfolding file_end_of told
-list_owes span workers fingers offset esn row k forms bytes header samples file enough =
-    frames_owed span workers fingers _ _ bytes header samples file enough
+unfolding file_text file_end_of told
+list_owes span workers fingers offset esn row k forms bytes header samples file enough = whole_file file enough
 
 pub idle_owes : IdleOwesTheSlots
-unfolding file_end_of told
-idle_owes span workers fingers paging key cycle forms bytes header samples file enough =
-    frames_owed span workers fingers _ _ bytes header samples file enough
+unfolding file_text file_end_of told
+idle_owes span workers fingers paging key cycle forms bytes header samples file enough = whole_file file enough
 
 pub survey_owes : SurveyOwesTheRanks
 unfolding file_text file_end_of told

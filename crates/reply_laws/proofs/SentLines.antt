@@ -1,21 +1,21 @@
 -- The lines of a traffic channel's frames come back.
-use Rattle.reply_laws.proofs.Common.{◌≡◌, ◌≤◌, ℕ, ◌*◌, ◌%◌, refl, sym, ap, ◌∙◌, subst, arith, List, [], ◌∷◌, length, Bool, Option, ℤ, None}
-use Rattle.reply_laws.proofs.Common.{Some, Contains, flat_map, flat_map-map, CheckForm, Sample, Width, traffic_mask, decoded2}
-use Rattle.reply_laws.proofs.Common.{IsTrafficFrame, SetOne, planned, one_in_turn, frames_of, cycled_frame, sent_frame_state, set_one}
-use Rattle.reply_laws.proofs.Common.{Header, IsSetOneFrame, CellPlan, TrafficPlan, SetOneFrame, SetTwoFrame, event_line, frame2_line}
-use Rattle.reply_laws.proofs.Common.{traffic_channel, mark, soft_frames, frame_event, Tuning, Mark, Traffic, SoftFrame, IsReceivable}
-use Rattle.reply_laws.proofs.Common.{frame_ends, received_frames, replaced_of, sent_bits, sent_power_bits, codeword_symbols}
-use Rattle.reply_laws.proofs.Common.{AreReceivedFrom, HoldsBehindMark, MarkIsAt, TrafficFrameHasSigns, frames_behind_mark, near_frame}
-use Rattle.reply_laws.proofs.Common.{set_two_behind_mark, traffic_carrier, SendsSetOne, SendsSetTwo, SendsSymbols, cycled_frame2}
-use Rattle.reply_laws.proofs.Common.{power_pairs, one_taken, one_there, Decoded, lawful_traffic, set_one_sends, listed_texts, rate2_texts}
-use Rattle.reply_laws.proofs.Common.{decoded_line, frames_text, listed_text, rate2_text, text_behind, tuned_text, TunedText, Listed}
-use Rattle.reply_laws.proofs.Common.{RateSetTwo, AreSentLines, IsLineOfSetOne, IsLineOfSetTwo, IsSentLine, IsSentLine2, IsSentText}
-use Rattle.reply_laws.proofs.Common.{LinesComeBack, ListedLinesComeBack, SetTwoLinesComeBack, Bears, Decoded2, IsReceivedBySigns}
-use Rattle.reply_laws.proofs.Common.{IsSentFrame2BySigns, signs_frame_listed, good_frame2}
-use Rattle.clean_signal.proofs.signal.CarriersApart.{traffic_sent}
-use Rattle.rake_finger.specs.declared.form.Form.TheVariants.{Data}
-use Rattle.listed_frame.specs.ListedFrames.{listed}
-use Rattle.owed_replies.proofs.BorneFiles.{IsBorneFile, long}
+use Rattle.reply_laws.proofs.Common.{◌≡◌, ◌≤◌, ℕ, ◌*◌, refl, sym, ap, ◌∙◌, subst, arith, List, [], ◌∷◌, length, Option, ℤ, None, Some}
+use Rattle.reply_laws.proofs.Common.{Contains, flat_map, Sample, Width, decoded2, sent_frame_state, Header, CellPlan, TrafficPlan}
+use Rattle.reply_laws.proofs.Common.{event_line, frame2_line, traffic_channel, mark, Tuning, Mark, Traffic, IsReceivable, HoldsBehindMark}
+use Rattle.reply_laws.proofs.Common.{MarkIsAt, TrafficFrameHasSigns, frames_behind_mark, near_frame, set_two_behind_mark, SendsSetOne}
+use Rattle.reply_laws.proofs.Common.{SendsSetTwo, power_pairs, one_taken, one_there, lawful_traffic, set_one_sends, listed_texts}
+use Rattle.reply_laws.proofs.Common.{rate2_texts, decoded_line, frames_text, listed_text, rate2_text, text_behind, tuned_text, TunedText}
+use Rattle.reply_laws.proofs.Common.{Listed, RateSetTwo, IsLineOfSetOne, IsLineOfSetTwo, LinesComeBack, Bears, Decoded2, signs_frame_listed}
+use Rattle.reply_laws.proofs.Common.{good_frame2, traffic_sent, listed, IsBorneFile, long, nat_le, places, decoded_by_one_codeword}
+use Rattle.reply_laws.proofs.Common.{channel_stream, reference_alone, decoded_alone, power_alone, text_from}
+use Rattle.clean_link.proofs.Common.{◌%◌, Bool, flat_map-map, CheckForm, traffic_mask, IsTrafficFrame, SetOne, planned, one_in_turn}
+use Rattle.clean_link.proofs.Common.{frames_of, cycled_frame, set_one, IsSetOneFrame, SetOneFrame, SetTwoFrame, soft_frames, frame_event}
+use Rattle.clean_link.proofs.Common.{SoftFrame, frame_ends, received_frames, replaced_of, sent_bits, sent_power_bits, codeword_symbols}
+use Rattle.clean_link.proofs.Common.{AreReceivedFrom, traffic_carrier, SendsSymbols, cycled_frame2, Decoded, IsReceivedBySigns}
+use Rattle.clean_link.proofs.Common.{IsSentFrame2BySigns, Data, ◌&&◌, flat_map_ext_filter, paging_bound, frames_within, soft_frame}
+use Rattle.clean_link.proofs.Common.{is_in_file, known_at, known_by, power_bits_at, decoded_at, replaced_in}
+use Rattle.reply_laws.specs.SentLines.{AreSentLines, IsSentLine, IsSentLine2, IsSentText, ListedLinesComeBack, SetTwoLinesComeBack}
+use Rattle.reply_laws.specs.SentLines.{followed_frame_line, OneCodewordFollows, OneCodewordFollowsFrame}
 
 -- ---- any frames
 
@@ -149,17 +149,6 @@ listed_back k most plan p frame f soft sized received =
           (omega (arith, few)) shown.long sized shown.keeps distinct);
     }
 
-listed_line : (k : ℕ) → 1 ≤ k → (width : Width) (plan : CellPlan) (p : TrafficPlan) (frame : ℕ)
-    (soft : SoftFrame) → IsReceivable width plan → Contains plan.traffic p → SendsSetOne p →
-    ShowsSent plan p frame soft → IsLineOfSetOne plan p frame (listed_of k soft)
-listed_line k most width plan p frame soft is has some shows =
-    let (f, here, sized) = frame_there width plan p frame is has some in (
-      f,
-      here,
-      listed_back k most plan p frame f soft sized
-          (shows (codeword_symbols f) f.power_bits (set_one_sends plan p frame f here)),
-    )
-
 -- ---- frames of rate set 2
 
 -- what is received of one
@@ -198,10 +187,6 @@ line_back plan p frame f soft sent =
           ∙ of_any_score ends f back.score _ (sent_bits f.power_bits);
     }
 
-set_two_line : (plan : CellPlan) (p : TrafficPlan) (frame : ℕ) (soft : SoftFrame) →
-    IsSent2 plan p frame soft → IsLineOfSetTwo plan p frame (rate2_of soft)
-set_two_line plan p frame soft (f, here, sent) = (f, here, line_back plan p frame f soft sent)
-
 -- ---- the laws
 
 pub listed_lines : ListedLinesComeBack
@@ -210,10 +195,57 @@ listed_lines k most =
     SendsSetOne IsLineOfSetOne ShowsSent
     (λ width plan p t traffic m at samples is long on has assigned set some.
     frames_behind_mark width plan p t traffic m at samples is long on has assigned set)
-    (listed_line k most)
+    (λ width plan p frame soft is has some shows.
+    let (f, here, sized) = frame_there width plan p frame is has some in (
+      f,
+      here,
+      listed_back k most plan p frame f soft sized
+          (shows (codeword_symbols f) f.power_bits (set_one_sends plan p frame f here)),
+    ))
 
 pub set_two_lines : SetTwoLinesComeBack
 set_two_lines =
     signed_lines RateSetTwo rate2_of (λ check m frames. rate2_texts check m [] frames) SendsSetTwo
     IsLineOfSetTwo IsSent2 set_two_behind_mark
-    (λ width plan p frame soft is has some sent. set_two_line plan p frame soft sent)
+    (λ width plan p frame soft is has some sent.
+    (sent.0, sent.1, line_back plan p frame sent.0 soft sent.2))
+
+-- ---- one codeword of each rate
+
+-- of one frame
+pub one_frame : OneCodewordFollowsFrame
+one_frame t traffic m samples slot k =
+    let soft = soft_frame t (traffic_channel traffic) m samples k in
+    let heard = decoded_at t traffic m (reference_alone traffic m) samples k in
+    let power_bits = power_bits_at t traffic m (reference_alone traffic m) samples k in
+    ap (listed_text 1 soft.end soft.descrambled) (sym (power_alone t traffic m samples k))
+    ∙ ap (λ (d : Decoded). decoded_line soft.end d power_bits)
+    (decoded_by_one_codeword (replaced_in traffic m k) soft.descrambled
+    ∙ sym (decoded_alone t traffic m samples k))
+    ∙ line_of_event soft.end heard power_bits
+
+-- of those that end within these samples
+each_frame : (t : Tuning) (traffic : Traffic) (m : Mark) (samples : List Sample) →
+    text_from (Listed 1) t (traffic_channel traffic) m samples ≡
+    flat_map (followed_frame_line t traffic m samples)
+    (soft_frames t (traffic_channel traffic) m samples)
+unfolding frames_within
+each_frame t traffic m samples =
+    let n = length samples in
+    let stream = channel_stream t (traffic_channel traffic) m in
+    let soft : ℕ → SoftFrame = soft_frame t (traffic_channel traffic) m samples in
+    let within : List ℕ = known_by t.count stream n (paging_bound n) in
+    listed_texts t.check30 m [] (soft_frames t (traffic_channel traffic) m samples) 1
+    ∙ flat_map-map (listed_of 1) soft within
+    ∙ flat_map_ext_filter
+    (λ k. is_in_file t.count stream k && nat_le (known_at t.count stream k) n)
+    (λ k. listed_of 1 (soft k)) (λ k. followed_frame_line t traffic m samples (soft k))
+    (places (paging_bound n)) (λ k kept. one_frame t traffic m samples [] k)
+    ∙ sym (flat_map-map (followed_frame_line t traffic m samples) soft within)
+
+pub one_codeword_follows : OneCodewordFollows
+unfolding tuned_text
+one_codeword_follows t traffic m samples set =
+    ap
+    (λ (last : Option Mark). text_behind (Listed 1) t (traffic_channel traffic) samples last) set
+    ∙ each_frame t traffic m samples

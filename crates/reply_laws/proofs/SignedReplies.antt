@@ -6,19 +6,11 @@ use Rattle.reply_laws.proofs.Common.{IsReply, Reply, IsLineOfSetOne, IsLineOfSet
 use Rattle.reply_laws.proofs.Common.{MarksAreAt, TrafficFrameHasSigns, IsFileOnPath, IsReplyFrom, SignedRepliesComeBack, channels_by_signs}
 use Rattle.reply_laws.proofs.Common.{no_event_directed, all_by_signs, tells_the_mark, kept_by, run_text, events, settings_for, tuning_for}
 use Rattle.reply_laws.proofs.Common.{end_when, clean_end, slot_texts_back, energy, best_phase, near_deltas, one_near, written_of_slots}
-use Rattle.reply_laws.proofs.Common.{arith, suc, Bears, FileSlotsComeBack, IsAssigned}
-use Rattle.std.specs.Prelude.{is_some, nat_lt}
-use Rattle.std.proofs.lemmas.Bool.{lt-ltb}
-use Rattle.cell_plan.specs.declared.plan.SyncPlan.{SyncPlan}
-use Rattle.clean_frames.specs.WholeSendings.{told_by_first, whole_sendings}
-use Rattle.clean_link.specs.CleanLink.{events_of_channel, sending_event, sync_sent}
-use Rattle.clean_link.specs.SentEvents.{sent_events}
-use Rattle.owed_replies.proofs.BorneFiles.{IsBorneFile, signs}
-use Rattle.owed_replies.proofs.Replies.{one_reply}
-use Rattle.owed_replies.proofs.TuningLaw.{near_long, own_delta}
+use Rattle.reply_laws.proofs.Common.{arith, suc, Bears, FileSlotsComeBack, IsAssigned, is_some, nat_lt, lt-ltb, SyncPlan, told_by_first}
+use Rattle.reply_laws.proofs.Common.{whole_sendings, events_of_channel, sending_event, sync_sent, sent_events, IsBorneFile, signs}
+use Rattle.reply_laws.proofs.Common.{one_reply, near_long, own_delta, LinesComeBack, list_job, rate2_job, ap₂}
 use Rattle.reply_laws.proofs.Owed.{follow_owes, idle_owes, list_owes, rate2_owes}
 use Rattle.reply_laws.proofs.SentLines.{all_lines, borne_signs, listed_lines, set_two_lines}
-use Rattle.reply_laws.specs.SentLines.{LinesComeBack}
 use Rattle.reply_laws.specs.SignedReplies as laws
 use Rattle.command_line.specs.declared.job.Job.TheVariants as jobs
 
@@ -119,11 +111,6 @@ signed_undirected bytes width plan span fingers paging followed header samples f
 abbrev whole : List ℕ → Status → Reply
 whole text end = Ok (text, end)
 
-same_whole : (text other : List ℕ) (end last : Status) → text ≡ other → end ≡ last →
-    whole text end ≡ whole other last
-same_whole text other end last texts ends =
-    ap (whole text) ends ∙ ap (λ (t : List ℕ). whole t last) texts
-
 pub signed_whole : laws.SignedWholeRepliesComeBack
 signed_whole forms limits bytes width plan q span workers fingers header samples reply file is has signs
     owed =
@@ -132,7 +119,7 @@ signed_whole forms limits bytes width plan q span workers fingers header samples
     one_reply forms job bytes reply _ owed
     (follow_owes forms span workers fingers q.number None limits bytes header samples file.file
     file.enough)
-    ∙ same_whole _ _ _ _
+    ∙ ap₂ whole
     (ap (run_text (kept_by limits forms))
     (all_by_signs width plan samples t q is (on file q.number None) refl has refl signs
     ∙ ap (λ (phase : ℕ). sent_events plan (energy (take span samples) phase) q.number None) file.found))
@@ -140,14 +127,6 @@ signed_whole forms limits bytes width plan q span workers fingers header samples
     ∙ told_end plan)
 
 -- ---- one channel
-
-abbrev pub rate2_job : ℕ → ℕ → ℕ → Traffic → Job
-rate2_job span workers fingers traffic =
-    jobs.Rate2 span workers fingers traffic.offset traffic.esn traffic.row
-
-abbrev pub list_job : ℕ → ℕ → ℕ → ℕ → Traffic → Job
-list_job k span workers fingers traffic =
-    jobs.List span workers fingers traffic.offset traffic.esn traffic.row k
 
 -- where a job owes the text of the channel's frames
 signed_replies : (job : ℕ → ℕ → ℕ → Traffic → Job) (form : TunedText) →
@@ -194,7 +173,7 @@ signed_idle forms bytes width plan p span workers fingers key cycle header sampl
     let there = on file 1 None in
     one_reply forms job bytes reply _ owed
     (idle_owes span workers fingers p.number key cycle forms bytes header samples file.file file.enough)
-    ∙ same_whole _ _ _ _
+    ∙ ap₂ whole
     (file_slots width plan p t key cycle at samples file.receivable file.long there has (marks t there)
     signs)
     (end_at file 1 None at marks)
@@ -212,22 +191,17 @@ sent_reply plan p Has Is (Err fault) have none = none
 
 pub told_replies : (job : ℕ → ℕ → ℕ → Traffic → Job) (Sends : TrafficPlan → Type 0)
     (Is : CellPlan → TrafficPlan → ℕ → List ℕ → Type 0) → SignedRepliesComeBack job Sends Is →
-    (forms bytes : List ℕ) (e : ℕ) (width : Width) (plan : CellPlan) (p : TrafficPlan)
-    (span workers fingers : ℕ) (traffic : Traffic) (header : Header) (samples : List Sample)
-    (reply : Reply) → IsSampleFile bytes header samples → span ≤ length samples →
+    (forms : List ℕ) (workers : ℕ) (reply : Reply) {bytes : List ℕ} {e : ℕ} {width : Width}
+    {plan : CellPlan} {p : TrafficPlan} {span fingers : ℕ} {traffic : Traffic} {header : Header}
+    {samples : List Sample} → IsSampleFile bytes header samples → span ≤ length samples →
     IsBorneFile e width plan span fingers header samples → Contains plan.traffic p →
     IsAssigned p traffic → Bears plan p.gain e → Sends p →
     IsReply forms (job span workers fingers traffic) bytes reply →
     IsSentReply plan p (Is plan p) reply
-told_replies job Sends Is signed forms bytes e width plan p span workers fingers traffic header samples reply
-    file enough borne has assigned bears sends owed =
+told_replies job Sends Is signed forms workers reply {bytes} {width = width} {plan} {p} {span} {fingers}
+    {traffic} {header} {samples} file enough borne has assigned bears sends owed =
     sent_reply plan p (TrafficFrameHasSigns plan p samples) (Is plan p) reply
     (borne_signs samples borne has bears)
     (signed forms bytes width plan p span workers fingers traffic header samples reply _
     (borne_on_path file enough borne)
     (tells_the_mark width plan samples (signs fingers 1 None borne)) has assigned sends owed)
-
-pub idle_end : (plan : CellPlan) (text : List ℕ) (reply : Reply) →
-    reply ≡ Ok (text, end_when (is_some (told_with_sync plan plan.sync))) →
-    reply ≡ Ok (text, clean_end plan)
-idle_end plan text reply is = is ∙ ap (whole text) (told_end plan)

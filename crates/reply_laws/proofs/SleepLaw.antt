@@ -1,11 +1,146 @@
--- What is owed of a file whose slots a sleeping handset hears doesn't depend on what it sleeps through.
+-- What is owed of a file whose slots a sleeping handset hears doesn't depend on what it sleeps through: the
+-- paths that the search hands on are near enough for it to follow.
 use Rattle.reply_laws.proofs.Common.{◌≡◌, ℕ, ◌≤◌, ◌++◌, List, [], length, take, sym, ap, ◌∙◌, subst, arith, Option, Some, Ok, is_some}
-use Rattle.reply_laws.proofs.Common.{take-take, Sample, Header, KeptTap, mark, AreNear, Tuning, sync_stream, Channel, Paging, Mark}
-use Rattle.reply_laws.proofs.Common.{timed_of, known_between, mark_set, tuned_text, TunedText, Slots, same_mark, sleeps, mark_is_late}
-use Rattle.reply_laws.proofs.Common.{end_when, file_end_of, file_text, first_text, is_told, listening, told, tuning_for, waiting}
-use Rattle.reply_laws.proofs.Common.{IsFileReply, Reply, SleepChangesNoReply, Purpose, Tuned, Reception}
-use Rattle.reply_laws.proofs.NearPaths.{waiting_near}
-use Rattle.owed_replies.proofs.Replies.{one_file_reply, whole_file}
+use Rattle.reply_laws.proofs.Common.{Sample, Header, KeptTap, mark, Tuning, Channel, Paging, Mark, timed_of, mark_set, tuned_text}
+use Rattle.reply_laws.proofs.Common.{TunedText, Slots, same_mark, sleeps, mark_is_late, end_when, file_end_of, file_text, first_text}
+use Rattle.reply_laws.proofs.Common.{is_told, listening, told, tuning_for, waiting, IsFileReply, Reply, SleepChangesNoReply, Purpose, Tuned}
+use Rattle.reply_laws.proofs.Common.{Reception, one_file_reply, whole_file, refl, IsBestIn, ◌≢◌, zero, suc, ◌<◌, ◌∷◌, get_or, inl, inr, ℤ}
+use Rattle.reply_laws.proofs.Common.{All, nat_eq, int_le, unsigned_abs, cases_lt, nat_tests, All-cons, All-head, All-nil, All-tail}
+use Rattle.reply_laws.proofs.Common.{best_phase, energy, best_phase-is, near_deltas, one_delta, all_near, is_near, IsFingers, near_phase_at}
+use Rattle.reply_laws.proofs.Common.{free_taken, scanned, first_places, greatest_unless, place_back, near_place, near_value}
+use Rattle.clean_link.proofs.Common.{take-take, AreNear, sync_stream, known_between, true, false, pos, negsuc, ◌-ℤ◌, and_from, le-leb}
+use Rattle.clean_link.proofs.Common.{lt-leb, ints, fingers_of, list_any}
+
+-- ---- the phase that comes next
+
+module _ (samples : List Sample) (best : ℕ) (low : best < 32768) where
+  -- the phase that comes next, if these are taken
+  abbrev next : List ℕ → ℕ
+  next taken = greatest_unless taken (near_value samples best) 32768
+
+  -- It is one of the 65 round the best phase as long as one of those is left: each of them has an
+  -- energy, and every other phase has less than any.
+  next_near : (taken : List ℕ) (place : ℕ) → place < 65 →
+      list_any (nat_eq (near_phase_at best place)) taken ≡ false → near_place best (next taken) ≤ 64
+  next_near taken place few left =
+      let free = near_phase_at best place in
+      elim (scanned taken (near_value samples best) 32768) [
+        | inl none ↦ free_taken (list_any (nat_eq free) taken) left (none.0.all free (omega arith))
+        | inr is ↦ elim (cases_lt 64 (near_place best (next taken))) [
+          | inl far ↦
+              let here = le-leb (near_place best free) 64 (omega (arith, place_back best place low few, few)) in
+              let there = lt-leb (near_place best (next taken)) 64 far in
+              let less = rw (here, there) at (is.greatest free (omega arith) left) in
+              absurd (omega (arith, ints, less))
+          | inr near ↦ near
+        ]
+      ]
+
+  -- another place has another phase
+  not_at : (place other : ℕ) → place < 65 → place ≢ near_place best other →
+      nat_eq (near_phase_at best place) other ≡ false
+  not_at place other few ne =
+      let apart : near_phase_at best place ≢ other =
+      λ e. ne (sym (place_back best place low few) ∙ ap (near_place best) e) in
+      grind (arith, nat_tests)
+
+  -- So the second phase is one of the 65 round the best, and so is the third: next to the best one
+  -- there is one that isn't the second.
+  second_near : (one : ℕ) → near_place best one ≡ 32 → near_place best (next (one ∷ [])) ≤ 64
+  second_near one is =
+      next_near (one ∷ []) 31 (omega arith) (rw (not_at 31 one (omega arith) (omega (arith, is))) refl)
+
+  third_near : (one two : ℕ) → near_place best one ≡ 32 → near_place best (next (one ∷ two ∷ [])) ≤ 64
+  third_near one two is =
+      let at_place = λ (place : ℕ) (few : place < 65) (not_one : place ≢ 32)
+      (not_two : place ≢ near_place best two).
+      next_near (one ∷ two ∷ []) place few
+      (rw (not_at place one few (omega (arith, is, not_one)), not_at place two few not_two) refl) in
+      elim (cases_lt (near_place best two) 32) [
+        | inl before ↦ at_place 33 (omega arith) (omega arith) (omega (arith, before))
+        | inr after ↦ at_place 31 (omega arith) (omega arith) (omega (arith, after))
+      ]
+
+-- ---- the paths
+
+abbrev IsPath : ℤ → Type 0
+IsPath d = unsigned_abs d ≤ 127
+
+near_one : (d : ℤ) → IsPath d → is_near d ≡ true
+near_one d h =
+    let a : int_le (negsuc 127) d ≡ true = grind (arith, ints) in
+    let b : int_le d (pos 127) ≡ true = grind (arith, ints) in
+    and_from (int_le (negsuc 127) d) (int_le d (pos 127)) a b
+
+near_all : (phase : ℕ) (deltas : List ℤ) → All IsPath deltas →
+    all_near (fingers_of 32 phase deltas) ≡ true
+near_all phase [] h = refl
+near_all phase (d ∷ deltas) h =
+    and_from (is_near d) (all_near (fingers_of 32 phase deltas))
+    (near_one d (All-head IsPath d deltas h)) (near_all phase deltas (All-tail IsPath d deltas h))
+
+-- they are near enough, wherever the pilot's phase lies
+abbrev AreFollowable : List ℤ → Type 0
+AreFollowable deltas = (phase : ℕ) → AreNear (fingers_of 32 phase deltas)
+
+-- the first of them at the best phase
+followed_first : (first : ℤ) (rest : List ℤ) → first ≡ pos 0 → All IsPath rest →
+    AreFollowable (first ∷ rest)
+followed_first first rest is h = rw is (λ phase. rw (near_all phase rest h) refl)
+
+module _ (samples : List Sample) where
+  abbrev best : ℕ
+  best = best_phase samples
+
+  abbrev is_best : IsBestIn samples 0 32768 best (energy samples best)
+  is_best = best_phase-is samples
+
+  abbrev first : ℕ
+  first = next samples best is_best.below []
+
+  abbrev second : ℕ
+  second = next samples best is_best.below (first ∷ [])
+
+  abbrev third : ℕ
+  third = next samples best is_best.below (first ∷ second ∷ [])
+
+  abbrev delta : ℕ → ℤ
+  delta phase = pos (near_place best phase) -ℤ pos 32
+
+  first_delta : delta first ≡ pos 0
+  unfolding near_deltas first_places
+  first_delta =
+      ap (λ (deltas : List ℤ). get_or deltas 0 (pos 0)) (one_delta samples best (energy samples best) is_best)
+
+  first_place : near_place best first ≡ 32
+  first_place = omega (arith, ints, first_delta)
+
+  path : (phase : ℕ) → near_place best phase ≤ 64 → IsPath (delta phase)
+  path phase near = omega (arith, ints, near)
+
+  -- The search's paths, up to three, are near enough to be followed: the first is the best phase, and
+  -- the others are two of the 65 phases round it, so they lie 32 chips away at most.
+  all_followed : (fingers : ℕ) → IsFingers fingers → AreFollowable (near_deltas samples best fingers)
+  unfolding near_deltas first_places
+  all_followed zero few = absurd (omega (arith, few.0))
+  all_followed (suc zero) few = followed_first (delta first) [] first_delta (All-nil IsPath)
+  all_followed (suc (suc zero)) few =
+      followed_first (delta first) (delta second ∷ []) first_delta
+      (All-cons IsPath (delta second) [] (path second (second_near samples best is_best.below first first_place))
+      (All-nil IsPath))
+  all_followed (suc (suc (suc zero))) few =
+      followed_first (delta first) (delta second ∷ delta third ∷ []) first_delta
+      (All-cons IsPath (delta second) (delta third ∷ [])
+      (path second (second_near samples best is_best.below first first_place))
+      (All-cons IsPath (delta third) []
+      (path third (third_near samples best is_best.below first second first_place)) (All-nil IsPath)))
+  all_followed (suc (suc (suc (suc n)))) few = absurd (omega (arith, few.1))
+
+-- ---- a handset that waits for the mark
+
+pub waiting_near : (header : Header) (first : List Sample) (fingers : ℕ) → IsFingers fingers →
+    AreNear (sync_stream (tuning_for (waiting header fingers) first)).fingers
+waiting_near header first fingers few = all_followed first fingers few (best_phase first)
 
 -- ---- the mark
 

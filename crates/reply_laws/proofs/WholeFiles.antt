@@ -1,43 +1,25 @@
 -- Whole files meet every premise of the laws.
 use Rattle.reply_laws.proofs.Common.{◌≡◌, ◌≤◌, ℕ, List, [], ◌∷◌, ◌-◌, ◌≢◌, length, map, take, refl, sym, ap, ◌∙◌, subst, arith, Some, None}
-use Rattle.reply_laws.proofs.Common.{Ok, All, All-nil, IsReceivable, Sample, Sixteen, IsSampleFile, IsNotDirected, IsNoisyFile, Status}
-use Rattle.reply_laws.proofs.Common.{TrafficPlan, clean_end, end_when, is_some, mark, events, kept_by, run_text, settings_for, tuning_for}
-use Rattle.reply_laws.proofs.Common.{header_of, length-made, made_samples, named_receivable, plan_named}
-use Rattle.chip_core.specs.Decimals.{digits_from}
-use Rattle.hex.specs.Hex.{decode_pairs}
+use Rattle.reply_laws.proofs.Common.{Ok, All, All-nil, IsReceivable, Sample, Sixteen, IsSampleFile, IsNoisyFile, Status, TrafficPlan}
+use Rattle.reply_laws.proofs.Common.{clean_end, end_when, is_some, mark, events, kept_by, run_text, settings_for, tuning_for, header_of}
+use Rattle.reply_laws.proofs.Common.{length-made, made_samples, named_receivable, plan_named, digits_from, decode_pairs, whole_sendings}
+use Rattle.reply_laws.proofs.Common.{pages_told, sync_told, meets_premises, sending_event, sync_sent, places, some_message, some_sync}
+use Rattle.reply_laws.proofs.Common.{spelling, phase_at, sent_events, energy, cell, cell_beside, file, noisy_paging_plan, sync_with}
+use Rattle.reply_laws.proofs.Common.{less_borne, pilots_bear, plan_files, Job, IsReply, Reply, Done, HasLouderPilot, Bears, IsMargin}
+use Rattle.reply_laws.proofs.Common.{IsHeardThrough, All-cons, All-head, All-tail, codes}
+use Rattle.reply_laws.proofs.MadeLinks.{clean_links, enough, louder_follow, readable, lawful_readable}
+use Rattle.reply_laws.proofs.NoisyReplies.{noisy_whole, comes_back}
+use Rattle.reply_laws.proofs.Owed.{follow_owes}
+use Rattle.clean_link.proofs.Common.{IsNotDirected, IsFreeOf, heard_behind, sending_ends, capsule, check_bits, sync_body, sync_capsule}
+use Rattle.clean_link.proofs.Common.{signaling_sent}
 use Rattle.cell_script.proofs.Common.{admits, binary, bits_in_text, bits_left, cell_in, draft_after, fill, freq_in, hex_bits, hex_from}
 use Rattle.cell_script.proofs.Common.{is_body, is_line, length_before, lines, link_in, number_up_to, numbers_in, page_stage, paging_in}
 use Rattle.cell_script.proofs.Common.{past, past_freq, past_numbers, pilot_in, script_field, signed_in, state_in, stated, stated_page_in}
 use Rattle.cell_script.proofs.Common.{stated_plan, statement_in, sync_behind, sync_in, with_line, with_next}
-use Rattle.cell_plan.specs.Plan.{IsFreeOf}
-use Rattle.clean_frames.specs.WholeSendings.{heard_behind, sending_ends, whole_sendings}
-use Rattle.clean_link.proofs.noise.FileAtMargin.{pages_told, sync_told}
-use Rattle.clean_link.proofs.noise.MarginFile.{meets_premises}
-use Rattle.clean_link.specs.CleanLink.{sending_event, sync_sent}
-use Rattle.clean_link.specs.Common.{capsule, check_bits, places, some_message, some_sync, spelling, sync_body, sync_capsule}
-use Rattle.cell_plan.specs.Transmitter.{phase_at}
-use Rattle.clean_link.specs.SentEvents.{sent_events, signaling_sent}
-use Rattle.pilot_search.specs.Search.{energy}
-use Rattle.clean_link.specs.NoisyFile.{cell, cell_beside, file, noisy_paging_plan, sync_with}
-use Rattle.clean_signal.proofs.noise.Near.{less_borne}
-use Rattle.clean_signal.proofs.signal.FoundPhase.{pilots_bear, plan_files}
-use Rattle.command_line.specs.declared.job.Job.{Job}
-use Rattle.command_line.specs.declared.job.Job.TheVariants as jobs
-use Rattle.owed_replies.specs.Replies.{IsReply, Reply}
-use Rattle.owed_replies.specs.declared.status.Status.TheVariants.{Done}
-use Rattle.reply_laws.proofs.LouderPilots.{clean, enough, louder_follow, readable}
-use Rattle.reply_laws.proofs.MadeLinks.{lawful_readable}
-use Rattle.reply_laws.proofs.NoisyReplies.{noisy_whole}
-use Rattle.reply_laws.proofs.Owed.{follow_owes}
-use Rattle.reply_laws.specs.LouderPilots.{HasLouderPilot}
-use Rattle.clean_signal.specs.BoundedNoise.{Bears, IsMargin}
-use Rattle.reply_laws.proofs.HeardThrough.{comes_back}
-use Rattle.reply_laws.specs.NoisyReplies.{IsHeardThrough}
-use Rattle.std.proofs.lemmas.List.Elements.{All-cons, All-head, All-tail}
-use Rattle.std.specs.Prelude.{codes}
 use Rattle.reply_laws.specs.WholeFiles.{ComesBackThroughAnyNoise, loud_cell, script_with_pilot, second_messages, second_paging, second_with}
 use Rattle.reply_laws.specs.WholeFiles.{MeetsEachPremise, MeetsEachNoisePremise, margin_bytes, second_cell, second_file, second_header}
 use Rattle.reply_laws.specs.WholeFiles.{second_script, second_text}
+use Rattle.command_line.specs.declared.job.Job.TheVariants as jobs
 
 -- ---- without noise
 
@@ -124,7 +106,7 @@ pub meets_each : MeetsEachPremise
 meets_each = record {
   louder = louder;
   file = readable louder;
-  clean = clean louder 1 None tt (none_directed 100);
+  clean = clean_links Sixteen second_script second_cell 2048 1 None louder tt (none_directed 100);
   free = no_traffic;
   follows = tt;
   noisy = record {

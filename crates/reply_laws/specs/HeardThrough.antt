@@ -1,37 +1,17 @@
 -- What each command owes of a file with noise, if the script alone shows that its cell is heard
 -- through noise of that size. The only premise on the file is that it is near.
-use Rattle.std.specs.Prelude.{◌≡◌, ◌≤◌, ℕ, List, take, All, Option, None, Some, Ok}
-use Rattle.std.specs.List.{Contains}
-use Rattle.chip_core.specs.declared.assignment.Traffic.{Traffic}
-use Rattle.chip_core.specs.declared.sample.Sample.{Sample}
-use Rattle.chip_core.specs.declared.width.Width.{Width}
-use Rattle.cdma_io.specs.SampleFile.{IsSampleFile}
-use Rattle.cdma_io.specs.declared.header.Header.{Header}
-use Rattle.cell_plan.specs.Sampled.{made_samples}
-use Rattle.cell_plan.specs.Transmitter.{phase_at}
-use Rattle.cell_plan.specs.declared.plan.CellPlan.{CellPlan}
-use Rattle.cell_plan.specs.declared.plan.PagingPlan.{PagingPlan}
-use Rattle.cell_plan.specs.declared.plan.TrafficPlan.{TrafficPlan}
-use Rattle.clean_frames.specs.SentFrames.{IsAssigned, SendsSetOne, SendsSetTwo}
-use Rattle.clean_link.specs.CleanLink.{IsNotDirected}
-use Rattle.clean_link.specs.HeardEach.{HearsBearing}
-use Rattle.clean_link.specs.SentEvents.{FollowsSent, signaling_sent}
-use Rattle.clean_signal.specs.BoundedNoise.{Bears, IsNear}
-use Rattle.command_line.specs.declared.job.Job.{Job}
-use Rattle.command_line.specs.declared.job.Job.TheVariants as jobs
-use Rattle.event_tap.specs.EventLines.{event_line}
-use Rattle.event_tap.specs.Taps.{kept_by, run_text}
-use Rattle.heard_events.specs.declared.event.Event.{Event}
-use Rattle.heard_events.specs.declared.event.Event.TheVariants.{Pilot}
-use Rattle.owed_replies.specs.Hearing.{clean_end}
-use Rattle.owed_replies.specs.Replies.{IsReply, Reply}
-use Rattle.owed_replies.specs.declared.status.Status.TheVariants.{Done}
-use Rattle.pilot_search.specs.Search.{energy}
+use Rattle.reply_laws.specs.Common.{◌≡◌, ◌≤◌, ℕ, List, take, All, Option, None, Some, Ok, Contains}
+use Rattle.reply_laws.specs.Common.{Traffic, Sample, Width, IsSampleFile, Header, made_samples}
+use Rattle.reply_laws.specs.Common.{phase_at, CellPlan, PagingPlan, TrafficPlan, IsAssigned}
+use Rattle.reply_laws.specs.Common.{SendsSetOne, SendsSetTwo, IsNotDirected, HearsBearing}
+use Rattle.reply_laws.specs.Common.{FollowsSent, signaling_sent, Bears, IsNear, Job, event_line}
+use Rattle.reply_laws.specs.Common.{kept_by, run_text, Event, Pilot, clean_end, IsReply, Reply}
+use Rattle.reply_laws.specs.Common.{Done, energy, slots_sent}
+use Rattle.reply_laws.specs.SignedReplies.{list_job, rate2_job, IsWholeReply}
 use Rattle.reply_laws.specs.NoisyReplies.{IsBearingTraffic, IsHeardThrough}
 use Rattle.reply_laws.specs.SentLines.{IsLineOfSetOne, IsLineOfSetTwo}
 use Rattle.reply_laws.specs.SentReplies.{IsSentReply}
-use Rattle.reply_laws.specs.SignedReplies.{IsWholeReply}
-use Rattle.slot_link.specs.Laws.{slots_sent}
+use Rattle.command_line.specs.declared.job.Job.TheVariants as jobs
 
 -- ---- the file and the channel
 
@@ -85,13 +65,11 @@ pub record ComesBackThrough (e : ℕ) (plan : CellPlan) (span : ℕ) : Type 0 wh
   -- `rate2` and `list` report the frames of a traffic channel that bears the noise.
   pub rate2 : (workers : ℕ) (p : TrafficPlan) (traffic : Traffic) →
       IsBearingTraffic e plan p traffic → SendsSetTwo p →
-      HoldsOfNearReplies e plan
-      (jobs.Rate2 span workers 1 traffic.offset traffic.esn traffic.row)
+      HoldsOfNearReplies e plan (rate2_job span workers 1 traffic)
       (λ forms samples reply. IsSentReply plan p (IsLineOfSetTwo plan p) reply)
   pub list : (k workers : ℕ) (p : TrafficPlan) (traffic : Traffic) → 1 ≤ k →
       IsBearingTraffic e plan p traffic → SendsSetOne p →
-      HoldsOfNearReplies e plan
-      (jobs.List span workers 1 traffic.offset traffic.esn traffic.row k)
+      HoldsOfNearReplies e plan (list_job k span workers 1 traffic)
       (λ forms samples reply. IsSentReply plan p (IsLineOfSetOne plan p) reply)
   -- `idle` reports the slots of a paging channel that bears it.
   pub idle : (workers key cycle : ℕ) (p : PagingPlan) → Contains plan.paging p →

@@ -1,33 +1,15 @@
--- Laws of replies: each input is owed one, the number of workers changes none, and what each
--- command owes of a good input.
-use Rattle.std.specs.Prelude.{◌≡◌, ℕ, ◌<◌, ◌≤◌, List, length, take, All, Option, Ok, is_some}
-use Rattle.chip_core.specs.declared.assignment.Traffic.{Traffic}
-use Rattle.chip_core.specs.declared.sample.Sample.{Sample}
-use Rattle.chip_core.specs.declared.width.Width.{Width}
-use Rattle.cdma_io.specs.SampleFile.{IsSampleFile}
-use Rattle.cdma_io.specs.declared.header.Header.{Header}
-use Rattle.pilot_search.specs.Search.{best_phase, energy}
-use Rattle.cell_script.specs.Script.{plan_named}
-use Rattle.cell_plan.specs.declared.plan.CellPlan.{CellPlan}
-use Rattle.heard_events.specs.Events.{events}
-use Rattle.heard_events.specs.Marks.{mark}
-use Rattle.heard_events.specs.declared.channel.Channel.{Channel}
+-- Laws of replies: each input is owed one, the number of workers changes none, what each command
+-- owes of a good input, and that it doesn't depend on what a handset sleeps through.
+use Rattle.reply_laws.specs.Common.{◌≡◌, ℕ, ◌<◌, ◌≤◌, List, length, take, All, Option, Ok, is_some}
+use Rattle.reply_laws.specs.Common.{Traffic, Sample, Width, IsSampleFile, Header, best_phase}
+use Rattle.reply_laws.specs.Common.{energy, plan_named, CellPlan, events, mark, Channel, Pilot}
+use Rattle.reply_laws.specs.Common.{event_line, kept_by, run_text, tuned_text, TunedText, Listed}
+use Rattle.reply_laws.specs.Common.{RateSetTwo, Slots, Job, end_when, settings_for, tuning_for}
+use Rattle.reply_laws.specs.Common.{waiting, traffic_channel_with, made_file, survey_text, IsReply}
+use Rattle.reply_laws.specs.Common.{Reply, trial_line, Done, ◌↔◌, [], Some, Tuning, Paging, Mark}
+use Rattle.reply_laws.specs.Common.{AgreeWhereHeard, IsFingers, IsFileReply, Tuned, Reception}
 use Rattle.heard_events.specs.declared.channel.Channel.TheVariants as channels
-use Rattle.heard_events.specs.declared.event.Event.TheVariants.{Pilot}
-use Rattle.event_tap.specs.EventLines.{event_line}
-use Rattle.event_tap.specs.Taps.{kept_by, run_text}
-use Rattle.event_tap.specs.TunedTexts.{tuned_text}
-use Rattle.event_tap.specs.declared.tuned_text.TunedText.{TunedText}
-use Rattle.event_tap.specs.declared.tuned_text.TunedText.TheVariants.{Listed, RateSetTwo, Slots}
-use Rattle.command_line.specs.declared.job.Job.{Job}
 use Rattle.command_line.specs.declared.job.Job.TheVariants as jobs
-use Rattle.owed_replies.specs.Hearing.{end_when, settings_for, tuning_for, waiting}
-use Rattle.owed_replies.specs.Tasks.{traffic_channel_with}
-use Rattle.owed_replies.specs.Make.{made_file}
-use Rattle.owed_replies.specs.Ranks.{survey_text}
-use Rattle.owed_replies.specs.Replies.{IsReply, Reply}
-use Rattle.owed_replies.specs.Trials.{trial_line}
-use Rattle.owed_replies.specs.declared.status.Status.TheVariants.{Done}
 
 -- for each job and each list of bytes there is a reply that is owed
 abbrev pub EachInputIsOwed : Type 0
@@ -128,3 +110,26 @@ abbrev pub TrialOwesItsLine : Type 0
 TrialOwesItsLine =
     (forms : List ℕ) (number workers : ℕ) (bytes : List ℕ) →
     IsReply forms (jobs.Trial number workers) bytes (Ok (trial_line number, Done))
+
+-- ---- a handset that sleeps
+
+-- Two files agree while a handset is awake: the first of them tells it a mark, and they agree
+-- before that and, path by path, in the samples of the slots that it hears.
+pub record AgreeWhileAwake (key cycle : ℕ) (t : Tuning) (number : ℕ) (one other : List Sample) :
+    Type 0 where
+  pub told : Mark
+  pub is_told : mark t one (length one) ≡ Some told
+  pub before : take told.sample one ≡ take told.sample other
+  pub slots : AgreeWhereHeard key cycle t number told one other (length one)
+
+-- Where the slots of a paging channel are wanted of two sample files of one header that agree so,
+-- each reply that the one is owed the other is owed.
+abbrev pub SleepChangesNoReply : Type 0
+SleepChangesNoReply =
+    (r : Reception) (fingers number key cycle : ℕ) (header : Header) (one other : List Sample)
+    (bytes changed : List ℕ) (reply : Reply) →
+    r.purpose ≡ Tuned fingers (Paging number) (Slots key cycle) → r.span ≤ 32768 →
+    IsFingers fingers → IsSampleFile bytes header one → IsSampleFile changed header other →
+    AgreeWhileAwake key cycle (tuning_for (waiting header fingers) (take r.span one)) number one
+    other →
+    IsFileReply [] r bytes reply ↔ IsFileReply [] r changed reply

@@ -1,33 +1,18 @@
--- The lines of a traffic channel's frames in a file of any origin.
-use Rattle.std.specs.Prelude.{◌≡◌, ◌≤◌, ℕ, ◌*◌, true, List, [], ◌∷◌, length, Option, None, Some}
-use Rattle.std.specs.List.{Contains, flat_map}
-use Rattle.chip_core.specs.Air.{superframe_chips}
-use Rattle.chip_core.specs.declared.sample.Sample.{Sample}
-use Rattle.chip_core.specs.declared.width.Width.{Width}
-use Rattle.frame_decoder.specs.declared.traffic.Decoded.{Decoded}
-use Rattle.rate_set_two.specs.declared.traffic.Decoded2.{Decoded2}
-use Rattle.cell_plan.specs.Signal.{frames_of}
-use Rattle.cell_plan.specs.TrafficFrames.{SetOneFrame, SetTwoFrame, cycled_frame}
-use Rattle.cell_plan.specs.declared.plan.CellPlan.{CellPlan}
-use Rattle.cell_plan.specs.declared.plan.TrafficPlan.{TrafficPlan}
-use Rattle.event_tap.specs.EventLines.{event_line}
-use Rattle.event_tap.specs.FrameLines.{frame2_line}
-use Rattle.heard_events.specs.FramesAlone.{traffic_channel}
-use Rattle.heard_events.specs.TrafficEvents.{frame_event}
-use Rattle.chip_core.specs.declared.assignment.Traffic.{Traffic}
+-- The lines of a traffic channel's frames, and of a paging channel's slots, in a file of any origin.
+use Rattle.reply_laws.specs.Common.{◌≡◌, ◌≤◌, ℕ, ◌*◌, true, List, [], ◌∷◌, length, Option, None}
+use Rattle.reply_laws.specs.Common.{Some, Contains, flat_map, Sample, Width, CellPlan, TrafficPlan}
+use Rattle.reply_laws.specs.Common.{event_line, frame2_line, Traffic, IsAssigned, SendsSetOne}
+use Rattle.reply_laws.specs.Common.{SendsSetTwo, sent_frame_event, cycled_frame2, sent_decoded2}
+use Rattle.reply_laws.specs.Common.{IsDistinctFrame2, IsReceivable, IsOnPath, MarkIsAt}
+use Rattle.reply_laws.specs.Common.{TrafficFrameHasSigns, mark, Tuning, tuned_text, TunedText}
+use Rattle.reply_laws.specs.Common.{Listed, RateSetTwo, reference_alone, Mark, tuned_frame_text}
+use Rattle.reply_laws.specs.Common.{PagingPlan, Paging, FromMark, PagingFrameHasSigns, slots_after}
+use Rattle.reply_laws.specs.Common.{Slots}
+use Rattle.clean_link.specs.Common.{superframe_chips, Decoded, Decoded2, frames_of, SetOneFrame}
+use Rattle.clean_link.specs.Common.{SetTwoFrame, cycled_frame, traffic_channel, frame_event}
+use Rattle.clean_link.specs.Common.{soft_frame, soft_frames, frame_heard, SoftFrame}
 use Rattle.clean_frames.specs.SentFrames.{frame_ends, is_received, received_frames, replaced_of}
-use Rattle.clean_frames.specs.SentFrames.{sent_bits, sent_power_bits, IsAssigned, IsDistinctFrame}
-use Rattle.clean_frames.specs.SentFrames.{SendsSetOne, SendsSetTwo}
-use Rattle.clean_link.specs.HeardFrames.{sent_frame_event}
-use Rattle.clean_link.specs.ReceivedFrames.{cycled_frame2, sent_decoded2, IsDistinctFrame2}
-use Rattle.cell_plan.specs.Stated.{IsReceivable}
-use Rattle.clean_link.specs.CleanLink.{IsOnPath}
-use Rattle.clean_link.specs.SentSigns.{MarkIsAt, TrafficFrameHasSigns}
-use Rattle.heard_events.specs.Marks.{mark}
-use Rattle.heard_events.specs.Tuning.{Tuning}
-use Rattle.event_tap.specs.TunedTexts.{tuned_text}
-use Rattle.event_tap.specs.declared.tuned_text.TunedText.{TunedText}
-use Rattle.event_tap.specs.declared.tuned_text.TunedText.TheVariants.{Listed, RateSetTwo}
+use Rattle.clean_frames.specs.SentFrames.{sent_bits, sent_power_bits, IsDistinctFrame}
 
 -- ---- any frames
 
@@ -102,3 +87,43 @@ IsLineOfSetTwo plan p frame line = (f : SetTwoFrame)
 -- what is written of a channel of rate set 2 has these lines
 abbrev pub SetTwoLinesComeBack : Type 0
 SetTwoLinesComeBack = LinesComeBack RateSetTwo SendsSetTwo IsLineOfSetTwo
+
+-- ---- one codeword of each rate
+
+-- the line of the event that a handset hears at this frame's end, where the reference's pilot is
+-- active alone
+abbrev pub followed_frame_line : Tuning → Traffic → Mark → List Sample → SoftFrame → List ℕ
+followed_frame_line t traffic m samples frame =
+    event_line (frame_heard t traffic m (reference_alone traffic m) samples frame.end frame.number)
+
+-- With one codeword that is what is written of each frame, whatever is kept of its slot,
+abbrev pub OneCodewordFollowsFrame : Type 0
+OneCodewordFollowsFrame = (t : Tuning) (traffic : Traffic) (m : Mark) (samples : List Sample)
+    (slot : List SoftFrame) (k : ℕ) →
+    let frame = soft_frame t (traffic_channel traffic) m samples k in
+    tuned_frame_text (Listed 1) t.check30 m slot frame
+    ≡ followed_frame_line t traffic m samples frame
+
+-- so of all that end within these samples, after the mark that these set.
+abbrev pub OneCodewordFollows : Type 0
+OneCodewordFollows = (t : Tuning) (traffic : Traffic) (m : Mark) (samples : List Sample) →
+    mark t samples (length samples) ≡ Some m →
+    tuned_text (Listed 1) t (traffic_channel traffic) samples ≡
+    flat_map (followed_frame_line t traffic m samples)
+    (soft_frames t (traffic_channel traffic) m samples)
+
+-- ---- slots
+
+-- In a file of any origin, as long as the cell's, if each frame of a paging channel from the cell's
+-- mark on has the sent signs, what is written of the channel from the mark on, for a handset that
+-- sleeps through all slots but those of a key and a cycle, is slot by slot the slot's line and the
+-- lines of its pages.
+abbrev pub FileSlotsComeBack : Type 0
+FileSlotsComeBack =
+    (width : Width) (plan : CellPlan) (p : PagingPlan) (t : Tuning) (key cycle : ℕ)
+    (at : Option ℕ) (samples : List Sample) → IsReceivable width plan →
+    length samples ≡ plan.link.samples → IsOnPath plan t → Contains plan.paging p →
+    MarkIsAt plan (mark t samples plan.link.samples) at →
+    FromMark (PagingFrameHasSigns plan p samples) at →
+    tuned_text (Slots key cycle) t (Paging p.number) samples
+    ≡ slots_after key cycle plan p at plan.sync

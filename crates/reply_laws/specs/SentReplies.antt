@@ -1,22 +1,13 @@
--- What `rate2` and `list` owe of a file that holds what a script's cell sends: frame by frame what
--- the traffic channel sends.
-use Rattle.std.specs.Prelude.{◌≡◌, ◌≤◌, ℕ, List, length, Err, Ok}
-use Rattle.std.specs.List.{Contains}
-use Rattle.chip_core.specs.declared.sample.Sample.{Sample}
-use Rattle.chip_core.specs.declared.width.Width.{Width}
-use Rattle.cdma_io.specs.SampleFile.{IsSampleFile}
-use Rattle.cdma_io.specs.declared.header.Header.{Header}
-use Rattle.cell_plan.specs.declared.plan.CellPlan.{CellPlan}
-use Rattle.cell_plan.specs.declared.plan.TrafficPlan.{TrafficPlan}
-use Rattle.command_line.specs.declared.job.Job.{Job}
-use Rattle.command_line.specs.declared.job.Job.TheVariants as jobs
-use Rattle.chip_core.specs.declared.assignment.Traffic.{Traffic}
-use Rattle.owed_replies.specs.CleanFiles.{IsCellFile}
-use Rattle.clean_frames.specs.SentFrames.{IsAssigned, SendsSetOne, SendsSetTwo}
-use Rattle.clean_frames.specs.WholeSendings.{told_with_sync}
-use Rattle.owed_replies.specs.Hearing.{clean_end}
-use Rattle.owed_replies.specs.Replies.{IsReply, Reply}
+-- What `rate2`, `list` and `idle` owe of a file that holds what a script's cell sends: frame by frame
+-- what the traffic channel sends, and slot by slot what the paging channel sends.
+use Rattle.reply_laws.specs.Common.{◌≡◌, ◌≤◌, ℕ, List, length, Err, Ok, Contains, Sample, Width}
+use Rattle.reply_laws.specs.Common.{IsSampleFile, Header, CellPlan, TrafficPlan, Job, Traffic}
+use Rattle.reply_laws.specs.Common.{IsCellFile, IsAssigned, SendsSetOne, SendsSetTwo}
+use Rattle.reply_laws.specs.Common.{told_with_sync, clean_end, IsReply, Reply, PagingPlan}
+use Rattle.reply_laws.specs.Common.{slots_sent}
+use Rattle.reply_laws.specs.SignedReplies.{list_job, rate2_job}
 use Rattle.reply_laws.specs.SentLines.{IsLineOfSetOne, IsLineOfSetTwo, IsSentText}
+use Rattle.command_line.specs.declared.job.Job.TheVariants as jobs
 
 -- a whole text that has one line for each frame, and the end that the first whole transmission
 -- tells
@@ -48,14 +39,22 @@ RepliesComeBack job Sends Is = (forms script bytes : List ℕ) (width : Width) (
 
 -- so does `rate2` of a channel of rate set 2
 abbrev pub Rate2RepliesComeBack : Type 0
-Rate2RepliesComeBack = RepliesComeBack
-    (λ span workers fingers traffic.
-    jobs.Rate2 span workers fingers traffic.offset traffic.esn traffic.row) SendsSetTwo
-    IsLineOfSetTwo
+Rate2RepliesComeBack = RepliesComeBack rate2_job SendsSetTwo IsLineOfSetTwo
 
 -- and `list` of a channel of rate set 1, with any number of codewords of a rate from 1 on
 abbrev pub ListRepliesComeBack : Type 0
-ListRepliesComeBack = (k : ℕ) → 1 ≤ k → RepliesComeBack
-    (λ span workers fingers traffic.
-    jobs.List span workers fingers traffic.offset traffic.esn traffic.row k) SendsSetOne
+ListRepliesComeBack = (k : ℕ) → 1 ≤ k → RepliesComeBack (list_job k) SendsSetOne
     IsLineOfSetOne
+
+-- So each reply that `idle` is owed of a sample file with as many samples as the span is, or more,
+-- which holds what a script's cell sends, where its arguments name a paging channel that the cell
+-- sends, is a whole text of just these lines, with the end that the whole transmissions tell.
+abbrev pub IdleRepliesComeBack : Type 0
+IdleRepliesComeBack =
+    (forms script bytes : List ℕ) (width : Width) (plan : CellPlan) (p : PagingPlan)
+    (span workers fingers key cycle : ℕ) (header : Header) (samples : List Sample)
+    (reply : Reply) →
+    IsSampleFile bytes header samples → span ≤ length samples →
+    IsCellFile width script plan span fingers header samples → Contains plan.paging p →
+    IsReply forms (jobs.Idle span workers fingers p.number key cycle) bytes reply →
+    reply ≡ Ok (slots_sent key cycle plan p, clean_end plan)

@@ -1,33 +1,16 @@
 -- What each command reports of a file of any origin: for each channel whose soft values have the
 -- signs that a cell sends, exactly what the cell sends.
-use Rattle.std.specs.Prelude.{◌≡◌, ◌≤◌, ℕ, List, length, take, All, Option, None, Ok, Err, is_some}
-use Rattle.std.specs.List.{Contains}
-use Rattle.chip_core.specs.declared.assignment.Traffic.{Traffic}
-use Rattle.chip_core.specs.declared.sample.Sample.{Sample}
-use Rattle.chip_core.specs.declared.width.Width.{Width}
-use Rattle.cdma_io.specs.SampleFile.{IsSampleFile}
-use Rattle.cdma_io.specs.declared.header.Header.{Header}
-use Rattle.pilot_search.specs.Search.{best_phase, energy}
-use Rattle.cell_plan.specs.Stated.{IsReceivable}
-use Rattle.cell_plan.specs.Transmitter.{phase_at}
-use Rattle.cell_plan.specs.declared.plan.CellPlan.{CellPlan}
-use Rattle.cell_plan.specs.declared.plan.PagingPlan.{PagingPlan}
-use Rattle.cell_plan.specs.declared.plan.TrafficPlan.{TrafficPlan}
-use Rattle.heard_events.specs.Events.{events}
-use Rattle.event_tap.specs.Taps.{kept_by, run_text}
-use Rattle.clean_frames.specs.SentFrames.{IsAssigned, SendsSetOne, SendsSetTwo}
-use Rattle.clean_frames.specs.WholeSendings.{told_with_sync}
-use Rattle.clean_link.specs.BySigns.{HearsBySigns}
-use Rattle.clean_link.specs.CleanLink.{IsNotDirected}
-use Rattle.clean_link.specs.SentEvents.{sent_events, FollowedHaveSigns, FollowsSent, signaling_sent}
-use Rattle.clean_link.specs.SentSigns.{FromMark, HasSyncSigns, MarksAreAt, PagingFrameHasSigns}
-use Rattle.clean_link.specs.SentSigns.{TrafficFrameHasSigns}
-use Rattle.slot_link.specs.Laws.{slots_after}
-use Rattle.command_line.specs.declared.job.Job.{Job}
-use Rattle.command_line.specs.declared.job.Job.TheVariants as jobs
-use Rattle.owed_replies.specs.Hearing.{clean_end, end_when, settings_for, tuning_for}
-use Rattle.owed_replies.specs.Replies.{IsReply, Reply}
+use Rattle.reply_laws.specs.Common.{◌≡◌, ◌≤◌, ℕ, List, length, take, All, Option, None, Ok, Err}
+use Rattle.reply_laws.specs.Common.{is_some, Contains, Traffic, Sample, Width, IsSampleFile, Header}
+use Rattle.reply_laws.specs.Common.{best_phase, energy, IsReceivable, phase_at, CellPlan}
+use Rattle.reply_laws.specs.Common.{PagingPlan, TrafficPlan, events, kept_by, run_text, IsAssigned}
+use Rattle.reply_laws.specs.Common.{SendsSetOne, SendsSetTwo, told_with_sync, HearsBySigns}
+use Rattle.reply_laws.specs.Common.{IsNotDirected, sent_events, FollowedHaveSigns, FollowsSent}
+use Rattle.reply_laws.specs.Common.{signaling_sent, FromMark, HasSyncSigns, MarksAreAt}
+use Rattle.reply_laws.specs.Common.{PagingFrameHasSigns, TrafficFrameHasSigns, slots_after, Job}
+use Rattle.reply_laws.specs.Common.{clean_end, end_when, settings_for, tuning_for, IsReply, Reply}
 use Rattle.reply_laws.specs.SentLines.{IsLineOfSetOne, IsLineOfSetTwo, IsSentText}
+use Rattle.command_line.specs.declared.job.Job.TheVariants as jobs
 
 -- A sample file with at least `span` samples, whatever they are, in which a handset with one finger
 -- lies on a cell's path: the cell can be received, there are as many samples as its link has, the
@@ -100,6 +83,16 @@ IsReplyFrom plan p at Is (Ok whole) =
     IsSentText plan p Is at whole.0 × (whole.1 ≡ end_when (is_some at))
 IsReplyFrom plan p at Is (Err end) = ⊥
 
+-- what `rate2` is asked for, with a traffic channel
+abbrev pub rate2_job : ℕ → ℕ → ℕ → Traffic → Job
+rate2_job span workers fingers traffic =
+    jobs.Rate2 span workers fingers traffic.offset traffic.esn traffic.row
+
+-- what `list` is asked for, with so many codewords of a rate
+abbrev pub list_job : ℕ → ℕ → ℕ → ℕ → Traffic → Job
+list_job k span workers fingers traffic =
+    jobs.List span workers fingers traffic.offset traffic.esn traffic.row k
+
 -- For a traffic channel that the cell sends, a job reports one line for each frame after the cell's
 -- mark. If a frame has the sent signs, its line is that of what is sent, whatever the other frames
 -- are.
@@ -116,16 +109,11 @@ SignedRepliesComeBack job Sends Is = (forms bytes : List ℕ) (width : Width)
 
 -- So does `rate2` for a channel of rate set 2.
 abbrev pub SignedRate2RepliesComeBack : Type 0
-SignedRate2RepliesComeBack = SignedRepliesComeBack
-    (λ span workers fingers traffic.
-    jobs.Rate2 span workers fingers traffic.offset traffic.esn traffic.row) SendsSetTwo
-    IsLineOfSetTwo
+SignedRate2RepliesComeBack = SignedRepliesComeBack rate2_job SendsSetTwo IsLineOfSetTwo
 
 -- So does `list` for a channel of rate set 1, with any number of codewords of a rate from 1 on.
 abbrev pub SignedListRepliesComeBack : Type 0
-SignedListRepliesComeBack = (k : ℕ) → 1 ≤ k → SignedRepliesComeBack
-    (λ span workers fingers traffic.
-    jobs.List span workers fingers traffic.offset traffic.esn traffic.row k) SendsSetOne
+SignedListRepliesComeBack = (k : ℕ) → 1 ≤ k → SignedRepliesComeBack (list_job k) SendsSetOne
     IsLineOfSetOne
 
 -- For a paging channel that the cell sends, `idle` reports only the lines of its slots after the

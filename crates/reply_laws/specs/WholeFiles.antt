@@ -1,36 +1,19 @@
 -- Files that meet every premise of the laws: the file of a script without noise, one with noise of
 -- the size of its margin, and all files of a cell with noise up to its margin.
-use Rattle.std.specs.Prelude.{◌≡◌, ◌≤◌, ◌↔◌, ◌⊎◌, ◌++◌, ◌/◌, ℕ, List, [], ◌∷◌, codes, false}
-use Rattle.std.specs.Prelude.{replicate, take, None, Option, Some, Ok}
-use Rattle.cdma_io.specs.SampleFile.{IsSampleFile}
-use Rattle.cdma_io.specs.declared.header.Header.{Header}
-use Rattle.cell_plan.specs.Plan.{IsFreeOf}
-use Rattle.cell_plan.specs.Sampled.{made_samples}
-use Rattle.cell_plan.specs.Transmitter.{header_of, phase_at}
-use Rattle.cell_plan.specs.declared.plan.CellPlan.{CellPlan}
-use Rattle.cell_plan.specs.declared.plan.PagingPlan.{PagingPlan}
-use Rattle.cell_script.specs.Script.{plan_named}
-use Rattle.chip_core.specs.Bits.{binary}
-use Rattle.clean_link.specs.CleanLink.{sync_sent}
-use Rattle.clean_link.specs.Common.{Plain, Sixteen, Sync, message_of, some_message, some_sync}
-use Rattle.clean_link.specs.Common.{sync_capsule}
-use Rattle.clean_link.specs.NoisyFile.{cell, cell_beside, file, last_page, sync_event, sync_with}
-use Rattle.clean_link.specs.SentEvents.{FollowsSent, paging_sent, sent_events}
-use Rattle.clean_signal.specs.BoundedNoise.{IsMargin}
-use Rattle.clean_signal.specs.WorkedCells.{cell_with}
-use Rattle.command_line.specs.declared.job.Job.TheVariants as jobs
-use Rattle.event_tap.specs.Taps.{kept_by, run_text}
-use Rattle.heard_events.specs.declared.event.Event.{Event}
-use Rattle.owed_replies.specs.CleanFiles.{IsCleanLink}
-use Rattle.owed_replies.specs.Hearing.{clean_events}
-use Rattle.owed_replies.specs.Make.{made_file}
-use Rattle.owed_replies.specs.Replies.{AnswersBehind, IsReply, Reply}
-use Rattle.owed_replies.specs.declared.status.Status.{Status}
-use Rattle.owed_replies.specs.declared.status.Status.TheVariants.{Done, NoMemory}
-use Rattle.pilot_search.specs.Search.{energy}
+use Rattle.reply_laws.specs.Common.{◌≡◌, ◌≤◌, ◌↔◌, ◌⊎◌, ◌++◌, ◌/◌, ℕ, List, [], ◌∷◌, codes, false}
+use Rattle.reply_laws.specs.Common.{replicate, take, None, Option, Some, Ok, IsSampleFile, Header}
+use Rattle.reply_laws.specs.Common.{IsFreeOf, made_samples, header_of, phase_at, CellPlan}
+use Rattle.reply_laws.specs.Common.{PagingPlan, plan_named, sync_sent, cell, cell_beside, file}
+use Rattle.reply_laws.specs.Common.{last_page, sync_event, sync_with, FollowsSent, paging_sent}
+use Rattle.reply_laws.specs.Common.{sent_events, IsMargin, cell_with, kept_by, run_text, Event}
+use Rattle.reply_laws.specs.Common.{IsCleanLink, clean_events, made_file, AnswersBehind, IsReply}
+use Rattle.reply_laws.specs.Common.{Reply, Status, Done, NoMemory, energy}
 use Rattle.reply_laws.specs.HeardThrough.{ComesBackThrough, HoldsOfNearReplies}
-use Rattle.reply_laws.specs.LouderPilots.{HasLouderPilot}
+use Rattle.reply_laws.specs.MadeLinks.{HasLouderPilot}
 use Rattle.reply_laws.specs.NoisyReplies.{IsHeardThrough, IsNoisyFile}
+use Rattle.clean_link.specs.Common.{binary, Plain, Sixteen, Sync, message_of, some_message}
+use Rattle.clean_link.specs.Common.{some_sync, sync_capsule}
+use Rattle.command_line.specs.declared.job.Job.TheVariants as jobs
 
 -- ---- without noise
 

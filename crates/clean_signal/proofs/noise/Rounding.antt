@@ -37,7 +37,7 @@ spread_small z chips m most = record {
   q = spread_q z.i z.q chips.0 chips.1 m most;
 }
 
-sample_small : (plan : CellPlan) (t : ℕ) → IsSmall (loudness plan) (sample_of plan t)
+pub sample_small : (plan : CellPlan) (t : ℕ) → IsSmall (loudness plan) (sample_of plan t)
 sample_small plan t =
     let chip = plan.link.start + t in
     subst (IsSmall (loudness plan)) (sym (signal_of_carriers plan t))

@@ -1,5 +1,5 @@
 -- Why the law `inputs_are_owed_one_reply` holds.
-use Rattle.owed_replies.proofs.Replies.{one_reply}
+use Rattle.reply_laws.proofs.Common.{one_reply}
 use Rattle.reply_laws.proofs.laws.inputs_are_owed_one_reply.Goals as goal
 
 pub returns : goal.returns

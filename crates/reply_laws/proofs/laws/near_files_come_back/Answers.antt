@@ -1,5 +1,5 @@
 -- Why the law `near_files_come_back` holds.
-use Rattle.reply_laws.proofs.HeardThrough.{comes_back}
+use Rattle.reply_laws.proofs.NoisyReplies.{comes_back}
 use Rattle.reply_laws.proofs.laws.near_files_come_back.Goals as goal
 
 pub returns : goal.returns

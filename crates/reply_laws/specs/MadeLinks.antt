@@ -1,37 +1,48 @@
--- Cells whose pilot is louder than all of their other channels together: what each command owes of
--- the file that `make` writes. No premise speaks of the search.
-use Rattle.std.specs.Prelude.{◌≡◌, ◌<◌, ◌≤◌, ◌*◌, ℕ, List, All, Option, Ok}
-use Rattle.std.specs.List.{Contains}
-use Rattle.chip_core.specs.declared.assignment.Traffic.{Traffic}
-use Rattle.chip_core.specs.declared.sample.Sample.{Sample}
-use Rattle.chip_core.specs.declared.width.Width.{Width}
-use Rattle.cdma_io.specs.declared.header.Header.{Header}
-use Rattle.cell_plan.specs.Plan.{gain_sum, IsFreeOf}
-use Rattle.cell_plan.specs.Sampled.{made_samples}
-use Rattle.cell_plan.specs.Transmitter.{header_of, phase_at}
-use Rattle.cell_plan.specs.declared.plan.CellPlan.{CellPlan}
-use Rattle.cell_plan.specs.declared.plan.PagingPlan.{PagingPlan}
-use Rattle.cell_plan.specs.declared.plan.TrafficPlan.{TrafficPlan}
-use Rattle.cell_script.specs.Script.{plan_named}
-use Rattle.clean_frames.specs.SentFrames.{IsAssigned, SendsSetOne, SendsSetTwo}
-use Rattle.clean_link.specs.CleanLink.{IsNotDirected}
-use Rattle.clean_link.specs.SentEvents.{FollowsSent, signaling_sent}
-use Rattle.command_line.specs.Args.{IsPaging}
-use Rattle.command_line.specs.declared.job.Job.{Job}
-use Rattle.command_line.specs.declared.job.Job.TheVariants as jobs
-use Rattle.event_tap.specs.EventLines.{event_line}
-use Rattle.event_tap.specs.Taps.{kept_by, run_text}
-use Rattle.heard_events.specs.declared.event.Event.TheVariants.{Pilot}
-use Rattle.owed_replies.specs.CleanFiles.{IsCellFile, IsCleanLink, cell_energy}
-use Rattle.owed_replies.specs.Hearing.{clean_end, clean_events}
-use Rattle.owed_replies.specs.Make.{made_file}
-use Rattle.owed_replies.specs.Replies.{IsReply, Reply}
-use Rattle.owed_replies.specs.declared.status.Status.TheVariants.{Done}
+-- What `make` writes is a clean link, and what each command owes of it if the cell's pilot is louder
+-- than all of its other channels together. Then no premise speaks of the search.
+use Rattle.reply_laws.specs.Common.{ℕ, ◌≡◌, List, take, All, Option, Ok, IsSampleFile, Width}
+use Rattle.reply_laws.specs.Common.{best_phase, made_samples, plan_named, header_of, phase_at}
+use Rattle.reply_laws.specs.Common.{CellPlan, events, Traffic, IsNotDirected, tuning_to}
+use Rattle.reply_laws.specs.Common.{IsCleanLink, cell_energy, FollowsSent, signaling_sent}
+use Rattle.reply_laws.specs.Common.{made_file, ◌<◌, ◌≤◌, ◌*◌, Contains, Sample, Header, gain_sum}
+use Rattle.reply_laws.specs.Common.{IsFreeOf, PagingPlan, TrafficPlan, IsAssigned, SendsSetOne}
+use Rattle.reply_laws.specs.Common.{SendsSetTwo, IsPaging, Job, event_line, kept_by, run_text}
+use Rattle.reply_laws.specs.Common.{Pilot, IsCellFile, clean_end, clean_events, IsReply, Reply}
+use Rattle.reply_laws.specs.Common.{Done, slots_sent}
+use Rattle.reply_laws.specs.SignedReplies.{list_job, rate2_job}
 use Rattle.reply_laws.specs.SentLines.{IsLineOfSetOne, IsLineOfSetTwo}
 use Rattle.reply_laws.specs.SentReplies.{IsSentReply}
-use Rattle.slot_link.specs.Laws.{slots_sent}
+use Rattle.command_line.specs.declared.job.Job.TheVariants as jobs
 
--- ---- the cell
+-- what `make` writes of a script is a sample file of the cell's samples
+abbrev pub IsReadableWhenMade : Type 0
+IsReadableWhenMade =
+    (width : Width) (script : List ℕ) (plan : CellPlan) → plan_named width script ≡ Ok plan →
+    IsSampleFile (made_file width plan) (header_of width plan) (made_samples plan)
+
+-- and a clean link, where the search finds the cell's path, there is one finger, and no handoff is
+-- directed
+abbrev pub IsCleanWhenMade : Type 0
+IsCleanWhenMade =
+    (width : Width) (script : List ℕ) (plan : CellPlan) (span paging : ℕ)
+    (traffic : Option Traffic) → plan_named width script ≡ Ok plan →
+    best_phase (take span (made_samples plan)) ≡ phase_at plan plan.link.start →
+    All IsNotDirected
+    (events (tuning_to plan (cell_energy span plan) paging traffic) (made_samples plan)) →
+    IsCleanLink width script plan span 1 paging traffic (header_of width plan) (made_samples plan)
+
+-- and so it is where that channel is one of the cell's, each of whose frames is distinct, and none
+-- of the messages that it is sent directs a handoff
+abbrev pub IsCleanWhenSent : Type 0
+IsCleanWhenSent =
+    (width : Width) (script : List ℕ) (plan : CellPlan) (span paging : ℕ)
+    (traffic : Option Traffic) → plan_named width script ≡ Ok plan →
+    best_phase (take span (made_samples plan)) ≡ phase_at plan plan.link.start →
+    FollowsSent plan traffic →
+    All IsNotDirected (signaling_sent plan traffic) →
+    IsCleanLink width script plan span 1 paging traffic (header_of width plan) (made_samples plan)
+
+-- ---- a cell with a louder pilot
 
 -- A script names a cell whose pilot is louder than all of its other channels together. The span has
 -- sixteen samples or more, and the cell sends at least as many.
@@ -96,14 +107,12 @@ LouderRepliesComeBack job Sends Is = (workers : ℕ) (traffic : Traffic) →
 -- `rate2` does so for a channel of rate set 2.
 abbrev pub LouderRate2RepliesComeBack : Type 0
 LouderRate2RepliesComeBack = LouderRepliesComeBack
-    (λ span workers traffic. jobs.Rate2 span workers 1 traffic.offset traffic.esn traffic.row)
-    SendsSetTwo IsLineOfSetTwo
+    (λ span workers traffic. rate2_job span workers 1 traffic) SendsSetTwo IsLineOfSetTwo
 
 -- `list` does so for a channel of rate set 1, with any number of codewords of a rate from 1 on.
 abbrev pub LouderListRepliesComeBack : Type 0
 LouderListRepliesComeBack = (k : ℕ) → 1 ≤ k → LouderRepliesComeBack
-    (λ span workers traffic. jobs.List span workers 1 traffic.offset traffic.esn traffic.row k)
-    SendsSetOne IsLineOfSetOne
+    (λ span workers traffic. list_job k span workers 1 traffic) SendsSetOne IsLineOfSetOne
 
 -- `idle` owes the lines of the slots of a paging channel of the cell.
 abbrev pub LouderIdleRepliesComeBack : Type 0
