@@ -147,9 +147,8 @@ pub near_frame : {width : Width} {plan : CellPlan} (c : Carrier) (form : Form) (
     (samples : List Sample) → IsReceivable width plan → Contains (carriers plan) c →
     IsNear e samples (made_samples plan) → Bears plan c.gain e →
     (frame : ℕ) → FrameHasSigns plan c form samples frame
-near_frame {width} {plan} c form e samples is has near bears frame u =
-    noisy_relates plan c form e samples is.lawful.pn (plan_apart width plan is.lawful) has near bears u
-    frame
+near_frame {width} {plan} c form e samples is has near bears =
+    noisy_relates plan c form e samples is.lawful.pn (plan_apart width plan is.lawful) has near bears
 
 -- so near samples, where the sync channel bears the noise
 pub near_sync : {width : Width} {plan : CellPlan} {sync : SyncPlan} {e : ℕ} (samples : List Sample) →

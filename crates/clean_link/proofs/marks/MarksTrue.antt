@@ -6,16 +6,15 @@ use Rattle.clean_link.proofs.Common.{places, Sample, Width, IsState, after, afte
 use Rattle.clean_link.proofs.Common.{superframes_of, sync_capsule, SyncFields, IsLawfulPlan, message_of, superframes_a_sending}
 use Rattle.clean_link.proofs.Common.{told_superframes, CellPlan, SyncPlan, length-sending, first_of, frames_open, mark, marks_at, marks_of}
 use Rattle.clean_link.proofs.Common.{frame_start, heard_at, with_message, Tuning, sync_stream, sync_bound, Mark, MarksAreTrue, IsOnPath}
-use Rattle.clean_link.proofs.Common.{IsTrueMark, first_sync_frame, MarksTellTheRate, UnmarkedWithoutSync, ShowsSync, map}
-use Rattle.clean_link.proofs.Common.{filter, flat_map, map-append, flat_map-append, nat_lt, is_some, length-map, IsMarkedWhereHeard}
-use Rattle.clean_link.proofs.Common.{events_of, Event, events_of_channel, sending_event, sync_sent, whole_sendings}
+use Rattle.clean_link.proofs.Common.{IsTrueMark, first_sync_frame, MarksTellTheRate, UnmarkedWithoutSync, ShowsSync, map, filter, flat_map}
+use Rattle.clean_link.proofs.Common.{nat_lt, is_some, length-map, IsMarkedWhereHeard, events_of_channel, sending_event, sync_sent}
+use Rattle.clean_link.proofs.Common.{whole_sendings}
 use Rattle.paging_message.proofs.Pieces.{length-run}
 use Rattle.clean_frames.proofs.sendings.Capsules.{IsSentAt, begun, is_at, piece_of, sending_frames}
 use Rattle.clean_link.proofs.frames.Times.{frames_begin, sync_timed}
-use Rattle.clean_link.proofs.sendings.Order.{first_among, in_file, known, first_there, frame_events, frames_of, mark_of_all}
+use Rattle.clean_link.proofs.sendings.Order.{first_among, in_file, known, first_there, frames_of, mark_of_all}
 use Rattle.clean_link.proofs.sendings.Heard.{ends_sending, heard_nothing, heard_sending, none_heard, heard_pieces, ends_tells, threefold}
-use Rattle.clean_link.proofs.sendings.Heard.{sendings_by_frames}
-use Rattle.heard_events.specs.declared.event.Event.TheVariants.{Sync}
+use Rattle.clean_link.proofs.sendings.Heard.{ends_there, last_frame, none_give, whole_give}
 
 -- ---- the mark that a transmission sets
 -- which transmission and which of its frames the file's frame k is, where it ends the transmission
@@ -244,153 +243,86 @@ marks_rate width plan samples sync t n m is sends tuned set =
 pub unmarked : UnmarkedWithoutSync
 unmarked width plan samples t n is silent tuned = unmarked_in (shows_sync is) tuned n silent
 
--- ---- times
-abbrev mark_time : Mark → ℕ
-mark_time m = m.time
+-- ---- the first of them
 
--- the time that an event tells
-abbrev times_in : Event → List ℕ
-times_in (Sync n capsule message) = message.time ∷ []
-times_in other = []
-
--- a frame's mark has the time of its event
-same_times : (plan : CellPlan) (m : SyncFields) (q first n : ℕ) → IsState plan.cell.lc →
-    map mark_time (marks_of first
-    (with_message (sync_capsule plan.cell.check30 (message_of plan.cell m q))
-    (Some (message_of plan.cell m q))))
-    ≡ flat_map times_in (events_of n
-    (with_message (sync_capsule plan.cell.check30 (message_of plan.cell m q))
-    (Some (message_of plan.cell m q))))
-same_times plan m q first n is = ap (map mark_time) (marks_sent plan m q first is)
-
-gathered_times : (P : ℕ → Bool) (f : ℕ → List Mark) (g : ℕ → List Event) (ks : List ℕ) →
-    ((k : ℕ) → P k ≡ true → map mark_time (f k) ≡ flat_map times_in (g k)) →
-    map mark_time (flat_map f (filter P ks)) ≡ flat_map times_in (flat_map g (filter P ks))
-gathered_times P f g [] same = refl
-gathered_times P f g (k ∷ ks) same =
-    let rest = gathered_times P f g ks same in
-    ⊎_elim
-    (λ (there : P k ≡ true).
-    let here = same k there in
-    rw (there, map-append, flat_map-append, here, rest) refl)
-    (λ (gone : P k ≡ false). rw gone rest)
-    (cases_Bool (P k))
-
-sent_times : (plan : CellPlan) (m : SyncFields) (sendings : List ℕ) →
-    flat_map times_in (map (sending_event plan m) sendings)
-    ≡ map (λ q. (message_of plan.cell m q).time) sendings
-sent_times plan m [] = refl
-sent_times plan m (q ∷ sendings) =
-    ap (λ (ts : List ℕ). (message_of plan.cell m q).time ∷ ts) (sent_times plan m sendings)
-
--- one of each
-sent_count : (plan : CellPlan) (channel : Option SyncPlan) →
-    length (flat_map times_in (events_of_channel plan channel))
-    ≡ length (events_of_channel plan channel)
-sent_count plan None = refl
-sent_count plan (Some sync) =
-    let sendings = whole_sendings plan sync.message in
-    ap length (sent_times plan sync.message sendings)
-    ∙ length-map sendings (λ (q : ℕ). (message_of plan.cell sync.message q).time)
-    ∙ sym (length-map sendings (sending_event plan sync.message))
-
-sync_sent_is : (plan : CellPlan) (sync : SyncPlan) → plan.sync ≡ Some sync →
-    sync_sent plan ≡ map (sending_event plan sync.message) (whole_sendings plan sync.message)
-unfolding sync_sent
-sync_sent_is plan sync sends = ap (events_of_channel plan) sends
-
--- the transmission whose time a mark has, the first of these
-pub record IsFirstTold (f : ℕ → ℕ) (sendings : List ℕ) (m : Mark) : Type 0 where
+-- the transmission that sets a mark, the first of these
+pub record IsFirstOf (sent : ℕ → Mark) (sendings : List ℕ) (m : Mark) : Type 0 where
   pub sending : ℕ
   pub others : List ℕ
   pub first : sendings ≡ sending ∷ others
-  pub time : m.time ≡ f sending
+  pub same : sent sending ≡ m
 
-first_told : (f : ℕ → ℕ) (marks : List Mark) (sendings : List ℕ) (m : Mark) →
-    map mark_time marks ≡ map f sendings → first_of marks ≡ Some m → IsFirstTold f sendings m
-first_told f [] sendings m times set = absurd (cc)
-first_told f (x ∷ marks) [] m times set = absurd (cc)
-first_told f (x ∷ marks) (q ∷ sendings) m times set =
-    let same : x ≡ m = cc in
-    let time : mark_time x ≡ f q = cc in
-    record {
-      sending = q;
-      others = sendings;
-      first = refl;
-      time = ap mark_time (sym same) ∙ time;
-    }
+first_sets : (sent : ℕ → Mark) (sendings : List ℕ) (m : Mark) → first_of (map sent sendings) ≡ Some m →
+    IsFirstOf sent sendings m
+first_sets sent [] m set = absurd (cc)
+first_sets sent (q ∷ sendings) m set =
+    record { sending = q; others = sendings; first = refl; same = first_one (sent q) m set }
 
-none_told : (f : ℕ → ℕ) (marks : List Mark) (sendings : List ℕ) →
-    map mark_time marks ≡ map f sendings → first_of marks ≡ None → sendings ≡ []
-none_told f [] [] times unset = refl
-none_told f [] (q ∷ sendings) times unset = absurd (cc)
-none_told f (x ∷ marks) sendings times unset = absurd (cc)
+none_sets : (sent : ℕ → Mark) (sendings : List ℕ) → first_of (map sent sendings) ≡ None → sendings ≡ []
+none_sets sent [] unset = refl
+none_sets sent (q ∷ sendings) unset = absurd (cc)
 
 -- ---- of samples that show the frames of the sync channel
 
 module _ {width : Width} {plan : CellPlan} {samples : List Sample} {t : Tuning}
     (is : ShowsSync width plan samples) (tuned : IsOnPath plan t) where
-  -- The marks of a frame in the file have the times of its events: where the frame ends a
-  -- transmission, both have the time of its message, and in all other frames nothing is heard.
-  frame_times : (channel : Option SyncPlan) → plan.sync ≡ channel → (k : ℕ) → in_file t k ≡ true →
-      map mark_time (marks_at t samples k) ≡ flat_map times_in (frame_events t samples k)
-  unfolding marks_at
-  frame_times None silent k there = rw (none_heard is tuned silent k there) refl
-  frame_times (Some sync) sends k there =
-      let m = sync.message in
-      let q = (first_sync_frame plan + k) / sending_frames plan m in
-      let w = (first_sync_frame plan + k) % sending_frames plan m in
-      let place : IsSentAt plan m (first_sync_frame plan) k q w =
-      is_at plan m (first_sync_frame plan) k in
-      ⊎_elim
-      (λ (ends : ends_sending plan m k w ≡ true).
-      rw (heard_sending is tuned sync sends k q w there place ends)
-      (same_times plan m q _ (known t k) is.receivable.lawful.lc))
-      (λ (over : ends_sending plan m k w ≡ false).
-      rw (heard_nothing is tuned sync sends k q w there place over) refl)
-      (cases_Bool (ends_sending plan m k w))
+  abbrev marks : List Mark
+  marks = flat_map (marks_at t samples) (filter (in_file t) (frames_of t))
 
-  -- the marks of all frames have the times of the whole transmissions
-  all_times : map mark_time (flat_map (marks_at t samples) (filter (in_file t) (frames_of t)))
-      ≡ flat_map times_in (sync_sent plan)
-  all_times =
-      gathered_times (in_file t) (marks_at t samples) (frame_events t samples) (frames_of t)
-      (frame_times plan.sync refl)
-      ∙ ap (flat_map times_in) (sendings_by_frames is tuned)
+  module _ (sync : SyncPlan) (sends : plan.sync ≡ Some sync) where
+    -- the mark that each whole transmission sets
+    abbrev mark_sent : ℕ → Mark
+    mark_sent q =
+        sent_mark plan sync.message q
+        (frame_start (sync_stream t) (q * sending_frames plan sync.message - first_sync_frame plan))
+
+    -- They are the marks of all frames: a frame that ends a transmission sets that of its message, and in
+    -- all other frames nothing is heard.
+    marks_whole : marks ≡ map mark_sent (whole_sendings plan sync.message)
+    marks_whole =
+        let m = sync.message in
+        whole_give is.receivable.lawful tuned m (marks_at t samples) mark_sent
+        (λ k q w there place over.
+        marks_none t samples k (heard_nothing is tuned sync sends k q w there place over))
+        (λ k q inside.
+        let w = last_frame plan m in
+        let first : k - w ≡ q * sending_frames plan m - first_sync_frame plan =
+        omega (arith, inside.last.parts, inside.begun) in
+        marks_are is tuned sync sends k q w inside.there
+        (record { place = inside.last; ends = ends_there plan m k w refl inside.begun })
+        ∙ ap (λ j. sent_mark plan m q (frame_start (sync_stream t) j) ∷ []) first)
+
+    -- the mark is that of the first whole transmission, and where there is none it isn't set
+    pub first_in : (m : Mark) → mark t samples t.count ≡ Some m →
+        IsFirstOf mark_sent (whole_sendings plan sync.message) m
+    first_in m set =
+        first_sets mark_sent (whole_sendings plan sync.message) m
+        (sym (ap first_of marks_whole) ∙ sym (mark_of_all t (sync_timed t tuned.alone) samples) ∙ set)
+
+    pub unset_in : mark t samples t.count ≡ None → whole_sendings plan sync.message ≡ []
+    unset_in unset =
+        none_sets mark_sent (whole_sendings plan sync.message)
+        (sym (ap first_of marks_whole) ∙ sym (mark_of_all t (sync_timed t tuned.alone) samples) ∙ unset)
+
+  -- there is one for each
+  marks_count : (channel : Option SyncPlan) → plan.sync ≡ channel →
+      length marks ≡ length (events_of_channel plan channel)
+  marks_count None silent =
+      ap length (none_give t (marks_at t samples)
+      (λ k there. marks_none t samples k (none_heard is tuned silent k there)))
+  marks_count (Some sync) sends =
+      let sendings = whole_sendings plan sync.message in
+      ap length (marks_whole sync sends)
+      ∙ length-map sendings (mark_sent sync sends)
+      ∙ sym (length-map sendings (sending_event plan sync.message))
 
   pub marked_in : is_some (mark t samples plan.link.samples) ≡ nat_lt 0 (length (sync_sent plan))
   unfolding sync_sent
   marked_in =
-      let marks = flat_map (marks_at t samples) (filter (in_file t) (frames_of t)) in
       ap (λ n. is_some (mark t samples n)) (sym tuned.count)
       ∙ ap is_some (mark_of_all t (sync_timed t tuned.alone) samples)
       ∙ first_there marks
-      ∙ ap (nat_lt 0) (sym (length-map marks mark_time) ∙ ap length all_times
-      ∙ sent_count plan plan.sync)
-
-  module _ (sync : SyncPlan) (sends : plan.sync ≡ Some sync) where
-    times_are : map mark_time
-        (flat_map (marks_at t samples) (filter (in_file t) (frames_of t)))
-        ≡ map (λ q. (message_of plan.cell sync.message q).time) (whole_sendings plan sync.message)
-    times_are =
-        all_times
-        ∙ ap (flat_map times_in) (sync_sent_is plan sync sends)
-        ∙ sent_times plan sync.message (whole_sendings plan sync.message)
-
-    -- the mark has the time of the first whole transmission, and where there is none it isn't set
-    pub first_in : (m : Mark) → mark t samples t.count ≡ Some m →
-        IsFirstTold (λ q. (message_of plan.cell sync.message q).time)
-        (whole_sendings plan sync.message) m
-    first_in m set =
-        first_told (λ q. (message_of plan.cell sync.message q).time) _
-        (whole_sendings plan sync.message) m times_are
-        (sym (mark_of_all t (sync_timed t tuned.alone) samples) ∙ set)
-
-    pub unset_in : mark t samples t.count ≡ None → whole_sendings plan sync.message ≡ []
-    unset_in unset =
-        none_told (λ q. (message_of plan.cell sync.message q).time) _
-        (whole_sendings plan sync.message) times_are
-        (sym (mark_of_all t (sync_timed t tuned.alone) samples) ∙ unset)
+      ∙ ap (nat_lt 0) (marks_count plan.sync refl)
 
 pub marked_where_heard : IsMarkedWhereHeard
 marked_where_heard width plan samples t is tuned = marked_in (shows_sync is) tuned

@@ -1,26 +1,26 @@
 -- A handset hears what a clean link's cell sends, channel by channel and frame by frame.
 use Rattle.clean_link.proofs.Common.{FollowedHaveSigns, HasSyncSigns, ◌≡◌, ℕ, ◌+◌, ◌-◌, ◌*◌, ◌≤◌, true, false, Bool, List, [], ◌∷◌, length}
 use Rattle.clean_link.proofs.Common.{map, refl, sym, ap, ◌∙◌, arith, subst, Option, None, Some, filter, if◌then◌else◌, All, Contains}
-use Rattle.clean_link.proofs.Common.{flat_map, All-contains, All-map, places, Sample, Width, flat_map_ext_places, IsFreeOf, made_samples}
-use Rattle.clean_link.proofs.Common.{frames_of, cycled_frame, CellPlan, PagingPlan, TrafficPlan, SetOneFrame, events, events_at}
-use Rattle.clean_link.proofs.Common.{frame_events_at, heard_within, message_events_at, paging_events_at, mark, frames_at, messages_at}
-use Rattle.clean_link.proofs.Common.{is_in_file, sync_events_at, power_bits_at, decoded_at, frame_event, frame_heard, if_followed, Tuning}
-use Rattle.clean_link.proofs.Common.{Event, Pilot, Leg, Mark, Traffic, by_one_mark, IsNotDirected, IsOnPath, is_frame, is_message, is_page}
-use Rattle.clean_link.proofs.Common.{is_sync, AreFramesBehind, AreMessagesBehind, EachChannelComesBack, FollowsOne, IsEventOf, frame_ends}
-use Rattle.clean_link.proofs.Common.{is_received, received_frames, AreDistinct, IsDistinctFrame, SendsSetOne, messages_of_channel}
-use Rattle.clean_link.proofs.Common.{paging_sent, told_with_sync, HearsSentTraffic, IsHeardAs, ◌++◌, All-weaker, ◌≢◌, All-append, All-cons}
-use Rattle.clean_link.proofs.Common.{All-nil, All-same, sets_events_at, messages_sent, FollowsSent, NoEventIsDirected, signaling_sent}
+use Rattle.clean_link.proofs.Common.{flat_map, All-contains, All-map, places, Sample, Width, IsFreeOf, made_samples, frames_of}
+use Rattle.clean_link.proofs.Common.{cycled_frame, CellPlan, PagingPlan, TrafficPlan, SetOneFrame, events, events_at, frame_events_at}
+use Rattle.clean_link.proofs.Common.{heard_within, message_events_at, paging_events_at, mark, frames_at, messages_at, is_in_file}
+use Rattle.clean_link.proofs.Common.{sync_events_at, power_bits_at, decoded_at, frame_event, frame_heard, Tuning, Event, Pilot, Leg, Mark}
+use Rattle.clean_link.proofs.Common.{Traffic, IsNotDirected, IsOnPath, is_frame, is_message, is_page, is_sync, AreFramesBehind}
+use Rattle.clean_link.proofs.Common.{AreMessagesBehind, EachChannelComesBack, FollowsOne, IsEventOf, frame_ends, is_received}
+use Rattle.clean_link.proofs.Common.{received_frames, AreDistinct, IsDistinctFrame, SendsSetOne, messages_of_channel, paging_sent}
+use Rattle.clean_link.proofs.Common.{told_with_sync, HearsSentTraffic, IsHeardAs, ◌++◌, All-weaker, ◌≢◌, All-append, All-cons, All-nil}
+use Rattle.clean_link.proofs.Common.{All-same, sets_events_at, messages_sent, FollowsSent, NoEventIsDirected, signaling_sent}
 use Rattle.clean_link.proofs.Common.{AreEventsBySigns, AreFramesBySigns, ChannelsComeBackBySigns, FromMark, HearsBySigns, MarkIsAt}
 use Rattle.clean_link.proofs.Common.{IsReceivable, SyncTellsTheMark, TrafficFrameHasSigns, pages_after}
 use Rattle.clean_link.proofs.traffic.Steady.{frames_from_mark, messages_from_mark, first_legs, first_pilot, events_at_all, gathered_all}
-use Rattle.clean_link.proofs.traffic.Steady.{one_stream}
+use Rattle.clean_link.proofs.traffic.Steady.{each_of_all, one_stream}
 use Rattle.clean_link.proofs.frames.ChannelFrames.{clean_signs, shows_sync}
 use Rattle.clean_link.proofs.traffic.Signs.{clean_sent, signed_power_bits}
 use Rattle.clean_link.proofs.messages.Kinds.{frames_of_all, messages_of_all, pages_of_all, sync_of_all, IsKind, frame_kind, paging_kind}
 use Rattle.clean_link.proofs.messages.Kinds.{sets_kind, sync_kind}
 use Rattle.clean_link.proofs.messages.MessagesBack.{PagesShown, clean_pages, pages_shown, signed_pages_shown}
-use Rattle.clean_link.proofs.sendings.Heard.{sendings_in, none_known}
-use Rattle.clean_link.proofs.traffic.Back.{mark_told, one_near, undirected, heard_behind_mark, told_there}
+use Rattle.clean_link.proofs.sendings.Heard.{sendings_in}
+use Rattle.clean_link.proofs.traffic.Back.{each_behind, mark_told, none_followed, one_near, undirected, told_there}
 use Rattle.clean_link.proofs.traffic.Frames.{each_heard, frame_there, heard_as, heard_there, inside_at, same_places, messages_heard}
 use Rattle.clean_link.proofs.traffic.Frames.{signed_frame_back, signed_none_directed, signed_traffic}
 use Rattle.heard_events.specs.declared.event.Event.TheVariants.{Traffic as OnTraffic}
@@ -84,58 +84,8 @@ module _ {width : Width} {plan : CellPlan} {t : Tuning} (all_samples : List Samp
     (marked : MarkIsAt plan (mark t all_samples t.count) at)
     (not_directed : All IsNotDirected (events t all_samples))
     (p : TrafficPlan) (f : FollowsOne plan t.traffic p) where
-  abbrev last : Option Mark
-  last = mark t all_samples t.count
-
-  -- What is heard of it comes back where the mark of all samples tells it: nothing where none is
-  -- set, and else what is true of what is heard after that mark.
-  each_behind : (Are : Option ℕ → List Event → Type 0) (heard : ℕ → Traffic → Mark → List Event) →
-      ((n : ℕ) → n ≤ t.count →
-      if_followed (heard n) t.traffic (mark t all_samples n)
-      ≡ if_followed (heard n) t.traffic last) →
-      ((es : List Event) → es ≡ [] → Are None es) →
-      ((m : Mark) (superframes : ℕ) → last ≡ Some m → at ≡ Some superframes →
-      HearsSentTraffic width plan p t f.traffic m superframes →
-      Are (Some superframes)
-      (flat_map (λ n. heard n f.traffic m) (places (plan.link.samples + 1)))) →
-      Are at
-      (flat_map (λ n. if_followed (heard n) t.traffic (mark t all_samples n))
-      (places (plan.link.samples + 1)))
-  each_behind Are heard once none behind =
-      let all = places (plan.link.samples + 1) in
-      let count = tuned.count in
-      let by_last : flat_map (λ n. if_followed (heard n) t.traffic (mark t all_samples n)) all
-      ≡ flat_map (λ n. if_followed (heard n) (Some f.traffic) last) all =
-      flat_map_ext_places (λ n. if_followed (heard n) t.traffic (mark t all_samples n))
-      (λ n. if_followed (heard n) t.traffic last) (plan.link.samples + 1)
-      (λ n below. once n (omega (arith, below, count)))
-      ∙ ap (λ (followed : Option Traffic).
-      flat_map (λ n. if_followed (heard n) followed last) all) f.follows in
-      subst (Are at) (sym by_last) (by_mark last refl marked)
-    where
-      by_mark : (m : Option Mark) → last ≡ m → MarkIsAt plan m at →
-          Are at
-          (flat_map (λ n. if_followed (heard n) (Some f.traffic) m)
-          (places (plan.link.samples + 1)))
-      by_mark None unset untold =
-          subst (λ (told : Option ℕ). Are told
-          (flat_map (λ (n : ℕ). let none : List Event = [] in none)
-          (places (plan.link.samples + 1)))) (sym untold)
-          (none _ (none_known (places (plan.link.samples + 1))))
-      by_mark (Some m) set (superframes, told, cell) =
-          subst (λ (o : Option ℕ). Are o
-          (flat_map (λ n. heard n f.traffic m) (places (plan.link.samples + 1)))) (sym told)
-          (behind m superframes set told
-          (record {
-            receivable = is;
-            sent = f.sent;
-            assigned = f.assigned;
-            tuned = tuned;
-            marked = cell.marked;
-          }))
-
   -- its frames
-  frames_behind : (m : Mark) (superframes : ℕ) → last ≡ Some m → at ≡ Some superframes →
+  frames_behind : (m : Mark) (superframes : ℕ) → mark t all_samples t.count ≡ Some m → at ≡ Some superframes →
       HearsSentTraffic width plan p t f.traffic m superframes →
       AreEventsBySigns plan p all_samples superframes
       (flat_map (frames_at t f.traffic m all_samples) (places (plan.link.samples + 1)))
@@ -156,15 +106,13 @@ module _ {width : Width} {plan : CellPlan} {t : Tuning} (all_samples : List Samp
       (flat_map (frame_events_at t all_samples) (places (plan.link.samples + 1)))
   unfolding frame_events_at
   frames_each =
-      each_behind (AreFramesBySigns plan p all_samples) (λ n traffic m. frames_at t traffic m all_samples n)
-      (λ n most.
-      by_one_mark t (one_near t plan tuned) all_samples n t.count n _ most (omega arith)
-      (frames_from_mark t (one_near t plan tuned) t.traffic all_samples n))
-      (λ es none. none) frames_behind
+      each_behind all_samples is tuned marked f (AreFramesBySigns plan p all_samples)
+      (λ n traffic m. frames_at t traffic m all_samples n)
+      (frames_from_mark t (one_near t plan tuned) t.traffic all_samples) (λ es none. none) frames_behind
 
   -- and its messages
   messages_behind : FromMark (TrafficFrameHasSigns plan p all_samples) at → (m : Mark)
-      (superframes : ℕ) → last ≡ Some m → at ≡ Some superframes →
+      (superframes : ℕ) → mark t all_samples t.count ≡ Some m → at ≡ Some superframes →
       HearsSentTraffic width plan p t f.traffic m superframes →
       AreDistinct plan p (98304 * superframes) →
       flat_map (messages_at t f.traffic m all_samples) (places (plan.link.samples + 1))
@@ -183,11 +131,10 @@ module _ {width : Width} {plan : CellPlan} {t : Tuning} (all_samples : List Samp
       (flat_map (message_events_at t all_samples) (places (plan.link.samples + 1)))
   unfolding message_events_at
   messages_each signs =
-      each_behind (AreMessagesBehind plan p) (λ n traffic m. messages_at t traffic m all_samples n)
-      (λ n most.
-      by_one_mark t (one_near t plan tuned) all_samples n t.count n _ most (omega arith)
-      (messages_from_mark t (one_near t plan tuned) t.traffic all_samples n))
-      (λ es none. none) (messages_behind signs)
+      each_behind all_samples is tuned marked f (AreMessagesBehind plan p)
+      (λ n traffic m. messages_at t traffic m all_samples n)
+      (messages_from_mark t (one_near t plan tuned) t.traffic all_samples) (λ es none. none)
+      (messages_behind signs)
 
 -- ---- all channels
 
@@ -320,32 +267,44 @@ none_of_kind kind es other are =
 module _ {width : Width} {plan : CellPlan} {t : Tuning} (samples : List Sample)
     (is : HasSyncSigns width plan samples) (tuned : IsOnPath plan t)
     (signs : FollowedHaveSigns plan samples t.traffic) where
-  -- the messages after the mark of all samples
-  behind_last : (followed : Option Traffic) (last : Option Mark) → t.traffic ≡ followed → mark t samples t.count ≡ last →
-      FollowsSent plan followed → All IsNotDirected (signaling_sent plan followed) → (n : ℕ) →
-      n ≤ plan.link.samples →
-      All IsNotDirected (if_followed (λ traffic m. messages_at t traffic m samples n) followed last)
-  unfolding signaling_sent messages_sent
-  behind_last (Some traffic) (Some m) chosen set follows none n most =
-      let b = heard_behind_mark (shows_sync is) tuned traffic m set follows in
-      signed_none_directed b.hears b.one b.distinct
-      (All-same IsNotDirected (messages_of_channel plan b.p (plan.link.start + m.sample)) _
-      (told_there (shows_sync is) tuned traffic m (messages_of_channel plan) b) none) samples
-      (signed_traffic b.hears is.long
-      (λ k. signs b.p traffic chosen b.hears.sent b.hears.assigned b.superframes k b.told)) n most
-  behind_last followed last chosen set follows none n most = All-nil IsNotDirected
+  -- the messages of all numbers of samples
+  messages_none : (followed : Option Traffic) → t.traffic ≡ followed → FollowsSent plan followed →
+      All IsNotDirected (signaling_sent plan followed) →
+      All IsNotDirected (flat_map (message_events_at t samples) (places (plan.link.samples + 1)))
+  unfolding signaling_sent messages_sent message_events_at places
+  messages_none None chosen follows none =
+      All-same IsNotDirected _ []
+      (none_followed t samples (λ n traffic m. messages_at t traffic m samples n) _ chosen) (All-nil IsNotDirected)
+  messages_none (Some traffic) chosen (p, follows) none =
+      each_behind samples is.receivable tuned (mark_told (shows_sync is) tuned (mark t samples t.count) refl)
+      (record {
+        traffic = traffic;
+        follows = chosen;
+        sent = follows.sent;
+        assigned = follows.assigned;
+        one = follows.one;
+      })
+      (λ at es. All IsNotDirected es) (λ n traffic m. messages_at t traffic m samples n)
+      (messages_from_mark t (one_near t plan tuned) t.traffic samples)
+      (λ es gone. All-same IsNotDirected es [] gone (All-nil IsNotDirected))
+      (λ m superframes set told hears.
+      gathered_all IsNotDirected (messages_at t traffic m samples) 0 (plan.link.samples + 1)
+      (λ n low below.
+      signed_none_directed hears follows.one
+      (subst (AreDistinct plan p) (sym hears.marked.place) (follows.distinct superframes told))
+      (All-same IsNotDirected (messages_of_channel plan p (plan.link.start + m.sample)) _
+      (told_there (messages_of_channel plan) _ told hears) none) samples
+      (signed_traffic hears is.long
+      (λ k. signs p traffic chosen hears.sent hears.assigned superframes k told)) n (omega (arith, below))))
 
   module _ (follows : FollowsSent plan t.traffic)
       (none : All IsNotDirected (signaling_sent plan t.traffic)) where
     messages_undirected : (n : ℕ) → n ≤ plan.link.samples →
         All IsNotDirected (message_events_at t samples n)
-    unfolding message_events_at
+    unfolding places
     messages_undirected n most =
-        let count = tuned.count in
-        All-same IsNotDirected _ _
-        (by_one_mark t (one_near t plan tuned) samples n t.count n _ (omega (arith, most, count))
-        (omega arith) (messages_from_mark t (one_near t plan tuned) t.traffic samples n))
-        (behind_last t.traffic (mark t samples t.count) refl refl follows none n most)
+        each_of_all IsNotDirected (message_events_at t samples) 0 (plan.link.samples + 1) n (omega arith)
+        (omega (arith, most)) (messages_none t.traffic refl follows none)
 
     -- No event of any number of samples directs a handoff: only a message of the traffic channel
     -- can, the other four kinds of events never do, and of the messages it is given.

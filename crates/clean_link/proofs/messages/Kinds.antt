@@ -193,18 +193,6 @@ module _ (t : Tuning) (samples : List Sample) (n : ℕ) where
       (left 2 _ (paging_kind t samples n)) (left 3 _ (frame_kind t samples n))
       (left 4 _ (message_kind t samples n)) (left 5 _ (sets_kind t samples n))
 
-  sync_left : filter is_sync (events_at t samples n) ≡ sync_events_at t samples n
-  sync_left = left_at is_sync 1 sync_passes ∙ append-nil (sync_events_at t samples n)
-
-  page_left : filter is_page (events_at t samples n) ≡ paging_events_at t samples n
-  page_left = left_at is_page 2 page_passes ∙ append-nil (paging_events_at t samples n)
-
-  frame_left : filter is_frame (events_at t samples n) ≡ frame_events_at t samples n
-  frame_left = left_at is_frame 3 frame_passes ∙ append-nil (frame_events_at t samples n)
-
-  message_left : filter is_message (events_at t samples n) ≡ message_events_at t samples n
-  message_left = left_at is_message 4 message_passes ∙ append-nil (message_events_at t samples n)
-
 -- ---- of all numbers of samples
 
 left_each : (test : Event → Bool) (f g : ℕ → List Event) (ks : List ℕ) →
@@ -219,21 +207,23 @@ module _ (t : Tuning) (samples : List Sample) (ks : List ℕ) where
   pub sync_of_all : filter is_sync (flat_map (events_at t samples) ks)
       ≡ flat_map (sync_events_at t samples) ks
   sync_of_all =
-      left_each is_sync (events_at t samples) (sync_events_at t samples) ks (sync_left t samples)
+      left_each is_sync (events_at t samples) (sync_events_at t samples) ks
+      (λ n. left_at t samples n is_sync 1 sync_passes ∙ append-nil (sync_events_at t samples n))
 
   pub pages_of_all : filter is_page (flat_map (events_at t samples) ks)
       ≡ flat_map (paging_events_at t samples) ks
   pages_of_all =
-      left_each is_page (events_at t samples) (paging_events_at t samples) ks (page_left t samples)
+      left_each is_page (events_at t samples) (paging_events_at t samples) ks
+      (λ n. left_at t samples n is_page 2 page_passes ∙ append-nil (paging_events_at t samples n))
 
   pub frames_of_all : filter is_frame (flat_map (events_at t samples) ks)
       ≡ flat_map (frame_events_at t samples) ks
   frames_of_all =
       left_each is_frame (events_at t samples) (frame_events_at t samples) ks
-      (frame_left t samples)
+      (λ n. left_at t samples n is_frame 3 frame_passes ∙ append-nil (frame_events_at t samples n))
 
   pub messages_of_all : filter is_message (flat_map (events_at t samples) ks)
       ≡ flat_map (message_events_at t samples) ks
   messages_of_all =
       left_each is_message (events_at t samples) (message_events_at t samples) ks
-      (message_left t samples)
+      (λ n. left_at t samples n is_message 4 message_passes ∙ append-nil (message_events_at t samples n))

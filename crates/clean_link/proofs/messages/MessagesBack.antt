@@ -9,16 +9,15 @@ use Rattle.clean_link.proofs.Common.{pages_at, pages_behind, sync_events_at, Tun
 use Rattle.clean_link.proofs.Common.{pages_from_mark, flat_map_ext_places, IsOnPath, IsTunedToPlan, sync_sent, tuning_to, IsReceivable}
 use Rattle.clean_link.proofs.Common.{ReadPage, known_page, pages_sent, pages_within, WholeMessagesComeBack, known_event, paging_sent}
 use Rattle.clean_link.proofs.Common.{pages_behind_mark, AllComesBackBySigns, FromMark, IsCellMark, MarkIsAt, PagingFrameHasSigns}
-use Rattle.clean_link.proofs.Common.{pages_after, if_followed, sent_events, by_places, sets_heard, signaling_sent, subst, frames_at}
-use Rattle.clean_link.proofs.Common.{messages_at, sets_at, Traffic, traffic_sent, ◌<◌, Contains, PagingPlan, zero, suc, ◌≤◌, filter}
-use Rattle.clean_link.proofs.Common.{range_with_len, cases_order, eq-eqb, ne_eqb, append-nil, filter-append, at_of, All-head, All-tail}
-use Rattle.clean_link.proofs.Common.{is_at}
+use Rattle.clean_link.proofs.Common.{pages_after, sent_events, by_places, sets_heard, signaling_sent, subst, frames_at, messages_at}
+use Rattle.clean_link.proofs.Common.{sets_at, traffic_sent, ◌<◌, Contains, PagingPlan, zero, suc, ◌≤◌, filter, range_with_len, cases_order}
+use Rattle.clean_link.proofs.Common.{eq-eqb, ne_eqb, append-nil, filter-append, at_of, All-head, All-tail, is_at}
 use Rattle.clean_link.proofs.traffic.Steady.{events_at_all, right_all, left_all}
 use Rattle.clean_link.proofs.frames.ChannelFrames.{clean_sync, shows_sync}
 use Rattle.clean_link.proofs.pages.Back.{pages_back, sent_of_number, signed_pages}
 use Rattle.clean_link.proofs.sendings.Heard.{none_known, sendings_in}
 use Rattle.clean_signal.proofs.signal.Samples.{length-made}
-use Rattle.clean_link.proofs.traffic.Back.{frames_all, mark_told, messages_all, one_near}
+use Rattle.clean_link.proofs.traffic.Back.{frames_all, mark_told, messages_all, none_followed, one_near}
 
 -- ---- events of one number of samples
 kept_here : (n : ℕ) (es : List Event) → AreAt n es → filter (is_at n) es ≡ es
@@ -60,16 +59,16 @@ found_at f n a (suc len) each low below =
       | inr (inr more) ↦ absurd (omega (arith, more, low))
     ]
 
--- what two channels give at each number, from the lists of what each gives
-pub gathered_by_places : (f g : ℕ → List Event) (count : ℕ) (one other : List Event) →
+-- what a channel and those after it give at each number, from the lists of what each gives
+gathered_by_places : (f g : ℕ → List Event) (count : ℕ) (one other : List Event) →
     ((k : ℕ) → AreAt k (f k ++ g k)) → flat_map f (places (count + 1)) ≡ one →
-    flat_map g (places (count + 1)) ≡ other →
+    (((k : ℕ) → AreAt k (g k)) → flat_map g (places (count + 1)) ≡ other) →
     flat_map (λ n. f n ++ g n) (places (count + 1)) ≡ by_places count one other
 unfolding places
 gathered_by_places f g count one other each one_is other_is =
     let fs = λ (k : ℕ). left_all (IsAt k) (f k) (g k) (each k) in
     let gs = λ (k : ℕ). right_all (IsAt k) (f k) (g k) (each k) in
-    rw (← one_is, ← other_is)
+    rw (← one_is, ← other_is gs)
     (flat_map_ext_places (λ n. f n ++ g n) _ (count + 1)
     (λ n below.
     let first = found_at f n 0 (count + 1) fs (omega arith) (omega (arith, below)) in
@@ -260,74 +259,26 @@ module _ (plan : CellPlan) (t : Tuning) (samples : List Sample)
     ≡ signaling_sent plan t.traffic)
     (sets : flat_map (sets_events_at t samples) (places (plan.link.samples + 1))
     ≡ sets_heard plan t.energy t.paging t.traffic) where
-  abbrev count : ℕ
-  count = plan.link.samples
-
-  -- what is known at n samples of a traffic channel's messages and of the pilot sets, of the
-  -- channel's frames too, and of all after the sync channel
-  abbrev messages_known : ℕ → List Event
-  messages_known n = message_events_at t samples n ++ sets_events_at t samples n
-
-  abbrev traffic_known : ℕ → List Event
-  traffic_known n = frame_events_at t samples n ++ messages_known n
-
-  abbrev data_known : ℕ → List Event
-  data_known n = paging_events_at t samples n ++ traffic_known n
-
-  -- all of them end there
-  known_at : (n : ℕ) → AreAt n (sync_events_at t samples n ++ data_known n)
-  known_at n = subst (AreAt n) (events_at_all t samples n) (all_at t samples n)
-
-  data_known_at : (n : ℕ) → AreAt n (data_known n)
-  data_known_at n = right_all (IsAt n) (sync_events_at t samples n) (data_known n) (known_at n)
-
-  traffic_known_at : (n : ℕ) → AreAt n (traffic_known n)
-  traffic_known_at n =
-      right_all (IsAt n) (paging_events_at t samples n) (traffic_known n) (data_known_at n)
-
-  -- what comes back of them
-  abbrev messages_told : List Event
-  messages_told =
-      by_places count (signaling_sent plan t.traffic) (sets_heard plan t.energy t.paging t.traffic)
-
-  abbrev traffic_told : List Event
-  traffic_told = by_places count (traffic_sent plan t.traffic) messages_told
-
-  -- the messages with the pilot sets
-  known_back : flat_map messages_known (places (count + 1)) ≡ messages_told
-  known_back =
-      gathered_by_places (message_events_at t samples) (sets_events_at t samples) count
-      (signaling_sent plan t.traffic) (sets_heard plan t.energy t.paging t.traffic)
-      (λ n.
-      right_all (IsAt n) (frame_events_at t samples n) (messages_known n) (traffic_known_at n))
-      messages sets
-
-  -- with the traffic channel's frames
-  traffic_back : flat_map traffic_known (places (count + 1)) ≡ traffic_told
-  traffic_back =
-      gathered_by_places (frame_events_at t samples) messages_known count
-      (traffic_sent plan t.traffic) messages_told traffic_known_at
-      frames known_back
-
-  -- with the paging channel
-  data_back : flat_map data_known (places (count + 1))
-      ≡ by_places count (paging_sent plan t.paging) traffic_told
-  data_back =
-      gathered_by_places (paging_events_at t samples) traffic_known count
-      (paging_sent plan t.paging) traffic_told data_known_at
-      pages traffic_back
-
-  -- and with the sync channel
-  all_back : flat_map (events_at t samples) (places (count + 1))
-      ≡ by_places count (sync_sent plan)
-      (by_places count (paging_sent plan t.paging) traffic_told)
+  -- all that is known at each number of samples, in the order of the channels
+  all_back : flat_map (events_at t samples) (places (plan.link.samples + 1))
+      ≡ by_places plan.link.samples (sync_sent plan)
+      (by_places plan.link.samples (paging_sent plan t.paging)
+      (by_places plan.link.samples (traffic_sent plan t.traffic)
+      (by_places plan.link.samples (signaling_sent plan t.traffic)
+      (sets_heard plan t.energy t.paging t.traffic))))
   all_back =
-      flat_map_ext_places (events_at t samples)
-      (λ n. sync_events_at t samples n ++ data_known n) (count + 1)
-      (λ n below. events_at_all t samples n)
-      ∙ gathered_by_places (sync_events_at t samples) data_known count (sync_sent plan)
-      (by_places count (paging_sent plan t.paging) traffic_told) known_at
-      sendings data_back
+      let count = plan.link.samples in
+      let sync = sync_events_at t samples in
+      let paging = paging_events_at t samples in
+      let frame = frame_events_at t samples in
+      let message = message_events_at t samples in
+      let set = sets_events_at t samples in
+      flat_map_ext_places (events_at t samples) _ (count + 1) (λ n below. events_at_all t samples n)
+      ∙ gathered_by_places sync (λ n. paging n ++ (frame n ++ (message n ++ set n))) count _ _
+      (λ n. subst (AreAt n) (events_at_all t samples n) (all_at t samples n)) sendings
+      (λ of_pages. gathered_by_places paging (λ n. frame n ++ (message n ++ set n)) count _ _ of_pages pages
+      (λ of_frames. gathered_by_places frame (λ n. message n ++ set n) count _ _ of_frames frames
+      (λ of_messages. gathered_by_places message set count _ _ of_messages messages (λ of_sets. sets))))
 
   all_events : length samples ≡ plan.link.samples → IsOnPath plan t →
       events t samples ≡ sent_events plan t.energy t.paging t.traffic
@@ -347,14 +298,6 @@ messages_back width plan t is tuned follows not_directed =
     (length-made plan) tuned.path
 
 -- ---- where no traffic channel is followed
-
-none_followed : (t : Tuning) (samples : List Sample) (heard : ℕ → Traffic → Mark → List Event)
-    (ns : List ℕ) → t.traffic ≡ None →
-    flat_map (λ n. if_followed (heard n) t.traffic (mark t samples n)) ns ≡ []
-none_followed t samples heard ns none =
-    ap (λ (followed : Option Traffic).
-    flat_map (λ n. if_followed (heard n) followed (mark t samples n)) ns) none
-    ∙ none_known ns
 
 -- Neither its frames nor its messages nor pilot sets are heard or sent, and the other channels' frames
 -- have the sent signs.

@@ -1,30 +1,29 @@
 -- On a clean link a handset hears the whole pages of a paging channel, in order, and nothing else.
 use Rattle.clean_link.proofs.Common.{SignedPagesComeBack, HaveOwnNumbers, eq-eqb, get_or, length, ne_eqb, suc, zero, ◌≡◌, ◌≢◌, ℕ, ◌+◌, ◌-◌}
-use Rattle.clean_link.proofs.Common.{◌*◌, ◌/◌, ◌<◌, ◌≤◌, ◌==◌, ⊎_elim, Bool, true, false, List, [], ◌∷◌, map, filter, replicate, refl, sym}
-use Rattle.clean_link.proofs.Common.{ap, ◌∙◌, arith, subst, Option, Some, All, Contains, flat_map, option_to_list, cases_Bool, eqb-true}
+use Rattle.clean_link.proofs.Common.{◌*◌, ◌/◌, ◌<◌, ◌≤◌, ◌==◌, ⊎_elim, Bool, true, false, List, ◌∷◌, map, filter, replicate, refl, sym, ap}
+use Rattle.clean_link.proofs.Common.{◌∙◌, arith, subst, Option, Some, All, Contains, flat_map, option_to_list, cases_Bool, eqb-true}
 use Rattle.clean_link.proofs.Common.{eqb-false, false_from_ne_true, All-cons, All-contains, All-contains_itself, All-head, All-nil}
-use Rattle.clean_link.proofs.Common.{All-tail, All-weaker, places, CheckForm, Width, capsule, M30, Rate, half_frame_body, rate_large}
+use Rattle.clean_link.proofs.Common.{All-tail, All-weaker, places, CheckForm, capsule, M30, Rate, half_frame_body, rate_large}
 use Rattle.clean_link.proofs.Common.{cycle_frame_bits, sent_paging_rate, made_samples, IsStatedPaging, cycle_of, CellPlan, PagingPlan}
-use Rattle.clean_link.proofs.Common.{SyncPlan, page_in, frame_own_bits, is_in_file, known_at, Stream, IsTimed, Tuning, Mark}
-use Rattle.clean_link.proofs.Common.{flat_map_ext_places, heard_behind, IsOnPath, IsTrueMark, IsReceivable, end_chip, known_page, KnownPage}
-use Rattle.clean_link.proofs.Common.{message_in, page_told, pages_numbered, pages_of_channel, pages_sent, pages_within, PagesComeBack}
-use Rattle.clean_link.proofs.Common.{placed_pages, ReadPage, round_sent, AreWholePages, capsules_with_frames, cycle_half_frames}
-use Rattle.clean_link.proofs.Common.{is_whole_page, Placed, sending_of, Sample, ◌++◌, nat_le, if◌then◌else◌, mul-div-le, and_parts}
-use Rattle.clean_link.proofs.Common.{leb-true, le-div, length-capsule, HasMessage, laid_behind, AreHeard, Page, placed, None}
-use Rattle.clean_link.proofs.Common.{paging_capsule, body_reading, is_body, paging_reading, PagingMessage, reads_body, reads_capsule}
-use Rattle.clean_link.proofs.Common.{as_spelled_page, take, range_with_len, lt-ltb, append-nil, map-append, flat_map-map, flat_map-append}
-use Rattle.clean_link.proofs.Common.{frame_chips, half_frame_capsule_ending, bits_up_to, page_at, pages_at, pages_behind, pages_from}
-use Rattle.clean_link.proofs.Common.{paging_bound, paging_stream, known_now, known_between, known_le, filter_enough, filter_ext_places}
-use Rattle.clean_link.proofs.Common.{flat_map_ext_filter, flat_map_ext_filter_places, frame_capsules}
+use Rattle.clean_link.proofs.Common.{page_in, frame_own_bits, is_in_file, known_at, IsTimed, Tuning, Mark, flat_map_ext_places}
+use Rattle.clean_link.proofs.Common.{heard_behind, IsOnPath, end_chip, known_page, KnownPage, message_in, page_told, pages_numbered}
+use Rattle.clean_link.proofs.Common.{pages_of_channel, pages_sent, pages_within, PagesComeBack, placed_pages, ReadPage, round_sent}
+use Rattle.clean_link.proofs.Common.{AreWholePages, capsules_with_frames, cycle_half_frames, is_whole_page, Placed, sending_of, Sample}
+use Rattle.clean_link.proofs.Common.{◌++◌, nat_le, if◌then◌else◌, mul-div-le, and_parts, leb-true, le-div, length-capsule, HasMessage}
+use Rattle.clean_link.proofs.Common.{laid_behind, AreHeard, Page, placed, None, paging_capsule, body_reading, is_body, paging_reading}
+use Rattle.clean_link.proofs.Common.{PagingMessage, reads_body, reads_capsule, as_spelled_page, take, range_with_len, lt-ltb, append-nil}
+use Rattle.clean_link.proofs.Common.{map-append, flat_map-map, flat_map-append, half_frame_capsule_ending, bits_up_to, page_at, pages_at}
+use Rattle.clean_link.proofs.Common.{pages_behind, pages_from, paging_bound, paging_stream, known_now, flat_map_ext_filter_places}
+use Rattle.clean_link.proofs.Common.{frame_capsules, [], IsCellMark}
 use Rattle.clean_frames.proofs.pages.Scans.{zero_frames_end_none}
 use Rattle.clean_frames.proofs.pages.CyclesBack.{stated_pages, whole_pages_back}
 use Rattle.clean_link.proofs.frames.ChannelFrames.{near_paging, paging_borne, paging_shown, silent_paging_back}
 use Rattle.clean_link.proofs.frames.OwnBits.{shown_back}
 use Rattle.clean_signal.proofs.noise.Near.{near-self}
 use Rattle.clean_link.proofs.frames.Times.{paging_file_from, paging_file_to, paging_known_is, paging_timed}
+use Rattle.clean_link.proofs.sendings.Order.{HasFrames, IsBound, frames_first, given_in_order}
 use Rattle.heard_events.specs.PagingEvents.{paging_bits_before}
 use Rattle.chip_core.proofs.Ranges.{filter_all_places}
-use Rattle.clean_link.proofs.sendings.Order.{at_key, below_key, in_order, IsRising}
 use Rattle.heard_events.specs.PagingStreams as streams
 
 -- ---- lists of lists
@@ -42,100 +41,6 @@ flat_map-flat_map g f [] = refl
 flat_map-flat_map {A} {B} {C} g f (x ∷ xs) =
     flat_map-append g (f x) (flat_map f xs)
     ∙ ap (λ (l : List C). flat_map g (f x) ++ l) (flat_map-flat_map g f xs)
-
--- ---- the frames of any stream, in the order in which they are known
-
--- frames that end within n samples have numbers below a bound
-abbrev pub IsBound : Stream → (ℕ → ℕ) → Type 0
-IsBound s bound = (n k : ℕ) → frame_chips s.form * (k + 1) ≤ n → k < bound n
-
--- the frames in a file are the first so many
-pub record HasFrames (count : ℕ) (s : Stream) (frames : ℕ) : Type 0 where
-  pub inside : (k : ℕ) → k < frames → is_in_file count s k ≡ true
-  pub outside : (k : ℕ) → frames ≤ k → is_in_file count s k ≡ false
-
-module _ {count low : ℕ} (s : Stream) (timed : IsTimed count s low) (bound : ℕ → ℕ)
-    (enough : IsBound s bound) where
-  -- a frame that is known within n samples has an early number
-  known_early : (n k : ℕ) → is_in_file count s k ≡ true → known_at count s k ≤ n → k < bound n
-  known_early n k there before =
-      let early = timed.early k in
-      let between = known_between s timed k there in
-      enough n k (omega (arith, early, between.low, before))
-
-  -- a frame that is known at n
-  now_is : (n k : ℕ) → at_key (is_in_file count s) (known_at count s) n k ≡ true →
-      (is_in_file count s k ≡ true) × (known_at count s k ≡ n)
-  now_is n k h =
-      let parts = and_parts (is_in_file count s k) (known_at count s k == n) h in
-      (parts.0, eqb-true (known_at count s k) n parts.1)
-
-  -- what the frames give that are known at n, over the frames of the whole file
-  given_now : {X : Type 0} (f : ℕ → ℕ → List X) (n : ℕ) →
-      flat_map (f n) (known_now count s n (bound n))
-      ≡ flat_map (λ k. f (known_at count s k) k)
-      (filter (at_key (is_in_file count s) (known_at count s) n) (places (bound count)))
-  given_now {X} f n =
-      let now = at_key (is_in_file count s) (known_at count s) n in
-      let g : ℕ → List X = λ k. f (known_at count s k) k in
-      flat_map_ext_filter now (f n) g (places (bound n))
-      (λ k h. ap (λ (i : ℕ). f i k) (sym (now_is n k h).1))
-      ∙ ap (flat_map g)
-      (filter_enough now (bound n) (bound count)
-      (λ k past. false_from_ne_true (now k)
-      (λ h.
-      let is = now_is n k h in
-      let early = known_early n k is.0 (omega (arith, is.1)) in
-      omega (arith, early, past)))
-      (λ k past. false_from_ne_true (now k)
-      (λ h.
-      let is = now_is n k h in
-      let early = known_early count k is.0 (known_between s timed k is.0).most in
-      omega (arith, early, past))))
-
-  -- later frames are known no sooner, and all of them by the file's end
-  rising : IsRising (is_in_file count s) (known_at count s)
-  rising =
-      record { rises = λ i j less there there'. known_le s timed i j there there' (omega arith) }
-
-  all_known : (k : ℕ) →
-      below_key (is_in_file count s) (known_at count s) (count + 1) k ≡ is_in_file count s k
-  all_known k = ⊎_elim
-      (λ (there : is_in_file count s k ≡ true).
-      let between = known_between s timed k there in
-      let below = lt-ltb (known_at count s k) (count + 1) (omega (arith, between.most)) in
-      rw (there, below) refl)
-      (λ (gone : is_in_file count s k ≡ false). rw gone refl)
-      (cases_Bool (is_in_file count s k))
-
-  -- what the frames in the file give, number of samples by number of samples
-  pub given_in_order : {X : Type 0} (f : ℕ → ℕ → List X) →
-      flat_map (λ n. flat_map (f n) (known_now count s n (bound n))) (places (count + 1))
-      ≡ flat_map (λ k. f (known_at count s k) k)
-      (filter (is_in_file count s) (places (bound count)))
-  given_in_order {X} f =
-      let g : ℕ → List X = λ k. f (known_at count s k) k in
-      let inside = is_in_file count s in
-      let known = known_at count s in
-      flat_map_ext_places (λ n. flat_map (f n) (known_now count s n (bound n)))
-      (λ n. flat_map g (filter (at_key inside known n) (places (bound count)))) (count + 1)
-      (λ n below. given_now f n)
-      ∙ in_order inside known g (bound count) (count + 1) rising
-      ∙ ap (flat_map g)
-      (filter_ext_places (below_key inside known (count + 1)) inside (bound count)
-      (λ k below. all_known k))
-
-  -- and those frames are the first so many
-  pub frames_first : (frames : ℕ) → HasFrames count s frames →
-      filter (is_in_file count s) (places (bound count)) ≡ places frames
-  frames_first frames has =
-      filter_enough (is_in_file count s) (bound count) frames
-      (λ k past. false_from_ne_true (is_in_file count s k)
-      (λ there.
-      let early = known_early count k there (known_between s timed k there).most in
-      omega (arith, early, past)))
-      has.outside
-      ∙ filter_all_places (is_in_file count s) frames has.inside
 
 -- ---- the capsules of a frame, as they are read
 
@@ -381,65 +286,32 @@ told_each {A} {B} {C} P tells send tell kept (x ∷ xs) all one =
     (λ (no' : kept x ≡ false). rw no' rest)
     (cases_Bool (kept x))
 
--- ---- when frames are known
-
--- The frames of a stream with one finger that begin at a sample: which of them are in the file, and
--- when they are known.
-record IsTimedFrom (count : ℕ) (s : Stream) (first : ℕ) : Type 0 where
-  pub timed : IsTimed count s 0
-  pub inside : (k : ℕ) → first + 24576 * (k + 1) ≤ count → is_in_file count s k ≡ true
-  pub room : (k : ℕ) → is_in_file count s k ≡ true → first + 24576 * (k + 1) ≤ count
-  pub known : (k : ℕ) →
-      known_at count s k ≡ heard_behind 24576 count (first + 24576 * (k + 1))
-
--- as those of a paging channel are
-frames_timed : (plan : CellPlan) (t : Tuning) (channel : ℕ) (m : Mark) → IsOnPath plan t →
-    IsTimedFrom t.count (streams.paging_stream t channel m) m.sample
-frames_timed plan t channel m tuned = record {
-  timed = paging_timed t channel m tuned.alone;
-  inside = λ k most. paging_file_from t channel m tuned.alone k most;
-  room = λ k there. paging_file_to t channel m tuned.alone k there;
-  known = λ k. paging_known_is t channel m tuned.alone k;
-}
-
 -- ---- a handset with a mark
-
--- A handset tuned to a cell, with a mark that is true of it and tells the rate of its paging
--- channels.
-pub record HearsPages (width : Width) (plan : CellPlan) (sync : SyncPlan) (t : Tuning) (m : Mark)
-    (superframes : ℕ) : Type 0 where
-  pub receivable : IsReceivable width plan
-  pub tuned : IsOnPath plan t
-  pub sends : plan.sync ≡ Some sync
-  pub rate : m.prat ≡ sync.message.prat
-  pub low : m.prat < 2
-  pub marked : IsTrueMark plan m superframes
 
 -- how many frames after the mark lie in the file
 abbrev pub frames_behind : CellPlan → ℕ → ℕ
 frames_behind plan superframes = end_chip plan / 24576 - 4 * superframes
 
-module _ {width : Width} {plan : CellPlan} {sync : SyncPlan} {t : Tuning} (channel : ℕ) {m : Mark}
-    {superframes : ℕ} (is : HearsPages width plan sync t m superframes)
-    (time : IsTimedFrom t.count (streams.paging_stream t channel m) m.sample) where
+module _ {plan : CellPlan} {t : Tuning} (channel : ℕ) {m : Mark} {superframes : ℕ} (tuned : IsOnPath plan t)
+    (cell : IsCellMark plan m superframes) (low : m.prat < 2) where
   -- the mark is where a frame begins
   at_frame : plan.link.start + m.sample ≡ 24576 * (4 * superframes)
-  at_frame = omega (arith, is.marked.place)
+  at_frame = omega (arith, cell.marked.place)
 
   -- the handset takes the channels to have the cell's rate
   same_rate : streams.paging_rate m.prat ≡ sent_paging_rate plan.sync
-  same_rate = ap streams.paging_rate is.rate ∙ sym (ap sent_paging_rate is.sends)
+  same_rate = ap streams.paging_rate cell.rate ∙ sym (ap sent_paging_rate cell.sends)
 
   -- which frames of the channel are in the file
   has_frames : HasFrames t.count (streams.paging_stream t channel m)
       (frames_behind plan superframes)
   has_frames = record {
-    inside = λ k below. time.inside k (omega (arith, below, at_frame, is.tuned.count));
+    inside = λ k below. paging_file_from t channel m tuned.alone k (omega (arith, below, at_frame, tuned.count));
     outside = λ k past.
         false_from_ne_true (is_in_file t.count (streams.paging_stream t channel m) k)
         (λ there.
-        let room = time.room k there in
-        omega (arith, room, past, at_frame, is.tuned.count));
+        let room = paging_file_to t channel m tuned.alone k there in
+        omega (arith, room, past, at_frame, tuned.count));
   }
 
   -- the pages are those of the capsules of the frames, whose bits are known
@@ -451,9 +323,9 @@ module _ {width : Width} {plan : CellPlan} {sync : SyncPlan} {t : Tuning} (chann
       (capsules_with_frames (half_frame_body (sent_paging_rate plan.sync)) own
       (frames_behind plan superframes))
   by_capsules samples own bits =
-      ap (pages_within t channel (Some m) samples) (sym is.tuned.count)
+      ap (pages_within t channel (Some m) samples) (sym tuned.count)
       ∙ pages_by_capsules t channel m samples own (frames_behind plan superframes)
-      has_frames bits time.timed is.low
+      has_frames bits (paging_timed t channel m tuned.alone) low
       ∙ ap (λ (rate : Rate). flat_map (told_of t channel m)
       (capsules_with_frames (half_frame_body rate) own (frames_behind plan superframes))) same_rate
 
@@ -468,12 +340,12 @@ module _ {width : Width} {plan : CellPlan} {sync : SyncPlan} {t : Tuning} (chann
       let known : ℕ = known_at t.count (streams.paging_stream t channel m) k in
       let when : known ≡
       heard_behind 24576 plan.link.samples (24576 * ((h + p.last) / 2 + 1) - plan.link.start) =
-      time.known k
-      ∙ ap (λ (n : ℕ). heard_behind 24576 n (m.sample + 24576 * (k + 1))) is.tuned.count
+      paging_known_is t channel m tuned.alone k
+      ∙ ap (λ (n : ℕ). heard_behind 24576 n (m.sample + 24576 * (k + 1))) tuned.count
       ∙ ap (heard_behind 24576 plan.link.samples)
       (ends_so plan m.sample (4 * superframes) h p at_frame there.ordered whole) in
       ap (λ (form : CheckForm). map (known_page known) (option_to_list (page_in form (Some c))))
-      is.tuned.checks_of_30
+      tuned.checks_of_30
       ∙ ap (λ (o : Option ReadPage). map (known_page known) (option_to_list o))
       (page_read plan.cell.check30 p.page.body there.message)
       ∙ ap (λ (n : ℕ).
@@ -556,20 +428,11 @@ found plan channel mark_chip pages (p ∷ paging) each none =
 -- where each frame from the mark on has the sent signs
 pub signed_pages : SignedPagesComeBack
 signed_pages width plan p t m superframes samples receivable has tuned cell low signs =
-    let is : HearsPages width plan cell.sync t m superframes = record {
-      receivable = receivable;
-      tuned = tuned;
-      sends = cell.sends;
-      rate = cell.rate;
-      low = low;
-      marked = cell.marked;
-    } in
-    let time = frames_timed plan t p.number m tuned in
     let rate = sent_paging_rate plan.sync in
-    by_capsules p.number is time samples
+    by_capsules p.number tuned cell low samples
     (λ k. cycle_frame_bits (cycle_of plan p) (4 * superframes + k))
     (λ k there. shown_back (paging_shown plan p t m superframes samples tuned cell signs) k there)
-    ∙ channel_tells p.number is time p
+    ∙ channel_tells p.number tuned cell low p
     (stated_pages rate p (All-contains (IsStatedPaging rate) plan.paging p receivable.pages has))
 
 -- of a clean link, on whatever row
@@ -577,14 +440,8 @@ pub pages_back : PagesComeBack
 unfolding pages_sent
 pages_back width plan sync t channel m superframes receivable stated tuned first last free sends rate low
     marked =
-    let is : HearsPages width plan sync t m superframes = record {
-      receivable = receivable;
-      tuned = tuned;
-      sends = sends;
-      rate = rate;
-      low = low;
-      marked = marked;
-    } in
+    let cell : IsCellMark plan m superframes =
+    record { marked = marked; sync = sync; sends = sends; rate = rate } in
     let samples = made_samples plan in
     let mark_chip = plan.link.start + m.sample in
     let pages = pages_within t channel (Some m) samples plan.link.samples in
@@ -597,13 +454,12 @@ pages_back width plan sync t channel m superframes receivable stated tuned first
     subst
     (λ (c : ℕ). pages_within t c (Some m) samples plan.link.samples ≡ pages_of_channel plan p mark_chip)
     numbered
-    (signed_pages width plan p t m superframes samples receivable has tuned
-    (record { marked = marked; sync = sync; sends = sends; rate = rate }) low
+    (signed_pages width plan p t m superframes samples receivable has tuned cell low
     (λ k. near_paging samples receivable has (near-self 0 samples) (paging_borne width plan p receivable has)
     (4 * superframes + k))))
     plan.paging (All-contains_itself plan.paging))
     (λ others.
-    by_capsules channel is (frames_timed plan t channel m tuned) samples (λ k. replicate bits false)
+    by_capsules channel tuned cell low samples (λ k. replicate bits false)
     (λ k there. silent_paging_back width plan t m superframes channel k receivable first last others free
     tuned marked there)
     ∙ ap (flat_map (told_of t channel m))

@@ -11,13 +11,14 @@ use Rattle.clean_link.proofs.Common.{first_sync_frame, ShowsSync, ◌-◌, ◌/�
 use Rattle.clean_link.proofs.Common.{leb-true, ltb-true, superframes_some, is_whole, sending_begins, sending_ends, ◌≢◌, ⊎_elim, cond, ◌∷◌}
 use Rattle.clean_link.proofs.Common.{sym, Option, flat_map, cases_Bool, false_from_ne_true, events_of, sync_events_at, sync_bound, Event}
 use Rattle.clean_link.proofs.Common.{flat_map_ext_filter, WholeSendingsComeBack, events_of_channel, heard_behind, sending_event, sync_sent}
+use Rattle.clean_link.proofs.Common.{whole_sendings}
 use Rattle.sync_message.proofs.Readings.{reads_capsule}
 use Rattle.paging_message.proofs.Pieces.{run, run-places, none_starts}
 use Rattle.clean_frames.proofs.sendings.Capsules.{IsSentAt, piece_of, pieces_end, sending_frames}
 use Rattle.clean_link.proofs.frames.Times.{frames_begin, in_file_from, in_file_to, one_path, end_of_frame, known_is, sync_timed}
 use Rattle.chip_core.proofs.Ranges.{filter_all_places}
-use Rattle.clean_link.proofs.sendings.Order.{in_file, blocks, given_where, flat_map-filter, map-filter, moved_up, quiet}
-use Rattle.clean_link.proofs.sendings.Order.{events_by_frames, frame_events, frames_of, known}
+use Rattle.clean_link.proofs.sendings.Order.{in_file, blocks, given_where, flat_map-filter, map-filter, moved_up, quiet, events_by_frames}
+use Rattle.clean_link.proofs.sendings.Order.{frame_events, frames_of, known}
 use Rattle.heard_events.specs.declared.event.Event.TheVariants.{Sync}
 
 -- ---- the pieces
@@ -299,185 +300,173 @@ late_sending plan m q late =
     (omega (arith, more, late, length-sync plan.cell.check30 m)))
 
 -- ---- the frames of the cell, of which those in the file tell something
-abbrev tells : CellPlan → List Sample → Tuning → ℕ → List Event
-tells plan samples t j =
+abbrev tells : {X : Type 0} → (ℕ → List X) → CellPlan → Tuning → ℕ → List X
+tells give plan t j =
     cond (nat_le (first_sync_frame plan) j && in_file t (j - first_sync_frame plan))
-    (frame_events t samples (j - first_sync_frame plan)) []
+    (give (j - first_sync_frame plan)) []
 
-tells_early : (plan : CellPlan) (samples : List Sample) (t : Tuning) (j : ℕ) → j < first_sync_frame plan →
-    tells plan samples t j ≡ []
-tells_early plan samples t j early = let e = lt-leb (first_sync_frame plan) j early in rw e refl
+module _ {X : Type 0} (give : ℕ → List X) (plan : CellPlan) (t : Tuning) where
+  tells_early : (j : ℕ) → j < first_sync_frame plan → tells give plan t j ≡ []
+  tells_early j early = let e = lt-leb (first_sync_frame plan) j early in rw e refl
 
-tells_moved : (plan : CellPlan) (samples : List Sample) (t : Tuning) (k : ℕ) →
-    tells plan samples t (first_sync_frame plan + k) ≡
-    given_where (in_file t) (frame_events t samples) k
-tells_moved plan samples t k =
-    let e = le-leb (first_sync_frame plan) (first_sync_frame plan + k) (omega arith) in
-    let same : first_sync_frame plan + k - first_sync_frame plan ≡ k = omega arith in
-    ap (λ b. cond (b && in_file t (first_sync_frame plan + k - first_sync_frame plan))
-    (frame_events t samples (first_sync_frame plan + k - first_sync_frame plan)) []) e
-    ∙ ap (given_where (in_file t) (frame_events t samples)) same
+  tells_moved : (k : ℕ) →
+      tells give plan t (first_sync_frame plan + k) ≡ given_where (in_file t) give k
+  tells_moved k =
+      let e = le-leb (first_sync_frame plan) (first_sync_frame plan + k) (omega arith) in
+      let same : first_sync_frame plan + k - first_sync_frame plan ≡ k = omega arith in
+      ap (λ b. cond (b && in_file t (first_sync_frame plan + k - first_sync_frame plan))
+      (give (first_sync_frame plan + k - first_sync_frame plan)) []) e
+      ∙ ap (given_where (in_file t) give) same
 
--- a frame that isn't in the file tells nothing
-tells_if : (plan : CellPlan) (samples : List Sample) (t : Tuning) (j : ℕ) →
-    (first_sync_frame plan ≤ j → in_file t (j - first_sync_frame plan) ≡ true →
-    frame_events t samples (j - first_sync_frame plan) ≡ []) → tells plan samples t j ≡ []
-tells_if plan samples t j none = ⊎_elim
-    (λ (yes' : (nat_le (first_sync_frame plan) j && in_file t (j - first_sync_frame plan)) ≡ true).
-    let both =
-    and_parts (nat_le (first_sync_frame plan) j) (in_file t (j - first_sync_frame plan)) yes' in
-    rw yes' (none (leb-true (first_sync_frame plan) j both.0) both.1))
-    (λ (no' : (nat_le (first_sync_frame plan) j && in_file t (j - first_sync_frame plan)) ≡ false).
-    rw no'
-    refl)
-    (cases_Bool (nat_le (first_sync_frame plan) j && in_file t (j - first_sync_frame plan)))
+  -- a frame that isn't in the file tells nothing
+  tells_if : (j : ℕ) →
+      (first_sync_frame plan ≤ j → in_file t (j - first_sync_frame plan) ≡ true →
+      give (j - first_sync_frame plan) ≡ []) → tells give plan t j ≡ []
+  tells_if j none =
+      let begun = nat_le (first_sync_frame plan) j in
+      let there = in_file t (j - first_sync_frame plan) in
+      ⊎_elim
+      (λ (yes' : (begun && there) ≡ true).
+      let both = and_parts begun there yes' in
+      rw yes' (none (leb-true (first_sync_frame plan) j both.0) both.1))
+      (λ (no' : (begun && there) ≡ false). rw no' refl)
+      (cases_Bool (begun && there))
 
--- the file ends before this frame
-tells_late : (plan : CellPlan) (samples : List Sample) (t : Tuning) (i : ℕ) → IsOnPath plan t →
-    tells plan samples t (first_sync_frame plan + sync_bound t.count + i) ≡ []
-tells_late plan samples t i tuned =
-    tells_if plan samples t (first_sync_frame plan + sync_bound t.count + i)
-    (λ early there. absurd
-    (omega (
-      arith,
-      in_file_to t (first_sync_frame plan + sync_bound t.count + i - first_sync_frame plan)
-          tuned.alone there,
-    )))
+  -- the file ends before this frame
+  tells_late : (i : ℕ) → IsOnPath plan t →
+      tells give plan t (first_sync_frame plan + sync_bound t.count + i) ≡ []
+  tells_late i tuned =
+      tells_if (first_sync_frame plan + sync_bound t.count + i)
+      (λ early there. absurd
+      (omega (
+        arith,
+        in_file_to t (first_sync_frame plan + sync_bound t.count + i - first_sync_frame plan)
+            tuned.alone there,
+      )))
 
 -- numbers at which nothing is known
-pub none_known : (ks : List ℕ) →
-    flat_map (λ (n : ℕ). let none : List Event = [] in none) ks ≡ []
+pub none_known : {X : Type 0} (ks : List ℕ) → flat_map (λ (n : ℕ). let none : List X = [] in none) ks ≡ []
 none_known [] = refl
 none_known (k ∷ ks) = none_known ks
+
+-- Where the last frame of a transmission that the file holds gives one thing, and other frames give
+-- nothing, the frames of the file give that of each whole transmission, in order.
+module _ {width : Width} {plan : CellPlan} {t : Tuning} (lawful : IsLawfulPlan width plan)
+    (tuned : IsOnPath plan t) (m : SyncFields) {X : Type 0} (give : ℕ → List X) (sent : ℕ → X)
+    (none : (k q w : ℕ) → in_file t k ≡ true → IsSentAt plan m (first_sync_frame plan) k q w →
+    ends_sending plan m k w ≡ false → give k ≡ [])
+    (one : (k q : ℕ) → IsInside plan m t k q → give k ≡ sent q ∷ []) where
+  -- other frames than a transmission's last tell nothing
+  tells_other : (q w : ℕ) → w < sending_frames plan m → w ≢ last_frame plan m →
+      tells give plan t (q * sending_frames plan m + w) ≡ []
+  tells_other q w low other =
+      let j = q * sending_frames plan m + w in
+      tells_if give plan t j
+      (λ early there.
+      let k = j - first_sync_frame plan in
+      let over : ends_sending plan m k w ≡ false =
+      false_from_ne_true (ends_sending plan m k w) (λ h. other (ends_tells plan m k w h).last) in
+      none k q w there (record { parts = omega (arith, early); low = low }) over)
+
+  -- the last tells of the transmission where it is whole
+  tells_last : (q : ℕ) → tells give plan t (q * sending_frames plan m + last_frame plan m) ≡
+      given_where (is_whole plan m) (λ s. sent s ∷ []) q
+  tells_last q =
+      let j = q * sending_frames plan m + last_frame plan m in
+      let k = j - first_sync_frame plan in
+      ⊎_elim
+      (λ (whole : is_whole plan m q ≡ true).
+      let (early, inside) = whole_to width plan m t q lawful tuned whole in
+      let e = le-leb (first_sync_frame plan) j (omega (arith, early)) in
+      ap (λ b. cond b (give k) [])
+      (and_from (nat_le (first_sync_frame plan) j) (in_file t k) e inside.there)
+      ∙ one k q inside ∙ sym (ap (λ b. cond b (sent q ∷ []) []) whole))
+      (λ (part : is_whole plan m q ≡ false). tells_if give plan t j
+      (λ early there.
+      let place : IsSentAt plan m (first_sync_frame plan) k q (last_frame plan m) =
+      record { parts = omega (arith, early); low = last_within plan m } in
+      let over : ends_sending plan m k (last_frame plan m) ≡ false =
+      false_from_ne_true (ends_sending plan m k (last_frame plan m))
+      (λ h.
+      let whole =
+      whole_from width plan m t k q lawful tuned place
+      (ends_tells plan m k (last_frame plan m) h).begun there in
+      cc) in
+      none k q (last_frame plan m) there place over)
+      ∙ sym (ap (λ b. cond b (sent q ∷ []) []) part))
+      (cases_Bool (is_whole plan m q))
+
+  -- all of them
+  pub whole_give : flat_map give (filter (in_file t) (frames_of t)) ≡ map sent (whole_sendings plan m)
+  whole_give =
+      let base = first_sync_frame plan in
+      let b = sync_bound t.count in
+      let f = sending_frames plan m in
+      let c = (plan.link.start + plan.link.samples) / 98304 + 1 in
+      let n = c + (base + b) in
+      let H = given_where (is_whole plan m) (λ s. sent s ∷ []) in
+      let some : 1 ≤ f = omega (arith, length-sync plan.cell.check30 m) in
+      let more : n * 1 ≤ n * f = mul-le-mul_left n some in
+      let room : base + b + (n * f - (base + b)) ≡ n * f = omega (arith, more) in
+      flat_map-filter (in_file t) give (places b)
+      ∙ sym (moved_up (given_where (in_file t) give) (tells give plan t) base b
+      (λ i lt. tells_early give plan t i lt) (λ k. tells_moved give plan t k))
+      ∙ sym (quiet (tells give plan t) (base + b) (n * f - (base + b)) (λ i lt. tells_late give plan t i tuned))
+      ∙ ap (λ i. flat_map (tells give plan t) (places i)) room
+      ∙ blocks (tells give plan t) H f (last_frame plan m) n (last_within plan m) tells_last tells_other
+      ∙ quiet H c (base + b)
+      (λ i lt. ap (λ x. cond x (sent (c + i) ∷ []) []) (late_sending plan m (c + i) (omega arith)))
+      ∙ sym (map-filter (is_whole plan m) sent (places c))
+
+-- and where no frame gives anything, they give nothing
+pub none_give : {X : Type 0} (t : Tuning) (give : ℕ → List X) → ((k : ℕ) → in_file t k ≡ true → give k ≡ []) →
+    flat_map give (filter (in_file t) (frames_of t)) ≡ []
+none_give t give none =
+    flat_map_ext_filter (in_file t) give (λ k. []) (frames_of t) none ∙ none_known (filter (in_file t) (frames_of t))
 
 -- ---- what frames tell, of samples that show the frames of the sync channel
 
 module _ {width : Width} {plan : CellPlan} {samples : List Sample} {t : Tuning}
     (is : ShowsSync width plan samples) (tuned : IsOnPath plan t) where
-  module _ (sync : SyncPlan) (sends : plan.sync ≡ Some sync) where
-    tells_none : (k q w : ℕ) → in_file t k ≡ true →
-        IsSentAt plan sync.message (first_sync_frame plan) k q w →
-        ends_sending plan sync.message k w ≡ false → frame_events t samples k ≡ []
-    tells_none k q w there place over =
-        ap (events_of (known t k)) (heard_nothing is tuned sync sends k q w there place over)
-
-    -- The last frame of a transmission that the file holds tells the event of this transmission:
-    -- its message is heard there, and it is known when the definition says, since the frame and the
-    -- transmission end at the same chip.
-    tells_sending : (k q : ℕ) → IsInside plan sync.message t k q →
-        frame_events t samples k ≡ sending_event plan sync.message q ∷ []
-    tells_sending k q inside =
-        let m = sync.message in
-        let heard =
-        heard_sending is tuned sync sends k q (last_frame plan m) inside.there
-        inside.last (ends_there plan m k (last_frame plan m) refl inside.begun) in
-        let ends : end_of_frame t k ≡ sending_ends plan m q - plan.link.start =
-        omega (arith, ends_where width plan m t k q is.receivable.lawful tuned inside.last) in
-        let when : known t k ≡
-        heard_behind 32768 plan.link.samples (sending_ends plan m q - plan.link.start) =
-        known_is t k tuned.alone ∙ ap (λ n. heard_behind 32768 n (end_of_frame t k)) tuned.count ∙
-        ap (heard_behind 32768 plan.link.samples) ends in
-        ap (events_of (known t k)) heard
-        ∙ ap (λ (n : ℕ). let e : Event = Sync n
-        (sync_capsule plan.cell.check30 (message_of plan.cell m q))
-        (message_of plan.cell m q) in e ∷ []) when
-
-    -- other frames than a transmission's last tell nothing
-    tells_other : (q w : ℕ) →
-        w < sending_frames plan sync.message → w ≢ last_frame plan sync.message →
-        tells plan samples t (q * sending_frames plan sync.message + w) ≡ []
-    tells_other q w low other =
-        let m = sync.message in
-        let j = q * sending_frames plan m + w in
-        tells_if plan samples t j
-        (λ early there.
-        let k = j - first_sync_frame plan in
-        let over : ends_sending plan m k w ≡ false =
-        false_from_ne_true (ends_sending plan m k w) (λ h. other (ends_tells plan m k w h).last) in
-        tells_none k q w there (record { parts = omega (arith, early); low = low }) over)
-
-    -- the last tells of the transmission where it is whole
-    tells_last : (q : ℕ) →
-        tells plan samples t (q * sending_frames plan sync.message + last_frame plan sync.message) ≡
-        given_where (is_whole plan sync.message) (λ s. sending_event plan sync.message s ∷ []) q
-    tells_last q =
-        let m = sync.message in
-        let j = q * sending_frames plan m + last_frame plan m in
-        let k = j - first_sync_frame plan in
-        ⊎_elim
-        (λ (whole : is_whole plan m q ≡ true).
-        let (early, inside) = whole_to width plan m t q is.receivable.lawful tuned whole in
-        let e = le-leb (first_sync_frame plan) j (omega (arith, early)) in
-        let there = inside.there in
-        let given = tells_sending k q inside in
-        ap (λ b. cond b (frame_events t samples k) [])
-        (and_from (nat_le (first_sync_frame plan) j) (in_file t k) e there)
-        ∙ given ∙ sym (ap (λ b. cond b (sending_event plan m q ∷ []) []) whole))
-        (λ (part : is_whole plan m q ≡ false). tells_if plan samples t j
-        (λ early there.
-        let place : IsSentAt plan m (first_sync_frame plan) k q (last_frame plan m) =
-        record { parts = omega (arith, early); low = last_within plan m } in
-        let over : ends_sending plan m k (last_frame plan m) ≡ false =
-        false_from_ne_true (ends_sending plan m k (last_frame plan m))
-        (λ h.
-        let whole =
-        whole_from width plan m t k q is.receivable.lawful tuned place
-        (ends_tells plan m k (last_frame plan m) h).begun there in
-        cc) in
-        tells_none k q (last_frame plan m) there place over)
-        ∙ sym (ap (λ b. cond b (sending_event plan m q ∷ []) []) part))
-        (cases_Bool (is_whole plan m q))
-
-    -- all of them
-    channel_back : flat_map (frame_events t samples) (filter (in_file t) (frames_of t)) ≡
-        events_of_channel plan (Some sync)
-    channel_back =
-        let m = sync.message in
-        let base = first_sync_frame plan in
-        let b = sync_bound t.count in
-        let f = sending_frames plan m in
-        let c = (plan.link.start + plan.link.samples) / 98304 + 1 in
-        let n = c + (base + b) in
-        let H = given_where (is_whole plan m) (λ s. sending_event plan m s ∷ []) in
-        let some : 1 ≤ f = omega (arith, length-sync plan.cell.check30 m) in
-        let more : n * 1 ≤ n * f = mul-le-mul_left n some in
-        let room : base + b + (n * f - (base + b)) ≡ n * f = omega (arith, more) in
-        flat_map-filter (in_file t) (frame_events t samples) (places b)
-        ∙ sym (moved_up (given_where (in_file t) (frame_events t samples)) (tells plan samples t)
-        base b
-        (λ i lt. tells_early plan samples t i lt) (λ k. tells_moved plan samples t k))
-        ∙ sym (quiet (tells plan samples t) (base + b) (n * f - (base + b)) (λ i lt. tells_late plan samples t i tuned))
-        ∙ ap (λ i. flat_map (tells plan samples t) (places i)) room
-        ∙ blocks (tells plan samples t) H f (last_frame plan m) n (last_within plan m)
-        tells_last tells_other
-        ∙ quiet H c (base + b)
-        (λ i lt. ap (λ x. cond x (sending_event plan m (c + i) ∷ []) [])
-        (late_sending plan m (c + i) (omega arith)))
-        ∙ sym (map-filter (is_whole plan m) (sending_event plan m) (places c))
-
-  silence_back : plan.sync ≡ None →
-      flat_map (frame_events t samples) (filter (in_file t) (frames_of t)) ≡ []
-  silence_back silent =
-      flat_map_ext_filter (in_file t) (frame_events t samples) (λ k. []) (frames_of t)
-      (λ k there. ap (events_of (known t k)) (none_heard is tuned silent k there))
-      ∙ none_known (filter (in_file t) (frames_of t))
+  -- The last frame of a transmission that the file holds tells the event of this transmission:
+  -- its message is heard there, and it is known when the definition says, since the frame and the
+  -- transmission end at the same chip.
+  tells_sending : (sync : SyncPlan) → plan.sync ≡ Some sync → (k q : ℕ) → IsInside plan sync.message t k q →
+      frame_events t samples k ≡ sending_event plan sync.message q ∷ []
+  tells_sending sync sends k q inside =
+      let m = sync.message in
+      let heard =
+      heard_sending is tuned sync sends k q (last_frame plan m) inside.there
+      inside.last (ends_there plan m k (last_frame plan m) refl inside.begun) in
+      let ends : end_of_frame t k ≡ sending_ends plan m q - plan.link.start =
+      omega (arith, ends_where width plan m t k q is.receivable.lawful tuned inside.last) in
+      let when : known t k ≡
+      heard_behind 32768 plan.link.samples (sending_ends plan m q - plan.link.start) =
+      known_is t k tuned.alone ∙ ap (λ n. heard_behind 32768 n (end_of_frame t k)) tuned.count ∙
+      ap (heard_behind 32768 plan.link.samples) ends in
+      ap (events_of (known t k)) heard
+      ∙ ap (λ (n : ℕ). let e : Event = Sync n
+      (sync_capsule plan.cell.check30 (message_of plan.cell m q))
+      (message_of plan.cell m q) in e ∷ []) when
 
   by_frames : (channel : Option SyncPlan) → plan.sync ≡ channel →
       flat_map (frame_events t samples) (filter (in_file t) (frames_of t)) ≡
       events_of_channel plan channel
-  by_frames None silent = silence_back silent
-  by_frames (Some sync) sends = channel_back sync sends
-
-  pub sendings_by_frames : flat_map (frame_events t samples) (filter (in_file t) (frames_of t)) ≡
-      sync_sent plan
-  unfolding sync_sent
-  sendings_by_frames = by_frames plan.sync refl
+  by_frames None silent =
+      none_give t (frame_events t samples)
+      (λ k there. ap (events_of (known t k)) (none_heard is tuned silent k there))
+  by_frames (Some sync) sends =
+      whole_give is.receivable.lawful tuned sync.message (frame_events t samples) (sending_event plan sync.message)
+      (λ k q w there place over.
+      ap (events_of (known t k)) (heard_nothing is tuned sync sends k q w there place over))
+      (tells_sending sync sends)
 
   pub sendings_in : flat_map (sync_events_at t samples) (places (plan.link.samples + 1)) ≡ sync_sent plan
+  unfolding sync_sent
   sendings_in =
       ap (λ n. flat_map (sync_events_at t samples) (places (n + 1))) (sym tuned.count)
       ∙ events_by_frames t (sync_timed t tuned.alone) samples
-      ∙ sendings_by_frames
+      ∙ by_frames plan.sync refl
 
 pub sendings_back : WholeSendingsComeBack
 sendings_back width plan samples t is tuned = sendings_in (shows_sync is) tuned

@@ -1,13 +1,14 @@
 -- What is gathered number by number comes in order.
 use Rattle.clean_link.proofs.Common.{filter_ext_places, ◌≡◌, ℕ, zero, suc, ◌+◌, ◌-◌, ◌*◌, ◌<◌, ◌≤◌, ◌&&◌, ◌==◌, ◌≢◌, ⊎_elim, ◌⊎◌, Bool}
-use Rattle.clean_link.proofs.Common.{true, false, cond, List, [], ◌∷◌, ◌++◌, map, filter, refl, sym, ap, ◌∙◌, arith, nat_lt, append_assoc}
+use Rattle.clean_link.proofs.Common.{true, false, cond, List, ◌∷◌, ◌++◌, map, filter, refl, sym, ap, ◌∙◌, arith, nat_lt, append_assoc}
 use Rattle.clean_link.proofs.Common.{flat_map, lt-ltb, le-ltb, ne_eqb, eq-eqb, cases_order, cases_Bool, append-nil, filter-append}
 use Rattle.clean_link.proofs.Common.{flat_map-append, places, places-none, places-more, filter_none_places, flat_map-next, flat_map-zero}
 use Rattle.clean_link.proofs.Common.{length, Some, is_some, and_parts, eqb-true, false_from_ne_true, Sample, first_of, mark, marks_at}
 use Rattle.clean_link.proofs.Common.{mark_before, is_in_file, known_at, heard_at, events_of, sync_events_at, IsTimed, Tuning, sync_stream}
 use Rattle.clean_link.proofs.Common.{sync_bound, Event, known_between, known_le, mark_is, filter_enough, flat_map_ext_places}
-use Rattle.clean_link.proofs.Common.{flat_map_ext_filter}
+use Rattle.clean_link.proofs.Common.{flat_map_ext_filter, Stream, frame_chips, known_now, []}
 use Rattle.heard_events.proofs.Arrivals.{and_none}
+use Rattle.chip_core.proofs.Ranges.{filter_all_places}
 
 -- ---- by key
 abbrev pub at_key : (ℕ → Bool) → (ℕ → ℕ) → ℕ → ℕ → Bool
@@ -134,15 +135,14 @@ flat_map-filter {X} P g (k ∷ ks) =
     (λ (e : P k ≡ false). rw e rest)
     (cases_Bool (P k))
 
+-- a list of one thing for each
+pub one_each : {A B : Type 0} (f : A → B) (xs : List A) → map f xs ≡ flat_map (λ x. f x ∷ []) xs
+one_each f [] = refl
+one_each {A} {B} f (x ∷ xs) = ap (λ (ys : List B). f x ∷ ys) (one_each f xs)
+
 pub map-filter : {X : Type 0} (P : ℕ → Bool) (f : ℕ → X) (ks : List ℕ) →
     map f (filter P ks) ≡ flat_map (given_where P (λ k. f k ∷ [])) ks
-map-filter P f [] = refl
-map-filter {X} P f (k ∷ ks) =
-    let rest = map-filter P f ks in
-    ⊎_elim
-    (λ (e : P k ≡ true). rw e (ap (λ (l : List X). f k ∷ l) rest))
-    (λ (e : P k ≡ false). rw e rest)
-    (cases_Bool (P k))
+map-filter P f ks = one_each f (filter P ks) ∙ flat_map-filter P (λ k. f k ∷ []) ks
 
 -- numbers that give nothing
 pub quiet : {X : Type 0} (g : ℕ → List X) (a d : ℕ) → ((i : ℕ) → i < d → g (a + i) ≡ []) →
@@ -188,7 +188,101 @@ blocks {X} g h f e (suc n) low here none =
     ∙ ap (λ (l : List X). flat_map h (places n) ++ l) (here n)
     ∙ sym (flat_map-next h n))
 
--- ---- what each frame gives
+-- ---- the frames of any stream, in the order in which they are known
+
+-- frames that end within n samples have numbers below a bound
+abbrev pub IsBound : Stream → (ℕ → ℕ) → Type 0
+IsBound s bound = (n k : ℕ) → frame_chips s.form * (k + 1) ≤ n → k < bound n
+
+-- the frames in a file are the first so many
+pub record HasFrames (count : ℕ) (s : Stream) (frames : ℕ) : Type 0 where
+  pub inside : (k : ℕ) → k < frames → is_in_file count s k ≡ true
+  pub outside : (k : ℕ) → frames ≤ k → is_in_file count s k ≡ false
+
+module _ {count low : ℕ} (s : Stream) (timed : IsTimed count s low) (bound : ℕ → ℕ)
+    (enough : IsBound s bound) where
+  -- a frame that is known within n samples has an early number
+  known_early : (n k : ℕ) → is_in_file count s k ≡ true → known_at count s k ≤ n → k < bound n
+  known_early n k there before =
+      let early = timed.early k in
+      let between = known_between s timed k there in
+      enough n k (omega (arith, early, between.low, before))
+
+  -- a frame that is known at n
+  now_is : (n k : ℕ) → at_key (is_in_file count s) (known_at count s) n k ≡ true →
+      (is_in_file count s k ≡ true) × (known_at count s k ≡ n)
+  now_is n k h =
+      let parts = and_parts (is_in_file count s k) (known_at count s k == n) h in
+      (parts.0, eqb-true (known_at count s k) n parts.1)
+
+  -- what the frames give that are known at n, over the frames of the whole file
+  given_now : {X : Type 0} (f : ℕ → ℕ → List X) (n : ℕ) →
+      flat_map (f n) (known_now count s n (bound n))
+      ≡ flat_map (λ k. f (known_at count s k) k)
+      (filter (at_key (is_in_file count s) (known_at count s) n) (places (bound count)))
+  given_now {X} f n =
+      let now = at_key (is_in_file count s) (known_at count s) n in
+      let g : ℕ → List X = λ k. f (known_at count s k) k in
+      flat_map_ext_filter now (f n) g (places (bound n))
+      (λ k h. ap (λ (i : ℕ). f i k) (sym (now_is n k h).1))
+      ∙ ap (flat_map g)
+      (filter_enough now (bound n) (bound count)
+      (λ k past. false_from_ne_true (now k)
+      (λ h.
+      let is = now_is n k h in
+      let early = known_early n k is.0 (omega (arith, is.1)) in
+      omega (arith, early, past)))
+      (λ k past. false_from_ne_true (now k)
+      (λ h.
+      let is = now_is n k h in
+      let early = known_early count k is.0 (known_between s timed k is.0).most in
+      omega (arith, early, past))))
+
+  -- later frames are known no sooner, and all of them by the file's end
+  rising : IsRising (is_in_file count s) (known_at count s)
+  rising =
+      record { rises = λ i j less there there'. known_le s timed i j there there' (omega arith) }
+
+  all_known : (k : ℕ) →
+      below_key (is_in_file count s) (known_at count s) (count + 1) k ≡ is_in_file count s k
+  all_known k = ⊎_elim
+      (λ (there : is_in_file count s k ≡ true).
+      let between = known_between s timed k there in
+      let below = lt-ltb (known_at count s k) (count + 1) (omega (arith, between.most)) in
+      rw (there, below) refl)
+      (λ (gone : is_in_file count s k ≡ false). rw gone refl)
+      (cases_Bool (is_in_file count s k))
+
+  -- what the frames in the file give, number of samples by number of samples
+  pub given_in_order : {X : Type 0} (f : ℕ → ℕ → List X) →
+      flat_map (λ n. flat_map (f n) (known_now count s n (bound n))) (places (count + 1))
+      ≡ flat_map (λ k. f (known_at count s k) k)
+      (filter (is_in_file count s) (places (bound count)))
+  given_in_order {X} f =
+      let g : ℕ → List X = λ k. f (known_at count s k) k in
+      let inside = is_in_file count s in
+      let known = known_at count s in
+      flat_map_ext_places (λ n. flat_map (f n) (known_now count s n (bound n)))
+      (λ n. flat_map g (filter (at_key inside known n) (places (bound count)))) (count + 1)
+      (λ n below. given_now f n)
+      ∙ in_order inside known g (bound count) (count + 1) rising
+      ∙ ap (flat_map g)
+      (filter_ext_places (below_key inside known (count + 1)) inside (bound count)
+      (λ k below. all_known k))
+
+  -- and those frames are the first so many
+  pub frames_first : (frames : ℕ) → HasFrames count s frames →
+      filter (is_in_file count s) (places (bound count)) ≡ places frames
+  frames_first frames has =
+      filter_enough (is_in_file count s) (bound count) frames
+      (λ k past. false_from_ne_true (is_in_file count s k)
+      (λ there.
+      let early = known_early count k there (known_between s timed k there).most in
+      omega (arith, early, past)))
+      has.outside
+      ∙ filter_all_places (is_in_file count s) frames has.inside
+
+-- ---- what each sync frame gives
 abbrev pub frame_events : Tuning → List Sample → ℕ → List Event
 frame_events t samples k = events_of (known_at t.count (sync_stream t) k) (heard_at t samples k)
 
@@ -202,70 +296,16 @@ known t k = known_at t.count (sync_stream t) k
 abbrev pub frames_of : Tuning → List ℕ
 frames_of t = places (sync_bound t.count)
 
-at_is : (t : Tuning) (n k : ℕ) → at_key (in_file t) (known t) n k ≡ true →
-    (in_file t k ≡ true) × (known t k ≡ n)
-at_is t n k h = let parts = and_parts (in_file t k) (known t k == n) h in
-    (parts.0, eqb-true (known t k) n parts.1)
-
--- a frame that is known within n samples has an early number
-known_early : {low : ℕ} (t : Tuning) → IsTimed t.count (sync_stream t) low → (n k : ℕ) →
-    in_file t k ≡ true → known t k ≤ n → k < sync_bound n
-known_early t timed n k there before =
-    let early = timed.early k in
-    let between = known_between (sync_stream t) timed k there in
-    omega (arith, early, between.low, before)
-
--- the events of n samples, over the frames of the whole file
-events_now : {low : ℕ} (t : Tuning) → IsTimed t.count (sync_stream t) low →
-    (samples : List Sample) (n : ℕ) → n ≤ t.count →
-    sync_events_at t samples n ≡
-    flat_map (frame_events t samples) (filter (at_key (in_file t) (known t) n) (frames_of t))
-unfolding sync_events_at
-events_now t timed samples n within =
-    let now = at_key (in_file t) (known t) n in
-    let here : (k : ℕ) → now k ≡ true → k < sync_bound n = λ k h. let is = at_is t n k h in
-    known_early t timed n k is.0 (omega (arith, is.1)) in
-    flat_map_ext_filter now (λ k. events_of n (heard_at t samples k)) (frame_events t samples)
-    (places (sync_bound n))
-    (λ k h. ap (λ m. events_of m (heard_at t samples k)) (sym (at_is t n k h).1))
-    ∙ ap (flat_map (frame_events t samples))
-    (filter_enough now (sync_bound n) (sync_bound t.count)
-    (λ k past. false_from_ne_true (now k) (λ h. let e = here k h in omega (arith, e, past)))
-    (λ k past. false_from_ne_true (now k) (λ h. let e = here k h in
-    omega (arith, e, past, within))))
-
-rising : {low : ℕ} (t : Tuning) → IsTimed t.count (sync_stream t) low →
-    IsRising (in_file t) (known t)
-rising t timed =
-    record {
-      rises = λ i j less there there'. known_le (sync_stream t) timed i j there there'
-          (omega (arith, less));
-    }
-
-all_known : {low : ℕ} (t : Tuning) → IsTimed t.count (sync_stream t) low → (k : ℕ) →
-    below_key (in_file t) (known t) (t.count + 1) k ≡ in_file t k
-all_known t timed k = ⊎_elim
-    (λ (there : in_file t k ≡ true).
-    let between = known_between (sync_stream t) timed k there in
-    let below = lt-ltb (known t k) (t.count + 1) (omega (arith, between.most)) in
-    rw (there, below) refl)
-    (λ (gone : in_file t k ≡ false). rw gone refl)
-    (cases_Bool (in_file t k))
+sync_enough : (t : Tuning) → IsBound (sync_stream t) sync_bound
+sync_enough t n k ends = omega (arith, ends)
 
 pub events_by_frames : {low : ℕ} (t : Tuning) → IsTimed t.count (sync_stream t) low →
     (samples : List Sample) →
     flat_map (sync_events_at t samples) (places (t.count + 1)) ≡
     flat_map (frame_events t samples) (filter (in_file t) (frames_of t))
+unfolding sync_events_at
 events_by_frames t timed samples =
-    flat_map_ext_places (sync_events_at t samples)
-    (λ n. flat_map (frame_events t samples)
-    (filter (at_key (in_file t) (known t) n) (frames_of t))) (t.count + 1)
-    (λ n below. events_now t timed samples n (omega (arith, below)))
-    ∙ in_order (in_file t) (known t) (frame_events t samples) (sync_bound t.count) (t.count + 1)
-    (rising t timed)
-    ∙ ap (flat_map (frame_events t samples))
-    (filter_ext_places (below_key (in_file t) (known t) (t.count + 1)) (in_file t)
-    (sync_bound t.count) (λ k below. all_known t timed k))
+    given_in_order (sync_stream t) timed sync_bound (sync_enough t) (λ n k. events_of n (heard_at t samples k))
 
 -- ---- the mark
 -- the mark of all samples is the first of the frames' marks
@@ -278,8 +318,8 @@ mark_of_all t timed samples =
     mark_is t timed samples t.count (sync_bound t.count)
     (λ k below there. (known_between (sync_stream t) timed k there).most)
     (λ k past there.
-    let early =
-    known_early t timed t.count k there (known_between (sync_stream t) timed k there).most in
+    let early = known_early (sync_stream t) timed sync_bound (sync_enough t) t.count k there
+    (known_between (sync_stream t) timed k there).most in
     absurd (omega (arith, early, past)))
 
 -- the first of joined pieces is the first of one of them

@@ -1,18 +1,19 @@
 -- What a handset hears of the traffic channel that it follows: the frames that the cell sends from
 -- its mark on, and the messages in them.
-use Rattle.clean_link.proofs.Common.{◌≡◌, ℕ, zero, suc, ◌+◌, ◌*◌, ◌<◌, ◌≤◌, List, [], ◌∷◌, length, get_or, refl, sym, ap, ◌∙◌, arith, subst}
+use Rattle.clean_link.proofs.Common.{◌≡◌, ℕ, zero, suc, ◌+◌, ◌*◌, ◌<◌, List, [], ◌∷◌, length, get_or, refl, sym, ap, ◌∙◌, arith, subst}
 use Rattle.clean_link.proofs.Common.{Option, None, Some, ◌≢◌, All, Contains, flat_map, eq-eqb, ne_eqb, All-contains, places, Width}
 use Rattle.clean_link.proofs.Common.{HaveOwnTrafficRows, made_samples, told_superframes, CellPlan, SyncPlan, TrafficPlan, events}
 use Rattle.clean_link.proofs.Common.{frame_events_at, message_events_at, mark, AreNear, frames_at, messages_at, if_followed, Tuning}
 use Rattle.clean_link.proofs.Common.{sync_stream, Event, Mark, Traffic, by_one_mark, flat_map_ext_places, IsNotDirected, IsOnPath}
-use Rattle.clean_link.proofs.Common.{IsReceivable, frames_of_channel, frames_sent, told_on_row, AreDistinct, SendsSetOne}
-use Rattle.clean_link.proofs.Common.{messages_of_channel, messages_sent, signaling_sent, told_by_first, told_followed, told_with_sync}
-use Rattle.clean_link.proofs.Common.{MarkIsAt, traffic_sent, FollowsSent, HearsSentTraffic, IsUndirected, Sample, ShowsSync}
+use Rattle.clean_link.proofs.Common.{IsReceivable, frames_of_channel, frames_sent, told_on_row, AreDistinct, messages_of_channel}
+use Rattle.clean_link.proofs.Common.{messages_sent, signaling_sent, told_by_first, told_followed, told_with_sync, MarkIsAt, traffic_sent}
+use Rattle.clean_link.proofs.Common.{FollowsSent, HearsSentTraffic, IsUndirected, Sample, ShowsSync, FollowsOne, OpensBehind}
 use Rattle.clean_link.proofs.traffic.Steady.{frames_from_mark, messages_from_mark, undirected_behind}
 use Rattle.clean_link.proofs.marks.MarksTrue.{first_in, unset_in, marks_in, rate_in, time_of, unmarked_in}
 use Rattle.clean_link.proofs.frames.ChannelFrames.{clean_sync}
 use Rattle.clean_link.proofs.traffic.Frames.{sent_frames_back, sent_messages_back}
 use Rattle.clean_link.proofs.traffic.Signs.{clean_sent}
+use Rattle.clean_link.specs.TrafficLaws.{HoldsOfDistinct}
 use Rattle.clean_signal.proofs.signal.Samples.{length-made}
 use Rattle.clean_link.proofs.sendings.Heard.{none_known}
 
@@ -45,20 +46,21 @@ on_row width plan p row told is has on =
 
 -- ---- after the mark
 
--- a handset follows a channel after the mark that the first whole transmission tells, and each of the
--- channel's frames from there on is distinct
-pub record IsHeardBehind (width : Width) (plan : CellPlan) (t : Tuning) (traffic : Traffic)
-    (m : Mark) : Type 0 where
-  pub p : TrafficPlan
-  pub superframes : ℕ
-  pub hears : HearsSentTraffic width plan p t traffic m superframes
-  pub told : told_with_sync plan plan.sync ≡ Some superframes
-  pub one : SendsSetOne p
-  pub distinct : AreDistinct plan p (plan.link.start + m.sample)
-
 -- what the channel on a row tells after a local chip
-abbrev pub told_behind : CellPlan → (TrafficPlan → ℕ → List Event) → ℕ → ℕ → List Event
+abbrev told_behind : CellPlan → (TrafficPlan → ℕ → List Event) → ℕ → ℕ → List Event
 told_behind plan told row chip = told_on_row (λ (p : TrafficPlan). told p chip) plan.traffic row
+
+-- what is told of a channel that is heard after a mark is told of the one on its row
+pub told_there : {width : Width} {plan : CellPlan} {p : TrafficPlan} {t : Tuning} {traffic : Traffic} {m : Mark}
+    {superframes : ℕ} (told : TrafficPlan → ℕ → List Event) (at : Option ℕ) → at ≡ Some superframes →
+    HearsSentTraffic width plan p t traffic m superframes →
+    told p (plan.link.start + m.sample) ≡ told_followed (told_behind plan told) (Some traffic) at
+told_there {width} {plan} {p} {traffic = traffic} {superframes = superframes} told at is hears =
+    ap (told p) hears.marked.place
+    ∙ sym
+    (on_row width plan p traffic.row (λ (q : TrafficPlan). told q (98304 * superframes)) hears.receivable hears.sent
+    hears.assigned.row)
+    ∙ sym (ap (told_followed (told_behind plan told) (Some traffic)) is)
 
 module _ {width : Width} {plan : CellPlan} {t : Tuning} {samples : List Sample}
     (is : ShowsSync width plan samples) (tuned : IsOnPath plan t) where
@@ -69,8 +71,9 @@ module _ {width : Width} {plan : CellPlan} {t : Tuning} {samples : List Sample}
       told_with_sync plan (Some sync) ≡ Some superframes
   told_so sync m sends set superframes time =
       let first = first_in is tuned sync sends m set in
+      let first_time = ap (λ (x : Mark). x.time) (sym first.same) in
       let told : told_superframes plan.cell sync.message first.sending ≡ superframes =
-      omega (arith, time, first.time, time_of plan sync.message first.sending) in
+      omega (arith, time, first_time, time_of plan sync.message first.sending) in
       ap (told_by_first plan sync.message) first.first ∙ ap (λ (n : ℕ). Some n) told
 
   -- where no mark is set none is told
@@ -102,74 +105,52 @@ module _ {width : Width} {plan : CellPlan} {t : Tuning} {samples : List Sample}
             },
           )
 
-  -- so a channel that is followed is heard after the mark that is set
-  pub heard_behind_mark : (traffic : Traffic) (m : Mark) →
-      mark t samples t.count ≡ Some m → FollowsSent plan (Some traffic) →
-      IsHeardBehind width plan t traffic m
-  heard_behind_mark traffic m set follows =
-      let (superframes, told, cell) = mark_told (Some m) set in
-      let (p, followed) = follows in
-      record {
-        p = p;
-        superframes = superframes;
-        hears = record {
-          receivable = is.receivable;
-          sent = followed.sent;
-          assigned = followed.assigned;
-          tuned = tuned;
-          marked = cell.marked;
-        };
-        told = told;
-        one = followed.one;
-        distinct = subst (AreDistinct plan p) (sym cell.marked.place) (followed.distinct superframes told);
-      }
+-- What is heard of a channel that is followed comes back where the mark of all samples tells it: nothing
+-- where none is set, and else what is true of what is heard after that mark.
+pub each_behind : {width : Width} {plan : CellPlan} {t : Tuning} (samples : List Sample) {at : Option ℕ} →
+    IsReceivable width plan → IsOnPath plan t → MarkIsAt plan (mark t samples t.count) at →
+    {p : TrafficPlan} (f : FollowsOne plan t.traffic p) (Are : Option ℕ → List Event → Type 0)
+    (heard : ℕ → Traffic → Mark → List Event) →
+    ((n : ℕ) → OpensBehind n (if_followed (heard n) t.traffic)) →
+    ((es : List Event) → es ≡ [] → Are None es) →
+    ((m : Mark) (superframes : ℕ) → mark t samples t.count ≡ Some m → at ≡ Some superframes →
+    HearsSentTraffic width plan p t f.traffic m superframes →
+    Are (Some superframes) (flat_map (λ n. heard n f.traffic m) (places (plan.link.samples + 1)))) →
+    Are at (flat_map (λ n. if_followed (heard n) t.traffic (mark t samples n)) (places (plan.link.samples + 1)))
+each_behind {plan = plan} {t} samples {at} is tuned marked {p} f Are heard opens none behind =
+    let all = places (plan.link.samples + 1) in
+    let count = tuned.count in
+    let last = mark t samples t.count in
+    let by_last : flat_map (λ n. if_followed (heard n) t.traffic (mark t samples n)) all
+    ≡ flat_map (λ n. if_followed (heard n) (Some f.traffic) last) all =
+    flat_map_ext_places (λ n. if_followed (heard n) t.traffic (mark t samples n))
+    (λ n. if_followed (heard n) t.traffic last) (plan.link.samples + 1)
+    (λ n below.
+    by_one_mark t (one_near t plan tuned) samples n t.count n _ (omega (arith, below, count)) (omega arith)
+    (opens n))
+    ∙ ap (λ (followed : Option Traffic). flat_map (λ n. if_followed (heard n) followed last) all) f.follows in
+    subst (Are at) (sym by_last) (by_mark last refl marked)
+  where
+    by_mark : (m : Option Mark) → mark t samples t.count ≡ m → MarkIsAt plan m at →
+        Are at (flat_map (λ n. if_followed (heard n) (Some f.traffic) m) (places (plan.link.samples + 1)))
+    by_mark None unset untold =
+        subst (λ (told : Option ℕ). Are told
+        (flat_map (λ (n : ℕ). let none : List Event = [] in none) (places (plan.link.samples + 1)))) (sym untold)
+        (none _ (none_known (places (plan.link.samples + 1))))
+    by_mark (Some m) set (superframes, told, cell) =
+        subst (λ (o : Option ℕ). Are o
+        (flat_map (λ n. heard n f.traffic m) (places (plan.link.samples + 1)))) (sym told)
+        (behind m superframes set told
+        (record { receivable = is; sent = f.sent; assigned = f.assigned; tuned = tuned; marked = cell.marked }))
 
-  -- what is told of it is told of the channel on its row
-  pub told_there : (traffic : Traffic) (m : Mark) (told : TrafficPlan → ℕ → List Event)
-      (b : IsHeardBehind width plan t traffic m) →
-      told b.p (plan.link.start + m.sample)
-      ≡ told_followed (told_behind plan told) (Some traffic) (told_with_sync plan plan.sync)
-  told_there traffic m told b =
-      ap (told b.p) b.hears.marked.place
-      ∙ sym
-      (on_row width plan b.p traffic.row (λ (q : TrafficPlan). told q (98304 * b.superframes))
-      is.receivable b.hears.sent b.hears.assigned.row)
-      ∙ sym (ap (told_followed (told_behind plan told) (Some traffic)) b.told)
-
-  -- What is heard of it at each number of samples is what it is sent, where the mark of all samples
-  -- tells it, and what is heard after that mark is.
-  module _ (heard : ℕ → Traffic → Mark → List Event) (told : TrafficPlan → ℕ → List Event)
-      (once : (n : ℕ) → n ≤ t.count →
-      if_followed (heard n) t.traffic (mark t samples n)
-      ≡ if_followed (heard n) t.traffic (mark t samples t.count))
-      (back : (traffic : Traffic) (m : Mark) → t.traffic ≡ Some traffic →
-      mark t samples t.count ≡ Some m → (b : IsHeardBehind width plan t traffic m) →
-      flat_map (λ n. heard n traffic m) (places (plan.link.samples + 1))
-      ≡ told b.p (plan.link.start + m.sample)) where
-    behind_last : (followed : Option Traffic) (last : Option Mark) → t.traffic ≡ followed →
-        mark t samples t.count ≡ last → FollowsSent plan followed →
-        flat_map (λ n. if_followed (heard n) followed last) (places (plan.link.samples + 1))
-        ≡ told_followed (told_behind plan told) followed (told_with_sync plan plan.sync)
-    behind_last None last assigned set follows = none_known (places (plan.link.samples + 1))
-    behind_last (Some traffic) None assigned unset follows =
-        none_known (places (plan.link.samples + 1))
-        ∙ sym
-        (ap (told_followed (told_behind plan told) (Some traffic)) (untold_in plan.sync refl unset))
-    behind_last (Some traffic) (Some m) assigned set follows =
-        let b = heard_behind_mark traffic m set follows in
-        back traffic m assigned set b ∙ told_there traffic m told b
-
-    all_heard : FollowsSent plan t.traffic →
-        flat_map (λ n. if_followed (heard n) t.traffic (mark t samples n))
-        (places (plan.link.samples + 1))
-        ≡ told_followed (told_behind plan told) t.traffic (told_with_sync plan plan.sync)
-    all_heard follows =
-        let last = mark t samples t.count in
-        let count = tuned.count in
-        flat_map_ext_places (λ n. if_followed (heard n) t.traffic (mark t samples n))
-        (λ n. if_followed (heard n) t.traffic last) (plan.link.samples + 1)
-        (λ n below. once n (omega (arith, below, count)))
-        ∙ behind_last t.traffic last refl refl follows
+-- where no channel is followed, nothing is heard of one
+pub none_followed : (t : Tuning) (samples : List Sample) (heard : ℕ → Traffic → Mark → List Event)
+    (ns : List ℕ) → t.traffic ≡ None →
+    flat_map (λ n. if_followed (heard n) t.traffic (mark t samples n)) ns ≡ []
+none_followed t samples heard ns none =
+    ap (λ (followed : Option Traffic).
+    flat_map (λ n. if_followed (heard n) followed (mark t samples n)) ns) none
+    ∙ none_known ns
 
 -- no handoff is directed after the mark of all samples
 pub undirected : (plan : CellPlan) (t : Tuning) (samples : List Sample) → IsOnPath plan t →
@@ -185,38 +166,52 @@ undirected plan t samples tuned long not_directed traffic m followed set =
 module _ (width : Width) (plan : CellPlan) (t : Tuning) (is : IsReceivable width plan)
     (tuned : IsOnPath plan t)
     (not_directed : All IsNotDirected (events t (made_samples plan))) where
+  abbrev samples : List Sample
+  samples = made_samples plan
+
+  -- what each channel with distinct frames gives back, the one that is followed does
+  followed_back : (heard : Tuning → Traffic → Mark → List Sample → ℕ → List Event)
+      (told : CellPlan → TrafficPlan → ℕ → List Event) →
+      ((n : ℕ) → OpensBehind n (if_followed (λ traffic m. heard t traffic m samples n) t.traffic)) →
+      HoldsOfDistinct (λ plan p t traffic m samples. IsUndirected t traffic m samples plan.link.samples →
+      flat_map (heard t traffic m samples) (places (plan.link.samples + 1)) ≡
+      told plan p (plan.link.start + m.sample)) → (followed : Option Traffic) → t.traffic ≡ followed →
+      FollowsSent plan followed →
+      flat_map (λ n. if_followed (λ traffic m. heard t traffic m samples n) t.traffic (mark t samples n))
+      (places (plan.link.samples + 1))
+      ≡ told_followed (told_behind plan (told plan)) followed (told_with_sync plan plan.sync)
+  followed_back heard told opens back None none follows =
+      none_followed t samples (λ n traffic m. heard t traffic m samples n) (places (plan.link.samples + 1)) none
+  followed_back heard told opens back (Some traffic) chosen (p, follows) =
+      each_behind samples is tuned (mark_told (clean_sync width plan is) tuned (mark t samples t.count) refl)
+      (record {
+        traffic = traffic;
+        follows = chosen;
+        sent = follows.sent;
+        assigned = follows.assigned;
+        one = follows.one;
+      })
+      (λ at es. es ≡ told_followed (told_behind plan (told plan)) (Some traffic) at)
+      (λ n traffic m. heard t traffic m samples n) opens (λ es none. none)
+      (λ m superframes set at hears.
+      back width plan p t traffic m superframes samples hears (length-made plan)
+      (λ k. clean_sent is p hears.sent (4 * superframes + k)) follows.one
+      (subst (AreDistinct plan p) (sym hears.marked.place) (follows.distinct superframes at))
+      (undirected plan t samples tuned (length-made plan) not_directed traffic m chosen set)
+      ∙ told_there (told plan) (Some superframes) refl hears)
+
   -- its events are the frames that are sent
   pub frames_all : FollowsSent plan t.traffic →
-      flat_map (frame_events_at t (made_samples plan)) (places (plan.link.samples + 1))
-      ≡ traffic_sent plan t.traffic
+      flat_map (frame_events_at t samples) (places (plan.link.samples + 1)) ≡ traffic_sent plan t.traffic
   unfolding traffic_sent frames_sent frame_events_at
-  frames_all follows =
-      let samples = made_samples plan in
-      all_heard (clean_sync width plan is) tuned (λ n traffic m. frames_at t traffic m samples n)
-      (frames_of_channel plan)
-      (λ n most.
-      by_one_mark t (one_near t plan tuned) samples n t.count n _ most (omega arith)
-      (frames_from_mark t (one_near t plan tuned) t.traffic samples n))
-      (λ traffic m assigned set b.
-      sent_frames_back width plan b.p t traffic m b.superframes samples b.hears (length-made plan)
-      (λ k. clean_sent is b.p b.hears.sent (4 * b.superframes + k)) b.one b.distinct
-      (undirected plan t samples tuned (length-made plan) not_directed traffic m assigned set))
-      follows
+  frames_all =
+      followed_back frames_at frames_of_channel (frames_from_mark t (one_near t plan tuned) t.traffic samples)
+      sent_frames_back t.traffic refl
 
   -- and the messages that their signaling spells
   pub messages_all : FollowsSent plan t.traffic →
-      flat_map (message_events_at t (made_samples plan)) (places (plan.link.samples + 1))
-      ≡ signaling_sent plan t.traffic
+      flat_map (message_events_at t samples) (places (plan.link.samples + 1)) ≡ signaling_sent plan t.traffic
   unfolding signaling_sent messages_sent message_events_at
-  messages_all follows =
-      let samples = made_samples plan in
-      all_heard (clean_sync width plan is) tuned (λ n traffic m. messages_at t traffic m samples n)
-      (messages_of_channel plan)
-      (λ n most.
-      by_one_mark t (one_near t plan tuned) samples n t.count n _ most (omega arith)
-      (messages_from_mark t (one_near t plan tuned) t.traffic samples n))
-      (λ traffic m assigned set b.
-      sent_messages_back width plan b.p t traffic m b.superframes samples b.hears (length-made plan)
-      (λ k. clean_sent is b.p b.hears.sent (4 * b.superframes + k)) b.one b.distinct
-      (undirected plan t samples tuned (length-made plan) not_directed traffic m assigned set))
-      follows
+  messages_all =
+      followed_back messages_at messages_of_channel
+      (messages_from_mark t (one_near t plan tuned) t.traffic samples) sent_messages_back t.traffic refl

@@ -1,19 +1,18 @@
 -- A cell with a distinct frame of each rate.
-use Rattle.clean_link.proofs.Common.{SetOne, SetTwo, planned, length, TrafficFrame, IsTrafficFrame, ◌≡◌, ◌≢◌, ℕ, ◌+◌, ◌*◌, ◌^◌, ◌<◌, ◌≤◌}
-use Rattle.clean_link.proofs.Common.{Bool, true, List, [], ◌∷◌, map, refl, sym, ap, ◌∙◌, channel_on, arith, subst, nat_le, inl, inr, Some}
-use Rattle.clean_link.proofs.Common.{All, flat_map, and_parts, cases_eq, leb-true, All-cons, All-nil, binary, places, norm, Sixteen, after}
-use Rattle.clean_link.proofs.Common.{traffic_mask, after-after, IsState-before, capsule, check_bits, traffic_codeword, Rate, R9600, R4800}
-use Rattle.clean_link.proofs.Common.{R2400, R1200, codeword_bits, power_places, Rate2, R14400, R7200, R3600, R1800, on_again, sync_body}
-use Rattle.clean_link.proofs.Common.{sync_capsule, IsSyncMessage, split_9600, loudness, AreLawfulBeside, IsFreeOf, IsLawfulPlan}
-use Rattle.clean_link.proofs.Common.{IsPagingPlan, IsTrafficPlan, sent_paging_rate, IsStatedPaging, IsReceivable, frames_of, cycled_frame}
-use Rattle.clean_link.proofs.Common.{PagingPlan, TrafficPlan, SetOneFrame, SetTwoFrame, lost_symbols, distinct_bits_of, bits_of2}
-use Rattle.clean_link.proofs.Common.{distinct_plan, rules, first_channel, frame2_at, frame_at, on_row, second_channel, told_message}
-use Rattle.clean_link.proofs.Common.{HasMark, HasSetOne, HasSetTwo, frame_chip, is_received, received_frames, replaced_of, AreDistinct}
-use Rattle.clean_link.proofs.Common.{IsDistinctFrame, end_chip, messages_sent, cycled_frame2, IsDistinctFrame2, signaling_sent}
-use Rattle.clean_link.proofs.Common.{told_with_sync, lost_symbols2, sharing, sharing2, codewords_giving, zero, suc, false, get_or}
-use Rattle.clean_link.proofs.Common.{common_parity, digit, get_or-map-places, flat_map_ext_places, long_chip, after_lt, after_none}
-use Rattle.clean_link.proofs.Common.{after_one, stepped, after-before, before_lt, after-injective, group_scrambling, power_place}
-use Rattle.clean_link.proofs.Common.{frames_in_turn, power_start}
+use Rattle.clean_link.proofs.Common.{length, TrafficFrame, IsTrafficFrame, ◌≡◌, ◌≢◌, ℕ, ◌+◌, ◌*◌, ◌^◌, ◌<◌, ◌≤◌, Bool, true, List, [], ◌∷◌}
+use Rattle.clean_link.proofs.Common.{map, refl, sym, ap, ◌∙◌, channel_on, arith, subst, nat_le, Some, All, flat_map, and_parts, leb-true}
+use Rattle.clean_link.proofs.Common.{All-cons, All-nil, binary, places, norm, Sixteen, after, traffic_mask, after-after, IsState-before}
+use Rattle.clean_link.proofs.Common.{capsule, check_bits, traffic_codeword, Rate, R9600, R4800, R2400, R1200, codeword_bits, power_places}
+use Rattle.clean_link.proofs.Common.{Rate2, R14400, R7200, R3600, R1800, on_again, sync_body, sync_capsule, IsSyncMessage, split_9600}
+use Rattle.clean_link.proofs.Common.{loudness, AreLawfulBeside, IsFreeOf, IsLawfulPlan, IsPagingPlan, IsTrafficPlan, sent_paging_rate}
+use Rattle.clean_link.proofs.Common.{IsStatedPaging, IsReceivable, frames_of, cycled_frame, PagingPlan, TrafficPlan, SetOneFrame}
+use Rattle.clean_link.proofs.Common.{SetTwoFrame, lost_symbols, distinct_bits_of, bits_of2, distinct_plan, rules, first_channel, frame2_at}
+use Rattle.clean_link.proofs.Common.{frame_at, on_row, second_channel, told_message, HasMark, HasSetOne, HasSetTwo, frame_chip, is_received}
+use Rattle.clean_link.proofs.Common.{received_frames, replaced_of, AreDistinct, IsDistinctFrame, end_chip, messages_sent, cycled_frame2}
+use Rattle.clean_link.proofs.Common.{IsDistinctFrame2, signaling_sent, told_with_sync, lost_symbols2, sharing, sharing2, codewords_giving}
+use Rattle.clean_link.proofs.Common.{zero, suc, false, get_or, common_parity, digit, get_or-map-places, flat_map_ext_places, long_chip}
+use Rattle.clean_link.proofs.Common.{after_lt, after_none, after_one, stepped, after-before, before_lt, after-injective, group_scrambling}
+use Rattle.clean_link.proofs.Common.{power_place, frames_in_turn, power_start, ◌-◌}
 use Rattle.long_code.specs.LongCode.{before}
 use Rattle.sync_message.proofs.Bodies.{admitted}
 use Rattle.message_layout.specs.Spelling.{spelling}
@@ -161,17 +160,11 @@ places_are mask v low =
 first_state : after (before 1 686592) 688128 ≡ after 1 1536
 first_state = on_again 1 686592 1536
 
-walk_1 : walked 24576 1 ≡ 2395420971681
+-- by 24,576 steps from one to the next
+walks : (walked 24576 1 ≡ 2395420971681) × (walked 24576 2395420971681 ≡ 1799602966513)
+    × (walked 24576 1799602966513 ≡ 1907663947772)
 unfolding walked
-walk_1 = refl
-
-walk_2 : walked 24576 2395420971681 ≡ 1799602966513
-unfolding walked
-walk_2 = refl
-
-walk_3 : walked 24576 1799602966513 ≡ 1907663947772
-unfolding walked
-walk_3 = refl
+walks = (refl, refl, refl)
 
 -- a frame later
 frame_on : (n v w : ℕ) → after 1 n ≡ v → v < 2 ^ 42 → walked 24576 v ≡ w →
@@ -181,13 +174,13 @@ frame_on n v w here low walk =
     ∙ sym (walked_is 24576 v low) ∙ walk
 
 state_1 : after 1 24576 ≡ 2395420971681
-state_1 = sym (walked_is 24576 1 (omega arith)) ∙ walk_1
+state_1 = sym (walked_is 24576 1 (omega arith)) ∙ walks.0
 
 state_2 : after 1 49152 ≡ 1799602966513
-state_2 = frame_on 24576 2395420971681 1799602966513 state_1 (omega arith) walk_2
+state_2 = frame_on 24576 2395420971681 1799602966513 state_1 (omega arith) walks.1
 
 state_3 : after 1 73728 ≡ 1907663947772
-state_3 = frame_on 49152 1799602966513 1907663947772 state_2 (omega arith) walk_3
+state_3 = frame_on 49152 1799602966513 1907663947772 state_2 (omega arith) walks.2
 
 -- so those at the frames
 state_at : (n v : ℕ) → after 1 n ≡ v →
@@ -218,21 +211,10 @@ abbrev starts_3 : List ℕ
 starts_3 =
     15 ∷ 5 ∷ 12 ∷ 15 ∷ 4 ∷ 6 ∷ 9 ∷ 7 ∷ 12 ∷ 6 ∷ 8 ∷ 8 ∷ 6 ∷ 1 ∷ 8 ∷ 13 ∷ []
 
-starts_are_0 : starts 0x318cc08f34f 16 1 ≡ starts_0
+starts_are : (starts 0x318cc08f34f 16 1 ≡ starts_0) × (starts 0x318cc08f34f 16 2395420971681 ≡ starts_1)
+    × (starts 0x318cc08f34f 16 1799602966513 ≡ starts_2) × (starts 0x318cc08f34f 16 1907663947772 ≡ starts_3)
 unfolding binary walked
-starts_are_0 = refl
-
-starts_are_1 : starts 0x318cc08f34f 16 2395420971681 ≡ starts_1
-unfolding binary walked
-starts_are_1 = refl
-
-starts_are_2 : starts 0x318cc08f34f 16 1799602966513 ≡ starts_2
-unfolding binary walked
-starts_are_2 = refl
-
-starts_are_3 : starts 0x318cc08f34f 16 1907663947772 ≡ starts_3
-unfolding binary walked
-starts_are_3 = refl
+starts_are = (refl, refl, refl, refl)
 
 places_by : (state v : ℕ) (found : List ℕ) → v < 2 ^ 42 → state ≡ after v 1536 →
     starts 0x318cc08f34f 16 v ≡ found →
@@ -246,23 +228,16 @@ abbrev places_in : ℕ → List ℕ
 places_in chip = power_places (after (before 1 686592) chip) (traffic_mask 0x9f1c0a37)
 
 places_0 : places_in 688128 ≡ pairs_by starts_0
-places_0 =
-    places_by (after (before 1 686592) 688128) 1 starts_0 (omega arith) first_state starts_are_0
+places_0 = places_by _ 1 starts_0 (omega arith) first_state starts_are.0
 
 places_1 : places_in 712704 ≡ pairs_by starts_1
-places_1 =
-    places_by (after (before 1 686592) 712704) 2395420971681 starts_1 (omega arith)
-    (state_at 24576 2395420971681 state_1) starts_are_1
+places_1 = places_by _ _ starts_1 (omega arith) (state_at 24576 2395420971681 state_1) starts_are.1
 
 places_2 : places_in 737280 ≡ pairs_by starts_2
-places_2 =
-    places_by (after (before 1 686592) 737280) 1799602966513 starts_2 (omega arith)
-    (state_at 49152 1799602966513 state_2) starts_are_2
+places_2 = places_by _ _ starts_2 (omega arith) (state_at 49152 1799602966513 state_2) starts_are.2
 
 places_3 : places_in 761856 ≡ pairs_by starts_3
-places_3 =
-    places_by (after (before 1 686592) 761856) 1907663947772 starts_3 (omega arith)
-    (state_at 73728 1907663947772 state_3) starts_are_3
+places_3 = places_by _ _ starts_3 (omega arith) (state_at 73728 1907663947772 state_3) starts_are.3
 
 -- ---- frames of each rate
 
@@ -319,22 +294,12 @@ apart2 rate r other = refl
 -- ---- which frames are received
 
 -- what is true of frames 28 to 31
-by_four : (P : ℕ → Type 0) → P 28 → P 29 → P 30 → P 31 → (n : ℕ) → 28 ≤ n → n ≤ 31 → P n
-by_four P a b c d n low high =
-    elim (cases_eq n 28) [
-      | inl is ↦ subst P (sym is) a
-      | inr not_28 ↦
-          elim (cases_eq n 29) [
-            | inl is ↦ subst P (sym is) b
-            | inr not_29 ↦
-                elim (cases_eq n 30) [
-                  | inl is ↦ subst P (sym is) c
-                  | inr not_30 ↦
-                      let is : 31 ≡ n = omega (arith, low, high, not_28, not_29, not_30) in
-                      subst P is d
-                ]
-          ]
-    ]
+by_four : (P : ℕ → Type 0) → P 28 → P 29 → P 30 → P 31 → (k : ℕ) → k < 4 → P (28 + k)
+by_four P a b c d zero low = a
+by_four P a b c d (suc zero) low = b
+by_four P a b c d (suc (suc zero)) low = c
+by_four P a b c d (suc (suc (suc zero))) low = d
+by_four P a b c d (suc (suc (suc (suc k)))) low = absurd (omega (arith, low))
 
 -- is true of those that are received
 received_four : (row : ℕ) (frames : List TrafficFrame) (P : ℕ → Type 0) → P 28 → P 29 → P 30 → P 31 →
@@ -347,7 +312,8 @@ received_four row frames P a b c d n received =
     let begun : 688128 ≤ frame_chip p n = leb-true 688128 (frame_chip p n) both.0 in
     let ends : frame_chip p (n + 1) ≤ 786432 =
     leb-true (frame_chip p (n + 1)) (end_chip distinct_plan) both.1 in
-    by_four P a b c d n (omega (arith, begun, offset)) (omega (arith, ends, offset))
+    let place : 28 + (n - 28) ≡ n = omega (arith, begun, offset) in
+    subst P place (by_four P a b c d (n - 28) (omega (arith, begun, ends, offset)))
 
 -- Of a channel with a frame of each of four rates: what is true of each at the places of its power
 -- control bits is so of those that are received.
@@ -400,15 +366,11 @@ all_four P a b c d is_a is_b is_c is_d =
 
 sized_one : All IsTrafficFrame first_channel.frames
 unfolding binary
-sized_one =
-    all_four IsTrafficFrame (planned SetOne (frame_at R9600)) (planned SetOne (frame_at R4800))
-    (planned SetOne (frame_at R2400)) (planned SetOne (frame_at R1200)) refl refl refl refl
+sized_one = all_four IsTrafficFrame _ _ _ _ refl refl refl refl
 
 sized_two : All IsTrafficFrame second_channel.frames
 unfolding binary
-sized_two =
-    all_four IsTrafficFrame (planned SetTwo (frame2_at R14400)) (planned SetTwo (frame2_at R7200))
-    (planned SetTwo (frame2_at R3600)) (planned SetTwo (frame2_at R1800)) refl refl refl refl
+sized_two = all_four IsTrafficFrame _ _ _ _ refl refl refl refl
 
 channel_lawful : (row : ℕ) (frames : List TrafficFrame) → 8 ≤ row → row ≤ 9 →
     1 ≤ length frames → All IsTrafficFrame frames → IsTrafficPlan (channel_on row frames)
@@ -422,21 +384,14 @@ channel_lawful row frames least most some sized = record {
   sized = sized;
 }
 
-first_lawful : IsTrafficPlan first_channel
-first_lawful =
-    channel_lawful 8 first_channel.frames (omega arith) (omega arith) (omega arith)
-    sized_one
-
-second_lawful : IsTrafficPlan second_channel
-second_lawful =
-    channel_lawful 9 second_channel.frames (omega arith) (omega arith) (omega arith)
-    sized_two
-
 channels_lawful : AreLawfulBeside [] (first_channel ∷ second_channel ∷ [])
 channels_lawful = record {
   few = omega arith;
-  are = All-cons IsTrafficPlan first_channel (second_channel ∷ []) first_lawful
-      (All-cons IsTrafficPlan second_channel [] second_lawful (All-nil IsTrafficPlan));
+  are = All-cons IsTrafficPlan first_channel (second_channel ∷ [])
+      (channel_lawful 8 first_channel.frames (omega arith) (omega arith) (omega arith) sized_one)
+      (All-cons IsTrafficPlan second_channel []
+      (channel_lawful 9 second_channel.frames (omega arith) (omega arith) (omega arith) sized_two)
+      (All-nil IsTrafficPlan));
   apart = (
     All-cons (λ (u : TrafficPlan). u.row ≢ 8) second_channel [] (omega arith)
         (All-nil (λ (u : TrafficPlan). u.row ≢ 8)),

@@ -18,8 +18,7 @@ use Rattle.clean_link.proofs.Common.{filter_ext_places, message_told, messages_o
 use Rattle.clean_link.proofs.Common.{SentMessagesComeBack, HasSign, TrafficFrameHasSigns, IsNotDirected, NoneIsDirected}
 use Rattle.clean_link.proofs.traffic.Signs.{traffic_related, traffic_strong, heard_related, power_pairs, lawful_traffic, same_state}
 use Rattle.clean_link.proofs.traffic.Signs.{signed_power_bits}
-use Rattle.clean_link.proofs.pages.Back.{given_in_order, IsBound}
-use Rattle.clean_link.proofs.sendings.Order.{flat_map-filter, given_where, moved_up}
+use Rattle.clean_link.proofs.sendings.Order.{flat_map-filter, given_in_order, given_where, moved_up, one_each, IsBound}
 use Rattle.clean_link.specs.TrafficLaws.{IsDecodedAs}
 use Rattle.clean_signal.proofs.noise.Near.{signs_turn}
 use Rattle.clean_link.proofs.traffic.Steady.{one_now, one_stream, one_stream_is, traffic_file_from, traffic_file_to, traffic_known_is}
@@ -44,11 +43,6 @@ pub one_there : {A : Type 0} (xs : List A) (j : ℕ) → j < length xs →
 one_there [] j below = absurd (omega (arith, below))
 one_there (x ∷ xs) zero below = (x, refl)
 one_there (x ∷ xs) (suc j) below = one_there xs j (omega (arith, below))
-
--- a list of one thing for each
-pub one_each : {A B : Type 0} (f : A → B) (xs : List A) → map f xs ≡ flat_map (λ x. f x ∷ []) xs
-one_each f [] = refl
-one_each {A} {B} f (x ∷ xs) = ap (λ (ys : List B). f x ∷ ys) (one_each f xs)
 
 -- ---- one frame
 
@@ -208,6 +202,22 @@ module _ {width : Width} {plan : CellPlan} {p : TrafficPlan} {t : Tuning} {traff
       let offset = is.assigned.offset in
       traffic_known_is t traffic m is.tuned.alone k ∙ omega (arith, place, offset)
 
+  -- So what the channel's frames give, number of samples by number of samples, comes in their order.
+  pub in_channel_order : {X : Type 0} (f : ℕ → List X) (g : ℕ → ℕ → List X) (told : ℕ → List X) →
+      ((n : ℕ) → n < t.count + 1 →
+      f n ≡ flat_map (g n) (known_now t.count stream n (frames_bound n))) →
+      ((k : ℕ) → inside k ≡ true → g (known_at t.count stream k) k ≡ told (4 * superframes + k)) →
+      flat_map f (places (plan.link.samples + 1)) ≡ flat_map told (received_frames plan p mark_chip)
+  in_channel_order f g told given each =
+      ap (λ (n : ℕ). flat_map f (places (n + 1))) (sym is.tuned.count)
+      ∙ flat_map_ext_places f (λ n. flat_map (g n) (known_now t.count stream n (frames_bound n)))
+      (t.count + 1) given
+      ∙ given_in_order stream (traffic_timed t traffic m is.tuned.alone) frames_bound
+      (bound_enough t traffic m) g
+      ∙ flat_map_ext_filter_places inside (λ k. g (known_at t.count stream k) k)
+      (λ k. told (4 * superframes + k)) (frames_bound t.count) (λ k below there. each k there)
+      ∙ sym (by_marks_frames told)
+
   -- the power control bits replace the same places
   pub same_places : (k : ℕ) → replaced_of plan p (4 * superframes + k) ≡ replaced_in traffic m k
   same_places k =
@@ -287,20 +297,6 @@ module _ {width : Width} {plan : CellPlan} {p : TrafficPlan} {t : Tuning} {traff
             (λ i most. undirected i (omega (arith, most, below, count))))
             ∙ frames_each n
 
-        -- what is heard, frame by frame
-        heard_by_frames : flat_map (frames_at t traffic m samples) (places (plan.link.samples + 1))
-            ≡ flat_map (λ k. frame_heard t traffic m legs samples (known_at t.count stream k) k ∷ [])
-            (filter inside (places (frames_bound t.count)))
-        heard_by_frames =
-            let f : ℕ → ℕ → List Event = λ n k. frame_heard t traffic m legs samples n k ∷ [] in
-            ap (λ (n : ℕ). flat_map (frames_at t traffic m samples) (places (n + 1)))
-            (sym is.tuned.count)
-            ∙ flat_map_ext_places (frames_at t traffic m samples)
-            (λ n. flat_map (f n) (known_now t.count stream n (frames_bound n))) (t.count + 1)
-            heard_at_once
-            ∙ given_in_order stream (traffic_timed t traffic m is.tuned.alone) frames_bound
-            (bound_enough t traffic m) f
-
         -- so one event is heard for each received frame
         pub each_heard : flat_map (frames_at t traffic m samples) (places (plan.link.samples + 1)) ≡
             map (λ frame. frame_heard t traffic m legs samples (frame_ends plan p frame)
@@ -309,17 +305,14 @@ module _ {width : Width} {plan : CellPlan} {p : TrafficPlan} {t : Tuning} {traff
             let told : ℕ → Event =
             λ frame. frame_heard t traffic m legs samples (frame_ends plan p frame)
             (frame - 4 * superframes) in
-            heard_by_frames
-            ∙ flat_map_ext_filter_places inside
-            (λ k. frame_heard t traffic m legs samples (known_at t.count stream k) k ∷ [])
-            (λ k. told (4 * superframes + k) ∷ []) (frames_bound t.count)
-            (λ k below there.
+            in_channel_order (frames_at t traffic m samples)
+            (λ n k. frame_heard t traffic m legs samples n k ∷ []) (λ frame. told frame ∷ []) heard_at_once
+            (λ k there.
             let behind : k ≡ 4 * superframes + k - 4 * superframes = omega arith in
             ap (λ (n : ℕ). frame_heard t traffic m legs samples n k ∷ []) (known_is k)
             ∙ ap (λ (j : ℕ).
             frame_heard t traffic m legs samples (frame_ends plan p (4 * superframes + k)) j ∷ [])
             behind)
-            ∙ sym (by_marks_frames (λ frame. told frame ∷ []))
             ∙ sym (one_each told (received_frames plan p mark_chip))
 
         -- and where all of them are distinct, what was sent
@@ -328,14 +321,11 @@ module _ {width : Width} {plan : CellPlan} {p : TrafficPlan} {t : Tuning} {traff
             flat_map (frames_at t traffic m samples) (places (plan.link.samples + 1)) ≡
             frames_of_channel plan p mark_chip
         sent_heard shows some distinct =
-            heard_by_frames
-            ∙ flat_map_ext_filter_places inside
-            (λ k. frame_heard t traffic m legs samples (known_at t.count stream k) k ∷ [])
-            (λ k. frame_told plan p (4 * superframes + k)) (frames_bound t.count)
-            (λ k below there.
+            in_channel_order (frames_at t traffic m samples)
+            (λ n k. frame_heard t traffic m legs samples n k ∷ []) (frame_told plan p) heard_at_once
+            (λ k there.
             let (f, frame) = frame_there some k in
             told_is shows k f there frame (distinct_there distinct k f there frame))
-            ∙ sym (by_marks_frames (frame_told plan p))
 
 -- ---- samples whose frames have the sent signs
 
@@ -462,31 +452,15 @@ module _ {width : Width} {plan : CellPlan} {p : TrafficPlan} {t : Tuning} {traff
       (λ (x : SetOneFrame). told ends plan.cell.check16 (signals_received plan p first_chip number)
       (signal_sent x)) (cycled_frame (frames_of plan p) number) f frame)
 
-  -- the messages that are known at a number of samples
-  messages_each : (n : ℕ) → messages_by t traffic m legs samples n
-      ≡ flat_map (message_heard t traffic m legs samples n)
-      (known_now t.count channel n (frames_bound n))
-  unfolding messages_by
-  messages_each n =
-      ap (flat_map (message_heard t traffic m legs samples n)) (one_now t traffic m legs one n)
-
-  -- all of them
+  -- the messages that are known at all numbers of samples
   pub messages_by_one :
       flat_map (messages_by t traffic m legs samples) (places (plan.link.samples + 1))
       ≡ messages_of_channel plan p first_chip
+  unfolding messages_by
   messages_by_one =
       let heard : ℕ → ℕ → List Event = message_heard t traffic m legs samples in
-      ap (λ (n : ℕ). flat_map (messages_by t traffic m legs samples) (places (n + 1)))
-      (sym is.tuned.count)
-      ∙ flat_map_ext_places (messages_by t traffic m legs samples)
-      (λ n. flat_map (heard n) (known_now t.count channel n (frames_bound n))) (t.count + 1)
-      (λ n below. messages_each n)
-      ∙ given_in_order channel (traffic_timed t traffic m is.tuned.alone) frames_bound
-      (bound_enough t traffic m) heard
-      ∙ flat_map_ext_filter_places (is_in_file t.count channel) (λ k. heard (known_at t.count channel k) k)
-      (λ k. message_told plan p first_chip (4 * superframes + k)) (frames_bound t.count)
-      (λ k below there. message_is k there)
-      ∙ sym (by_marks_frames is (message_told plan p first_chip))
+      in_channel_order is (messages_by t traffic m legs samples) heard (message_told plan p first_chip)
+      (λ n below. ap (flat_map (heard n)) (one_now t traffic m legs one n)) (λ k there. message_is k there)
 
   -- as they are heard where no handoff is directed
   pub messages_heard : IsUndirected t traffic m samples plan.link.samples →

@@ -217,65 +217,49 @@ sum_ends a b long long' ends ends' =
     ∙ ap (λ (r : List Bool). add r (drop 184 b)) ends
     ∙ ap (add zeros) ends'
 
+-- ---- the code symbols of bits
+
+-- Something holds of the pair of code symbols of each of some bits, from bit j on, after eight others.
+abbrev pub HoldOfPairs : (ℕ → List Bool → Type 0) → ℕ → List Bool → List Bool → Type 0
+HoldOfPairs P j eight bits = (i : ℕ) → i < length bits → P (j + i) (pair (eight ++ bits) i)
+
+module _ (P : ℕ → List Bool → Type 0) (j : ℕ) (eight : List Bool) (bit : Bool) (bits : List Bool)
+    (long : length eight ≡ 8) (hold : HoldOfPairs P j eight (bit ∷ bits)) where
+  -- it holds of that of the first of them, by nine bits,
+  pub pair_here : P j (pair (eight ++ bit ∷ []) 0)
+  pair_here =
+      let here : j + 0 ≡ j = omega arith in
+      subst (P j) (before eight (bit ∷ []) bits 0 long (omega arith))
+      (subst (λ (n : ℕ). P n (pair (eight ++ (bit ∷ bits)) 0)) here (hold 0 (omega arith)))
+
+  -- and of the others
+  pub pairs_next : HoldOfPairs P (j + 1) (state_after eight (bit ∷ [])) bits
+  pairs_next i below =
+      let place : j + (1 + i) ≡ j + 1 + i = omega arith in
+      subst (P (j + 1 + i)) (behind eight (bit ∷ []) bits i long)
+      (subst (λ (n : ℕ). P n (pair (eight ++ (bit ∷ bits)) (1 + i))) place
+      (hold (1 + i) (omega (arith, below))))
+
 -- ---- hidden bits
 
--- bits after eight others, from bit j on, whose kept symbols are 0
-pub record AreHidden (lost : List ℕ) (j : ℕ) (eight bits : List Bool) : Type 0 where
-  pub first : (i : ℕ) → i < length bits → is_kept lost (2 * (j + i)) ≡ true →
-      symbol g0 (eight ++ bits) i ≡ false
-  pub second : (i : ℕ) → i < length bits → is_kept lost (2 * (j + i) + 1) ≡ true →
-      symbol g1 (eight ++ bits) i ≡ false
-
--- equal pairs have equal first symbols,
-pub first_of : (x y : List Bool) (i j : ℕ) → pair x i ≡ pair y j → symbol g0 x i ≡ symbol g0 y j
-first_of x y i j same = ap (λ (r : List Bool). get_or r 0 false) same
-
--- and equal second ones
-pub second_of : (x y : List Bool) (i j : ℕ) → pair x i ≡ pair y j → symbol g1 x i ≡ symbol g1 y j
-second_of x y i j same = ap (λ (r : List Bool). get_or r 1 false) same
+-- the kept ones of two code symbols are 0
+abbrev HidesPair : List ℕ → ℕ → List Bool → Type 0
+HidesPair lost j two =
+    (is_kept lost (2 * j) ≡ true → get_or two 0 false ≡ false)
+    × (is_kept lost (2 * j + 1) ≡ true → get_or two 1 false ≡ false)
 
 -- a symbol that is 0 if it is kept
 hidden_where : (kept sent : Bool) → (kept ≡ true → sent ≡ false) → not (kept && sent) ≡ true
 hidden_where true sent h = let none = h refl in rw none refl
 hidden_where false sent h = refl
 
--- the first of them,
-hidden_here : (lost : List ℕ) (j : ℕ) (eight : List Bool) (bit : Bool) (bits : List Bool) →
-    length eight ≡ 8 → AreHidden lost j eight (bit ∷ bits) →
-    is_hidden lost j (eight ++ bit ∷ []) ≡ true
-hidden_here lost j eight bit bits long are =
-    let same : pair (eight ++ (bit ∷ bits)) 0 ≡ pair (eight ++ bit ∷ []) 0 =
-    before eight (bit ∷ []) bits 0 long (omega arith) in
-    let here : j ≡ j + 0 = omega arith in
-    let some : 0 < length (bit ∷ bits) = omega arith in
-    and_from (not (is_kept lost (2 * j) && symbol g0 (eight ++ bit ∷ []) 0))
-    (not (is_kept lost (2 * j + 1) && symbol g1 (eight ++ bit ∷ []) 0))
-    (hidden_where (is_kept lost (2 * j)) (symbol g0 (eight ++ bit ∷ []) 0)
-    (λ kept. sym (first_of (eight ++ (bit ∷ bits)) (eight ++ bit ∷ []) 0 0 same) ∙
-    are.first 0 some (ap (λ (n : ℕ). is_kept lost (2 * n)) (sym here) ∙ kept)))
-    (hidden_where (is_kept lost (2 * j + 1)) (symbol g1 (eight ++ bit ∷ []) 0)
-    (λ kept. sym (second_of (eight ++ (bit ∷ bits)) (eight ++ bit ∷ []) 0 0 same) ∙
-    are.second 0 some (ap (λ (n : ℕ). is_kept lost (2 * n + 1)) (sym here) ∙ kept)))
-
--- and the others
-hidden_next : (lost : List ℕ) (j : ℕ) (eight : List Bool) (bit : Bool) (bits : List Bool) →
-    length eight ≡ 8 → AreHidden lost j eight (bit ∷ bits) →
-    AreHidden lost (j + 1) (state_after eight (bit ∷ [])) bits
-hidden_next lost j eight bit bits long are =
-    let next = state_after eight (bit ∷ []) in
-    let place : (i : ℕ) → j + (1 + i) ≡ j + 1 + i = λ i. omega arith in
-    let same : (i : ℕ) → pair (eight ++ (bit ∷ bits)) (1 + i) ≡ pair (next ++ bits) i =
-    λ i. behind eight (bit ∷ []) bits i long in
-    record {
-      first = λ i below kept.
-          sym (first_of (eight ++ (bit ∷ bits)) (next ++ bits) (1 + i) i (same i))
-          ∙ are.first (1 + i) (omega (arith, below))
-          (ap (λ (n : ℕ). is_kept lost (2 * n)) (place i) ∙ kept);
-      second = λ i below kept.
-          sym (second_of (eight ++ (bit ∷ bits)) (next ++ bits) (1 + i) i (same i))
-          ∙ are.second (1 + i) (omega (arith, below))
-          (ap (λ (n : ℕ). is_kept lost (2 * n + 1)) (place i) ∙ kept);
-    }
+hidden_here : (lost : List ℕ) (j : ℕ) (nine : List Bool) → HidesPair lost j (pair nine 0) →
+    is_hidden lost j nine ≡ true
+hidden_here lost j nine hides =
+    and_from (not (is_kept lost (2 * j) && symbol g0 nine 0))
+    (not (is_kept lost (2 * j + 1) && symbol g1 nine 0))
+    (hidden_where (is_kept lost (2 * j)) (symbol g0 nine 0) hides.0)
+    (hidden_where (is_kept lost (2 * j + 1)) (symbol g1 nine 0) hides.1)
 
 -- the next eight bits are eight
 pub next_long : (eight : List Bool) (bit : Bool) → length eight ≡ 8 →
@@ -302,7 +286,7 @@ left_over false apart h is = cc
 
 -- bits that stay apart, all of them hidden, don't end in zeros
 apart_ends : (lost : List ℕ) (n j : ℕ) (eight bits : List Bool) → length eight ≡ 8 →
-    length bits ≡ n → stays_apart lost n j eight ≡ true → AreHidden lost j eight bits →
+    length bits ≡ n → stays_apart lost n j eight ≡ true → HoldOfPairs (HidesPair lost) j eight bits →
     list_any (λ bit. bit) (state_after eight bits) ≡ true
 unfolding stays_apart
 apart_ends lost zero j eight [] long size apart are =
@@ -319,22 +303,22 @@ apart_ends lost (suc n) j eight (bit ∷ bits) long size apart are =
     let goes : on bit ≡ true = either_bit on bit both.0 (and_parts (on true) true both.1).0 in
     let rest : stays_apart lost n (j + 1) (state_after eight (bit ∷ [])) ≡ true =
     left_over (is_hidden lost j (nine bit)) (goes_on (nine bit)) goes
-    (hidden_here lost j eight bit bits long are) in
+    (hidden_here lost j (eight ++ bit ∷ []) (pair_here (HidesPair lost) j eight bit bits long are)) in
     ap (list_any (λ b. b)) (state_after-append eight (bit ∷ []) bits)
     ∙ apart_ends lost n (j + 1) (state_after eight (bit ∷ [])) bits (next_long eight bit long)
-    (omega (arith, size)) rest (hidden_next lost j eight bit bits long are)
+    (omega (arith, size)) rest (pairs_next (HidesPair lost) j eight bit bits long are)
 
 -- so hidden bits after zeros that end in zeros are zeros
 pub hidden_none : (lost : List ℕ) (j : ℕ) (bits : List Bool) → j + length bits ≡ 192 →
     ((i : ℕ) → i < 192 → is_seen lost i ≡ true) →
-    AreHidden lost j (replicate 8 false) bits →
+    HoldOfPairs (HidesPair lost) j (replicate 8 false) bits →
     state_after (replicate 8 false) bits ≡ replicate 8 false → bits ≡ replicate (length bits) false
 hidden_none lost j [] all seen are ends = refl
 hidden_none lost j (false ∷ bits) all seen are ends =
     let zeros = replicate 8 false in
     let rest : bits ≡ replicate (length bits) false =
     hidden_none lost (j + 1) bits (omega (arith, all)) seen
-    (hidden_next lost j zeros false bits refl are)
+    (pairs_next (HidesPair lost) j zeros false bits refl are)
     (sym (state_after-append zeros (false ∷ []) bits) ∙ ends) in
     ap (λ (r : List Bool). false ∷ r) rest
 hidden_none lost j (true ∷ bits) all seen are ends =
@@ -348,10 +332,10 @@ hidden_none lost j (true ∷ bits) all seen are ends =
     sym (all_kept goes_on (is_hidden lost j) (nine ∷ [])) ∙ seen j (omega (arith, all)) in
     let apart : stays_apart lost (191 - j) (j + 1) one ≡ true =
     left_over (is_hidden lost j nine) (goes_on nine) (and_parts on true first).0
-    (hidden_here lost j zeros true bits refl are) in
+    (hidden_here lost j (zeros ++ true ∷ []) (pair_here (HidesPair lost) j zeros true bits refl are)) in
     let some : list_any (λ bit. bit) (state_after one bits) ≡ true =
     apart_ends lost (191 - j) (j + 1) one bits refl left apart
-    (hidden_next lost j zeros true bits refl are) in
+    (pairs_next (HidesPair lost) j zeros true bits refl are) in
     let none : list_any (λ bit. bit) (state_after one bits) ≡ false =
     ap (list_any (λ bit. bit)) (sym (state_after-append zeros (true ∷ []) bits) ∙ ends) in
     absurd (cc)
@@ -382,7 +366,7 @@ sum_hidden : (replaced : List ℕ) (bits bits' : List Bool) → length bits ≡ 
     length bits' ≡ 192 →
     AgreeElsewhere replaced (sent data_shape 1 (code_symbols (replicate 8 false) bits))
     (sent data_shape 1 (code_symbols (replicate 8 false) bits')) →
-    AreHidden (lost_symbols replaced) 0 (replicate 8 false) (add bits bits')
+    HoldOfPairs (HidesPair (lost_symbols replaced)) 0 (replicate 8 false) (add bits bits')
 sum_hidden replaced bits bits' long long' agree =
     let zeros = replicate 8 false in
     let x = zeros ++ bits in
@@ -397,18 +381,15 @@ sum_hidden replaced bits bits' long long' agree =
     λ i below. symbols_at zeros bits i (omega (arith, below, size, long)) in
     let at_y : (i : ℕ) → i < length sum → AreAt ys i (symbol g0 y i) (symbol g1 y i) =
     λ i below. symbols_at zeros bits' i (omega (arith, below, size, long')) in
-    record {
-      first = λ i below kept.
-          let here : 0 + i ≡ i = omega arith in
-          let same = kept_same replaced xs ys (2 * i) (omega (arith, below, size))
-          (rw here at kept) agree in
-          sum_is_none g0 x y i both (sym (at_x i below).even ∙ same ∙ (at_y i below).even);
-      second = λ i below kept.
-          let here : 0 + i ≡ i = omega arith in
-          let same = kept_same replaced xs ys (2 * i + 1) (omega (arith, below, size))
-          (rw here at kept) agree in
-          sum_is_none g1 x y i both (sym (at_x i below).odd ∙ same ∙ (at_y i below).odd);
-    }
+    λ i below.
+    let here : 0 + i ≡ i = omega arith in (
+      λ kept.
+          let same = kept_same replaced xs ys (2 * i) (omega (arith, below, size)) (rw here at kept) agree in
+          sum_is_none g0 x y i both (sym (at_x i below).even ∙ same ∙ (at_y i below).even),
+      λ kept.
+          let same = kept_same replaced xs ys (2 * i + 1) (omega (arith, below, size)) (rw here at kept) agree in
+          sum_is_none g1 x y i both (sym (at_x i below).odd ∙ same ∙ (at_y i below).odd),
+    )
 
 -- so two such codewords are the same
 bits_agree : (replaced : List ℕ) (bits bits' : List Bool) → length bits ≡ 192 →

@@ -4,19 +4,19 @@ use Rattle.clean_link.proofs.Common.{List, [], ◌∷◌, length, map, filter, r
 use Rattle.clean_link.proofs.Common.{Option, Some, Contains, and_from, cases_Bool, le-leb, places, Sample, filter_ext_places}
 use Rattle.clean_link.proofs.Common.{flat_map_ext_filter_places, Width, traffic_mask, Data, made_samples, IsTrafficFrame, SetTwo, planned}
 use Rattle.clean_link.proofs.Common.{two_in_turn, frames_of, set_two, IsSetTwoFrame, CellPlan, TrafficPlan, SetTwoFrame, traffic_channel}
-use Rattle.clean_link.proofs.Common.{mark, frames_within, soft_frame, soft_frames, raw_at, is_in_file, known_at, known_by, Stream}
-use Rattle.clean_link.proofs.Common.{frames_bound, replaced_in, Tuning, Mark, Traffic, PowerControl, SoftFrame, soft_strength, IsOnPath}
-use Rattle.clean_link.proofs.Common.{IsReceivable, is_received, received_frames, replaced_of, sent_bits, IsAssigned, SendsSetTwo}
-use Rattle.clean_link.proofs.Common.{SendsSymbols, ShowFrame, ShowPowerBits, cycled_frame2, codeword_symbols2, EachFrameIsReceived}
-use Rattle.clean_link.proofs.Common.{FramesBehindMark, FramesShowPowerBits, FramesShowSymbols, SetTwoBehindMark, HearsSentTraffic}
-use Rattle.clean_link.proofs.Common.{SetTwoFramesComeBack, IsReceivedBySigns, AreReceivedFrom, MarkIsAt, TrafficFrameHasSigns}
-use Rattle.clean_link.proofs.Common.{HavePowerSigns, NoisyFrame, IsReceived, ◌<ℤ◌, correlation, AgreeElsewhere, unreplaced, frame_softs}
-use Rattle.clean_link.proofs.Common.{stream_of, HeardAreTheOnlyBest, ReceivedAreTheOnlyBest, SetTwoAreTheOnlyBest, by_lt_z, KeepSigns}
-use Rattle.clean_link.proofs.Common.{agree_left}
+use Rattle.clean_link.proofs.Common.{frames_within, soft_frame, soft_frames, raw_at, is_in_file, known_at, known_by, Stream, frames_bound}
+use Rattle.clean_link.proofs.Common.{replaced_in, Tuning, Mark, Traffic, PowerControl, SoftFrame, soft_strength, IsOnPath, IsReceivable}
+use Rattle.clean_link.proofs.Common.{is_received, received_frames, replaced_of, sent_bits, IsAssigned, SendsSetTwo, SendsSymbols, ShowFrame}
+use Rattle.clean_link.proofs.Common.{ShowPowerBits, cycled_frame2, codeword_symbols2, EachFrameIsReceived, FramesBehindMark}
+use Rattle.clean_link.proofs.Common.{FramesShowPowerBits, FramesShowSymbols, SetTwoBehindMark, HearsSentTraffic, SetTwoFramesComeBack}
+use Rattle.clean_link.proofs.Common.{IsReceivedBySigns, AreReceivedFrom, MarkIsAt, TrafficFrameHasSigns, HavePowerSigns, NoisyFrame}
+use Rattle.clean_link.proofs.Common.{IsReceived, ◌<ℤ◌, correlation, AgreeElsewhere, unreplaced, frame_softs, stream_of, HeardAreTheOnlyBest}
+use Rattle.clean_link.proofs.Common.{ReceivedAreTheOnlyBest, SetTwoAreTheOnlyBest, by_lt_z, KeepSigns, agree_left}
 use Rattle.clean_link.proofs.traffic.Signs.{clean_sent, traffic_shows, heard_power_bits, power_pairs, frame_powered, frame_shown}
 use Rattle.clean_link.proofs.traffic.Signs.{lawful_traffic, signed_powered, signed_shown, set_two_sends}
 use Rattle.cell_plan.specs.TrafficFrames.{sent_frame_state}
-use Rattle.clean_link.proofs.traffic.Frames.{by_marks_frames, inside_at, known_is, one_each, one_taken, one_there, same_places, sized}
+use Rattle.clean_link.proofs.traffic.Frames.{by_marks_frames, inside_at, known_is, one_taken, one_there, same_places, sized}
+use Rattle.clean_link.proofs.sendings.Order.{one_each}
 use Rattle.clean_link.proofs.traffic.Steady.{one_stream, traffic_file_to, traffic_known_is}
 use Rattle.clean_link.specs.TrafficLaws.{IsOnlyBestIn}
 use Rattle.frame_decoder.proofs.FormatCodewords.{length-symbols_in}

@@ -1,72 +1,30 @@
 -- Frames of both rate sets are distinct where no other codeword shares their symbols.
 use Rattle.clean_link.proofs.Common.{◌≡◌, ℕ, ◌+◌, ◌-◌, ◌*◌, ◌/◌, ◌<◌, ◌≤◌, ◌⊎◌, Bool, true, false, not, List, [], ◌∷◌, ◌++◌, length, get_or}
-use Rattle.clean_link.proofs.Common.{drop, replicate, refl, sym, ap, ◌∙◌, arith, subst, inl, inr, ◌≢◌, list_any, and_parts}
-use Rattle.clean_link.proofs.Common.{not-true, drop_at, drop-drop, code_symbols}
-use Rattle.clean_link.proofs.Common.{state_after, repeats_of, traffic_codeword, Rate, R9600, R4800, R2400, R1200, address, data_shape, sent_by}
-use Rattle.clean_link.proofs.Common.{codeword_bits, is_dropped, repeated_symbol, Rate2, R14400, R7200, R3600, R1800, kept_once}
-use Rattle.clean_link.proofs.Common.{IsAllowed, Codeword, Zero, codewords_same, frame_codeword, AgreeElsewhere, frame_bits}
-use Rattle.clean_link.proofs.Common.{is_kept, lost_symbols, is_known2, lost_symbols2, symbols_known_of}
-use Rattle.clean_link.proofs.Common.{codewords_giving, AreDistinctBySharing, AreDistinctBySharing2, bits_least, zero, suc, ◌&&◌, ◌||◌, map}
-use Rattle.clean_link.proofs.Common.{filter, if◌then◌else◌, flat_map, list_all, range_with_len, booleans_Decides, pointwise}
-use Rattle.clean_link.proofs.Common.{pointwise_decides, beq, and_from, list_all-append, list_all-map, g0, g1, symbol, before, behind, pair}
-use Rattle.clean_link.proofs.Common.{state_after-append, state_after-none, symbols_at, gives}
-use Rattle.clean_link.proofs.traffic.HiddenCodewords.{IsThere, kept_there, known_agree, symbol_there, all_kept, either_bit, first_of, left_over, next_long, second_of}
+use Rattle.clean_link.proofs.Common.{drop, replicate, refl, sym, ap, ◌∙◌, arith, subst, inl, inr, ◌≢◌, list_any, and_parts, not-true}
+use Rattle.clean_link.proofs.Common.{drop_at, drop-drop, code_symbols, state_after, repeats_of, traffic_codeword, Rate, R9600, R4800, R2400}
+use Rattle.clean_link.proofs.Common.{R1200, address, data_shape, sent_by, codeword_bits, is_dropped, repeated_symbol, Rate2, R14400, R7200}
+use Rattle.clean_link.proofs.Common.{R3600, R1800, kept_once, IsAllowed, Codeword, Zero, codewords_same, frame_codeword, AgreeElsewhere}
+use Rattle.clean_link.proofs.Common.{frame_bits, is_kept, lost_symbols, is_known2, lost_symbols2, symbols_known_of, codewords_giving}
+use Rattle.clean_link.proofs.Common.{AreDistinctBySharing, AreDistinctBySharing2, bits_least, zero, suc, ◌&&◌, ◌||◌, map, filter}
+use Rattle.clean_link.proofs.Common.{if◌then◌else◌, flat_map, list_all, range_with_len, booleans_Decides, pointwise, pointwise_decides, beq}
+use Rattle.clean_link.proofs.Common.{and_from, list_all-append, list_all-map, g0, g1, symbol, state_after-append, state_after-none}
+use Rattle.clean_link.proofs.Common.{symbols_at, gives}
+use Rattle.clean_link.proofs.traffic.HiddenCodewords.{HoldOfPairs, IsThere, kept_there, known_agree, symbol_there, all_kept, either_bit}
+use Rattle.clean_link.proofs.traffic.HiddenCodewords.{left_over, next_long, pair_here, pairs_next}
 use Rattle.symbol_path.specs.RatesTwo as rates_two
 use Rattle.rate_set_two.specs.TrafficFrames as frames_two
 
 -- ---- codewords that give what is shown
 
+-- two code symbols give what is shown of them
+abbrev GivesPair : (ℕ → List Bool) → ℕ → List Bool → Type 0
+GivesPair shown j two =
+    (list_all (beq (get_or two 0 false)) (shown (2 * j)) ≡ true)
+    × (list_all (beq (get_or two 1 false)) (shown (2 * j + 1)) ≡ true)
+
 -- bits after eight others, from bit j on, that give what is shown of their code symbols
-pub record AreGiving (shown : ℕ → List Bool) (j : ℕ) (eight bits : List Bool) : Type 0 where
-  pub first : (i : ℕ) → i < length bits →
-      list_all (beq (symbol g0 (eight ++ bits) i)) (shown (2 * (j + i))) ≡ true
-  pub second : (i : ℕ) → i < length bits →
-      list_all (beq (symbol g1 (eight ++ bits) i)) (shown (2 * (j + i) + 1)) ≡ true
-
--- the first of them gives it,
-giving_here : (shown : ℕ → List Bool) (j : ℕ) (eight : List Bool) (bit : Bool) (bits : List Bool) →
-    length eight ≡ 8 → AreGiving shown j eight (bit ∷ bits) →
-    gives shown j (eight ++ bit ∷ []) ≡ true
-giving_here shown j eight bit bits long are =
-    let nine = eight ++ bit ∷ [] in
-    let same : pair (eight ++ (bit ∷ bits)) 0 ≡ pair nine 0 =
-    before eight (bit ∷ []) bits 0 long (omega arith) in
-    let here : j + 0 ≡ j = omega arith in
-    let some : 0 < length (bit ∷ bits) = omega arith in
-    and_from (list_all (beq (symbol g0 nine 0)) (shown (2 * j)))
-    (list_all (beq (symbol g1 nine 0)) (shown (2 * j + 1)))
-    (ap (λ (b : Bool). list_all (beq b) (shown (2 * j)))
-    (sym (first_of (eight ++ (bit ∷ bits)) nine 0 0 same))
-    ∙ ap (λ (n : ℕ). list_all (beq (symbol g0 (eight ++ (bit ∷ bits)) 0)) (shown (2 * n))) (sym here)
-    ∙ are.first 0 some)
-    (ap (λ (b : Bool). list_all (beq b) (shown (2 * j + 1)))
-    (sym (second_of (eight ++ (bit ∷ bits)) nine 0 0 same))
-    ∙ ap (λ (n : ℕ). list_all (beq (symbol g1 (eight ++ (bit ∷ bits)) 0)) (shown (2 * n + 1)))
-    (sym here)
-    ∙ are.second 0 some)
-
--- and so do the others
-giving_next : (shown : ℕ → List Bool) (j : ℕ) (eight : List Bool) (bit : Bool) (bits : List Bool) →
-    length eight ≡ 8 → AreGiving shown j eight (bit ∷ bits) →
-    AreGiving shown (j + 1) (state_after eight (bit ∷ [])) bits
-giving_next shown j eight bit bits long are =
-    let next = state_after eight (bit ∷ []) in
-    let all = eight ++ (bit ∷ bits) in
-    let place : (i : ℕ) → j + 1 + i ≡ j + (1 + i) = λ i. omega arith in
-    let same : (i : ℕ) → pair all (1 + i) ≡ pair (next ++ bits) i =
-    λ i. behind eight (bit ∷ []) bits i long in
-    record {
-      first = λ i below.
-          ap (λ (b : Bool). list_all (beq b) (shown (2 * (j + 1 + i))))
-          (sym (first_of all (next ++ bits) (1 + i) i (same i)))
-          ∙ ap (λ (n : ℕ). list_all (beq (symbol g0 all (1 + i))) (shown (2 * n))) (place i)
-          ∙ are.first (1 + i) (omega (arith, below));
-      second = λ i below.
-          ap (λ (b : Bool). list_all (beq b) (shown (2 * (j + 1 + i) + 1)))
-          (sym (second_of all (next ++ bits) (1 + i) i (same i)))
-          ∙ ap (λ (n : ℕ). list_all (beq (symbol g1 all (1 + i))) (shown (2 * n + 1))) (place i)
-          ∙ are.second (1 + i) (omega (arith, below));
-    }
+abbrev AreGiving : (ℕ → List Bool) → ℕ → List Bool → List Bool → Type 0
+AreGiving shown = HoldOfPairs (GivesPair shown)
 
 -- what is true of all elements of joined lists
 all_joined : {X Y : Type 0} (p : Y → Bool) (f : X → List Y) (xs : List X) →
@@ -112,17 +70,19 @@ given_all shown p (suc n) j eight (bit ∷ bits) long size ends are all =
     ∙ sym (all_joined p (λ (x : List Bool). map (put x) (rest x))
     (filter (gives shown j) (nine false ∷ nine true ∷ []))) ∙ all in
     let both = and_parts (on false) (on true && true) each in
+    let here_gives = pair_here (GivesPair shown) j eight bit bits long are in
     let here : of_nine (nine bit) ≡ true =
     left_over (gives shown j (nine bit)) (of_nine (nine bit))
     (either_bit on bit both.0 (and_parts (on true) true both.1).0)
-    (giving_here shown j eight bit bits long are) in
+    (and_from (list_all (beq (symbol g0 (nine bit) 0)) (shown (2 * j)))
+    (list_all (beq (symbol g1 (nine bit) 0)) (shown (2 * j + 1))) here_gives.0 here_gives.1) in
     let behind_it : list_all (λ codeword. p (put (nine bit) codeword)) (rest (nine bit)) ≡ true =
     sym (list_all-map p (put (nine bit)) (rest (nine bit))) ∙ here in
     sym (ap (λ (b : Bool). p (b ∷ bits)) (ninth eight bit long))
     ∙ given_all shown (λ codeword. p (put (nine bit) codeword)) n (j + 1) (state_after eight (bit ∷ [])) bits
     (next_long eight bit long) (omega (arith, size))
     (ap (list_any (λ b. b)) (sym (state_after-append eight (bit ∷ []) bits)) ∙ ends)
-    (giving_next shown j eight bit bits long are) behind_it
+    (pairs_next (GivesPair shown) j eight bit bits long are) behind_it
 
 -- so where there is one codeword, they are that one,
 pub given_one : (shown : ℕ → List Bool) (n j : ℕ) (eight bits codeword : List Bool) →
@@ -186,24 +146,16 @@ agreeing_give known xs r s n all bits size copies agree =
     (λ k least most is.
     let copy = copies c k low least most in
     agree k copy.0 is ∙ ap (λ (j : ℕ). get_or ys j false) copy.1) in
-    record {
-      first = λ i below.
-          let at = symbols_at zeros bits i below in
-          let place : 2 * (0 + i) ≡ 2 * i = omega arith in
-          ap (λ (b : Bool). list_all (beq b)
-          (map f (filter known (range_with_len (s * (2 * (0 + i))) s)))) (sym at.even)
-          ∙ ap (λ (c : ℕ). list_all (beq (get_or ys (2 * i) false))
-          (map f (filter known (range_with_len (s * c) s)))) place
-          ∙ shows (2 * i) (omega (arith, below, size));
-      second = λ i below.
-          let at = symbols_at zeros bits i below in
-          let place : 2 * (0 + i) + 1 ≡ 2 * i + 1 = omega arith in
-          ap (λ (b : Bool). list_all (beq b)
-          (map f (filter known (range_with_len (s * (2 * (0 + i) + 1)) s)))) (sym at.odd)
-          ∙ ap (λ (c : ℕ). list_all (beq (get_or ys (2 * i + 1) false))
-          (map f (filter known (range_with_len (s * c) s)))) place
-          ∙ shows (2 * i + 1) (omega (arith, below, size));
-    }
+    λ i below.
+    let at = symbols_at zeros bits i below in
+    let shown_at : (b : Bool) (c d : ℕ) → get_or ys c false ≡ b → d ≡ c → c < 2 * n →
+    list_all (beq b) (map f (filter known (range_with_len (s * d) s))) ≡ true = λ b c d is place low.
+    ap (λ (x : Bool). list_all (beq x) (map f (filter known (range_with_len (s * d) s)))) (sym is)
+    ∙ ap (λ (m : ℕ). list_all (beq (get_or ys c false)) (map f (filter known (range_with_len (s * m) s)))) place
+    ∙ shows c low in (
+      shown_at _ (2 * i) _ at.even (omega arith) (omega (arith, below, size)),
+      shown_at _ (2 * i + 1) _ at.odd (omega arith) (omega (arith, below, size)),
+    )
 
 -- ---- codewords that end in zeros
 

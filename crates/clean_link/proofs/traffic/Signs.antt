@@ -20,10 +20,9 @@ use Rattle.chip_core.proofs.Finds.{nat_eq-flipped}
 use Rattle.clean_signal.proofs.signal.CarriersApart.{plan_apart, traffic_sent}
 use Rattle.clean_signal.proofs.frames.ChannelSigns.{strength_some}
 use Rattle.clean_link.proofs.frames.ChannelFrames.{length-scrambling, fingers_are, near_frame}
-use Rattle.clean_signal.proofs.frames.Heard.{FrameRelates}
 use Rattle.clean_signal.proofs.signal.Frames.{clean_relates}
 use Rattle.clean_link.proofs.traffic.Steady.{one_fingers, one_stream, one_stream_is, traffic_file_to, one_sums}
-use Rattle.clean_signal.proofs.noise.Near.{none_borne, near-self, IsSigned, Relates, Turns, signed_turn, signs_turn}
+use Rattle.clean_signal.proofs.noise.Near.{none_borne, near-self, FrameRelates, IsSigned, Turns, signed_turn, signs_turn}
 use Rattle.symbol_path.specs.FramesTwo as second
 use Rattle.cell_plan.specs.PageCycles as cycles
 use Rattle.cell_plan.specs.TrafficFrames as sends
@@ -206,8 +205,8 @@ module _ {width : Width} {plan : CellPlan} {p : TrafficPlan} {t : Tuning} {traff
   traffic_strong = strength_some width plan Data p.gain is.receivable gain_some
 
   -- what they are to its symbols on a clean link, and through noise that it bears
-  traffic_clean : Relates (IsSigned (soft_strength plan Data p.gain)) plan (traffic_carrier plan p) Data
-      (made_samples plan)
+  traffic_clean : (frame : ℕ) → FrameRelates (IsSigned (soft_strength plan Data p.gain)) plan
+      (traffic_carrier plan p) Data (made_samples plan) frame
   traffic_clean =
       clean_relates plan (traffic_carrier plan p) Data is.receivable.lawful.pn
       (plan_apart width plan is.receivable.lawful) (traffic_sent plan p is.sent)
@@ -305,21 +304,17 @@ module _ {width : Width} {plan : CellPlan} {p : TrafficPlan} {t : Tuning} {traff
 
   -- ---- of a clean link, and of samples in which the frame has the sent signs
 
-  clean_frame : FrameRelates (IsSigned (soft_strength plan Data p.gain)) plan (traffic_carrier plan p)
-      Data (made_samples plan) (4 * superframes + k)
-  clean_frame u = traffic_clean is u (4 * superframes + k)
-
   pub frame_shown : ShowFrame (replaced_in traffic m k) (soft_strength plan Data p.gain) symbols
       (frame_softs (made_samples plan) (one_stream t traffic m) k)
   frame_shown = record {
     strong = traffic_strong is;
-    long = frame_long _ (signed_turn _) (made_samples plan) clean_frame;
-    shows = frame_kept _ (signed_turn _) (made_samples plan) clean_frame;
+    long = frame_long _ (signed_turn _) (made_samples plan) (traffic_clean is (4 * superframes + k));
+    shows = frame_kept _ (signed_turn _) (made_samples plan) (traffic_clean is (4 * superframes + k));
   }
 
   pub frame_powered : ShowPowerBits (replaced_in traffic m k) (soft_strength plan Data p.gain)
       power_bits (softs (made_samples plan) (fingers_of traffic.row t.phase t.deltas) Data u)
-  frame_powered = frame_power _ (signed_turn _) (made_samples plan) clean_frame
+  frame_powered = frame_power _ (signed_turn _) (made_samples plan) (traffic_clean is (4 * superframes + k))
 
   module _ (samples : List Sample)
       (signs : TrafficFrameHasSigns plan p samples (4 * superframes + k)) where
@@ -384,7 +379,7 @@ pub traffic_related : {width : Width} {plan : CellPlan} {p : TrafficPlan} {t : T
 traffic_related {plan = plan} {p} {superframes = superframes} {k} is heard =
     let strength = soft_strength plan Data p.gain in
     heard_related is heard (IsSigned strength) (signed_turn strength) (made_samples plan)
-    (λ u. traffic_clean is u (4 * superframes + k))
+    (traffic_clean is (4 * superframes + k))
 
 pub traffic_signs : TrafficHaveSentSigns
 traffic_signs width plan p t traffic m legs superframes k f is heard =
@@ -403,28 +398,21 @@ length-pairs f a zero = refl
 length-pairs f a (suc n) =
     let rest = length-pairs f (a + 1) n in omega (arith, rest)
 
-first_of_pair : (f : ℕ → ℕ) (a n g : ℕ) → g < n →
-    get_or (flat_map (λ g. f g ∷ (f g + 1) ∷ []) (range_with_len a n)) (2 * g) 0 ≡ f (a + g)
-first_of_pair f a zero g below = absurd (omega (arith, below))
-first_of_pair f a (suc n) zero below = ap f (omega arith)
-first_of_pair f a (suc n) (suc g) below =
+pair_of : (f : ℕ → ℕ) (a n g : ℕ) → g < n →
+    let pairs = flat_map (λ g. f g ∷ (f g + 1) ∷ []) (range_with_len a n) in
+    (get_or pairs (2 * g) 0 ≡ f (a + g)) × (get_or pairs (2 * g + 1) 0 ≡ f (a + g) + 1)
+pair_of f a zero g below = absurd (omega (arith, below))
+pair_of f a (suc n) zero below =
+    let first : a ≡ a + 0 = omega arith in (ap f first, ap (λ (k : ℕ). f k + 1) first)
+pair_of f a (suc n) (suc g) below =
     let pairs = flat_map (λ g. f g ∷ (f g + 1) ∷ []) (range_with_len a (suc n)) in
-    let place : 2 * suc g ≡ suc (suc (2 * g)) = omega arith in
-    let turned : a + 1 + g ≡ a + suc g = omega arith in
-    ap (λ (k : ℕ). get_or pairs k 0) place
-    ∙ first_of_pair f (a + 1) n g (omega (arith, below)) ∙ ap f turned
-
-second_of_pair : (f : ℕ → ℕ) (a n g : ℕ) → g < n →
-    get_or (flat_map (λ g. f g ∷ (f g + 1) ∷ []) (range_with_len a n)) (2 * g + 1) 0
-    ≡ f (a + g) + 1
-second_of_pair f a zero g below = absurd (omega (arith, below))
-second_of_pair f a (suc n) zero below = ap (λ (k : ℕ). f k + 1) (omega arith)
-second_of_pair f a (suc n) (suc g) below =
-    let pairs = flat_map (λ g. f g ∷ (f g + 1) ∷ []) (range_with_len a (suc n)) in
-    let place : 2 * suc g + 1 ≡ suc (suc (2 * g + 1)) = omega arith in
-    let turned : a + 1 + g ≡ a + suc g = omega arith in
-    ap (λ (k : ℕ). get_or pairs k 0) place
-    ∙ second_of_pair f (a + 1) n g (omega (arith, below)) ∙ ap (λ (k : ℕ). f k + 1) turned
+    let rest = pair_of f (a + 1) n g (omega (arith, below)) in
+    let first : 2 * suc g ≡ suc (suc (2 * g)) = omega arith in
+    let second : 2 * suc g + 1 ≡ suc (suc (2 * g + 1)) = omega arith in
+    let turned : a + 1 + g ≡ a + suc g = omega arith in (
+      ap (λ (k : ℕ). get_or pairs k 0) first ∙ rest.0 ∙ ap f turned,
+      ap (λ (k : ℕ). get_or pairs k 0) second ∙ rest.1 ∙ ap (λ (k : ℕ). f k + 1) turned,
+    )
 
 -- the places of a frame are such pairs
 pub power_pairs : (state mask : ℕ) →
@@ -434,8 +422,8 @@ power_pairs state mask =
     let f = power_place state mask in
     record {
       long = length-pairs f 0 16;
-      first = λ g below. first_of_pair f 0 16 g below ∙ ap f (omega arith);
-      second = λ g below. second_of_pair f 0 16 g below ∙ ap (λ (k : ℕ). f k + 1) (omega arith);
+      first = λ g below. (pair_of f 0 16 g below).0 ∙ ap f (omega arith);
+      second = λ g below. (pair_of f 0 16 g below).1 ∙ ap (λ (k : ℕ). f k + 1) (omega arith);
     }
 
 -- two replaced places of a group of 24

@@ -1,8 +1,8 @@
 -- The soft values of any channel that is sent, and the codewords that a stream hears of it.
-use Rattle.clean_signal.proofs.Common.{◌≡◌, ℕ, ◌+◌, ◌<◌, List, [], ◌∷◌, refl, ◌∙◌, arith, pos, made_samples, CellPlan, softs, Sync}
-use Rattle.clean_signal.proofs.Common.{soft_strength, AreReadBy, IsHeardBy, path_finger, IsReceivable, Sample, Width, Bears, IsNear, ◌*◌}
-use Rattle.clean_signal.proofs.Common.{Bool, Contains, All-contains, Data, mul-pos, lt-ltb, norm, symbol_chips, window_chips, Form, Carrier}
-use Rattle.clean_signal.proofs.Common.{carriers, level, IsAligned, frame_softs, NoisyChannelsHaveSentSigns, NoisyCodewordsAreTheOnlyBest}
+use Rattle.clean_signal.proofs.Common.{ℕ, ◌+◌, ◌<◌, List, [], ◌∷◌, refl, ◌∙◌, arith, made_samples, CellPlan, softs, Sync, soft_strength}
+use Rattle.clean_signal.proofs.Common.{AreReadBy, IsHeardBy, path_finger, IsReceivable, Sample, Width, Bears, IsNear, ◌*◌, Bool, Contains}
+use Rattle.clean_signal.proofs.Common.{All-contains, Data, mul-pos, lt-ltb, norm, symbol_chips, window_chips, Form, Carrier, carriers}
+use Rattle.clean_signal.proofs.Common.{IsAligned, frame_softs, NoisyChannelsHaveSentSigns, NoisyCodewordsAreTheOnlyBest}
 use Rattle.clean_signal.proofs.Common.{NoisyStreamsShowSymbols, StreamOf, Channel}
 use Rattle.clean_signal.proofs.signal.CarriersApart.{plan_apart}
 use Rattle.clean_signal.proofs.noise.Near.{none_borne, near-self, IsSigned, signed_is, signed_turn}
@@ -29,20 +29,17 @@ pub channel_signs : laws.ChannelsHaveSentSigns
 channel_signs width plan c form u frame is has at long =
     signed_is (soft_strength plan form c.gain) (c.symbols frame)
     (softs (made_samples plan) (path_finger plan c.row ∷ []) form u)
-    (clean_relates plan c form is.lawful.pn (plan_apart width plan is.lawful) has u frame at long)
+    (clean_relates plan c form is.lawful.pn (plan_apart width plan is.lawful) has frame u at long)
 
 pub noisy_signs : NoisyChannelsHaveSentSigns
 noisy_signs width plan c form u frame e samples is has at long near bears =
     noisy_relates plan c form e samples is.lawful.pn (plan_apart width plan is.lawful) has near bears
-    u frame at long
+    frame u at long
 
 pub silent_rows : laws.SilentRowsAreZero
 silent_rows width plan row form u is below none at =
     silent_softs plan row form u is.lawful.pn (plan_apart width plan is.lawful) below at
     (λ chip from to. level_at-none row chip (carriers plan) none)
-
-level_before : (chip : ℕ) (c : Carrier) → chip < c.first → level chip c ≡ pos 0
-level_before chip c lt = rw (lt-ltb chip c.first lt) refl
 
 pub early_frames : laws.EarlyFramesAreZero
 early_frames width plan c form u is has at before =
@@ -51,15 +48,14 @@ early_frames width plan c form u is has at before =
     silent_softs plan c.row form u is.lawful.pn apart own.row at
     (λ chip from to.
     level_at-alone chip (carriers plan) c apart.own_rows has ∙
-    level_before chip c (omega (arith, to, before)))
+    (let e = lt-ltb chip c.first (omega (arith, to, before)) in rw e refl))
 
 pub stream_symbols : laws.StreamsShowSymbols
 stream_symbols width plan c s bits_of base k is has heard read here =
     let strength = soft_strength plan s.form c.gain in
     signed_is strength (order_of s bits_of (base + k)) (frame_softs (made_samples plan) s k)
     (stream_related (IsSigned strength) (signed_turn strength) (made_samples plan) heard read k
-    (λ u. clean_relates plan c s.form is.lawful.pn (plan_apart width plan is.lawful) has u (base + k))
-    here)
+    (clean_relates plan c s.form is.lawful.pn (plan_apart width plan is.lawful) has (base + k)) here)
 
 -- ---- a stream of near samples
 
@@ -70,8 +66,8 @@ pub noisy_shown : {width : Width} {plan : CellPlan} {c : Carrier} {s : StreamOf 
     IsShown plan.link.samples samples s bits_of base
 noisy_shown {width} {plan} {c} {s} {base = base} e samples is has heard read near bears =
     heard_shown samples
-    (λ k u. noisy_relates plan c s.form e samples is.lawful.pn (plan_apart width plan is.lawful) has
-    near bears u (base + k))
+    (λ k. noisy_relates plan c s.form e samples is.lawful.pn (plan_apart width plan is.lawful) has
+    near bears (base + k))
     heard read
 
 pub noisy_streams : NoisyStreamsShowSymbols

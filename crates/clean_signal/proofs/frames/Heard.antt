@@ -4,13 +4,13 @@ use Rattle.clean_signal.proofs.Common.{AllZip, HasSign, HaveSigns, path_finger, 
 use Rattle.clean_signal.proofs.Common.{false, List, [], ◌∷◌, ◌++◌, length, replicate, refl, sym, ap, subst, ◌∙◌, ⊎_elim, arith, ℤ, pos}
 use Rattle.clean_signal.proofs.Common.{flat_map, mul-le-mul_left, replicate-append-replicate, places, xor, zip_with, Sample, frame_chips}
 use Rattle.clean_signal.proofs.Common.{softs, symbols, Finger, Form, Sync, Data, sent, length-sent, IsAllowed, Codeword, Free, own_bits}
-use Rattle.clean_signal.proofs.Common.{flat_map-next, length-frames, CellPlan, continued_symbols, Carrier, phase_at, Scrambles}
-use Rattle.clean_signal.proofs.Common.{frame_softs, frame_start, is_in_file, span_first, span_frames, flat_map_ext_places, AreReadBy}
-use Rattle.clean_signal.proofs.Common.{IsOnlyBest, IsWholeChannel, scrambled_with, span_frame_softs, span_codeword, IsFrameOf, IsHeardBy}
-use Rattle.clean_signal.proofs.Common.{if◌then◌else◌, cases_eq, StreamOf, Channel, flat_map-zero}
+use Rattle.clean_signal.proofs.Common.{flat_map-next, length-frames, CellPlan, continued_symbols, Carrier, phase_at, Scrambles, frame_softs}
+use Rattle.clean_signal.proofs.Common.{frame_start, is_in_file, span_first, span_frames, flat_map_ext_places, AreReadBy, IsOnlyBest}
+use Rattle.clean_signal.proofs.Common.{IsWholeChannel, scrambled_with, span_frame_softs, span_codeword, IsFrameOf, IsHeardBy, if◌then◌else◌}
+use Rattle.clean_signal.proofs.Common.{cases_eq, StreamOf, Channel, flat_map-zero, cases_lt}
 use Rattle.clean_signal.proofs.frames.Scores.{ShowCodeword, shown_codeword_alone, shown_codeword_own, silent_own, frame_at, length-before}
 use Rattle.clean_signal.proofs.frames.Scores.{sent_as_one}
-use Rattle.clean_signal.proofs.noise.Near.{Turns, signs_turn, unscrambled_related, zipped_frames}
+use Rattle.clean_signal.proofs.noise.Near.{FrameRelates, Turns, signs_turn, unscrambled_related, zipped_frames}
 use Rattle.clean_signal.proofs.frames.Times.{room_alone}
 
 pub record IsInSpan (P : ℕ → Bool) (k first frames : ℕ) : Type 0 where
@@ -18,52 +18,44 @@ pub record IsInSpan (P : ℕ → Bool) (k first frames : ℕ) : Type 0 where
   pub to : k - first < frames
   pub there : (j : ℕ) → j < frames → P (first + j) ≡ true
 
-moved : (P : ℕ → Bool) (a b : ℕ) → a ≡ b → P a ≡ true → P b ≡ true
-moved P a b e h = subst (λ (n : ℕ). P n ≡ true) e h
-
--- the span of a frame without one before it
-from_here : (P : ℕ → Bool) (k : ℕ) (b : Bool) → P (k + 1) ≡ b → P k ≡ true →
-    IsInSpan P k k ((if b then k + 2 else k + 1) - k)
-from_here P k true next here = record {
-  from = omega arith;
-  to = omega arith;
-  there = λ j lt. ⊎_elim (λ (e : j ≡ 0). moved P k (k + j) (omega (arith, e)) here)
-      (λ (n : ¬ (j ≡ 0)). moved P (k + 1) (k + j) (omega (arith, lt, n)) next) (cases_eq j 0);
+-- the span from a frame that is k or before it, up to the next one after k, where that is in the file
+spanned : (P : ℕ → Bool) (k first : ℕ) (b : Bool) → P (k + 1) ≡ b → P k ≡ true → first ≤ k →
+    ((n : ℕ) → first ≤ n → n < k → P n ≡ true) →
+    IsInSpan P k first ((if b then k + 2 else k + 1) - first)
+spanned P k first true next here low before = record {
+  from = low;
+  to = omega (arith, low);
+  there = λ j lt. ⊎_elim (λ (less : first + j < k). before (first + j) (omega arith) less)
+      (λ (least : k ≤ first + j). ⊎_elim (λ (e : k ≡ first + j). subst (λ (n : ℕ). P n ≡ true) e here)
+      (λ (n : ¬ (k ≡ first + j)). let e : k + 1 ≡ first + j = omega (arith, lt, least, n) in
+      subst (λ (m : ℕ). P m ≡ true) e next)
+      (cases_eq k (first + j)))
+      (cases_lt (first + j) k);
 }
-from_here P k false next here = record {
-  from = omega arith;
-  to = omega arith;
-  there = λ j lt. moved P k (k + j) (omega (arith, lt)) here;
-}
-
--- and of one with a frame before it
-from_before : (P : ℕ → Bool) (k : ℕ) (b : Bool) → P (suc k + 1) ≡ b → P (suc k) ≡ true →
-    P k ≡ true → IsInSpan P (suc k) k ((if b then suc k + 2 else suc k + 1) - k)
-from_before P k true next here before = record {
-  from = omega arith;
-  to = omega arith;
-  there = λ j lt. ⊎_elim (λ (e : j ≡ 0). moved P k (k + j) (omega (arith, e)) before)
-      (λ (n : ¬ (j ≡ 0)). ⊎_elim (λ (e : j ≡ 1). moved P (suc k) (k + j) (omega (arith, e)) here)
-      (λ (m : ¬ (j ≡ 1)). moved P (suc k + 1) (k + j) (omega (arith, lt, n, m)) next)
-      (cases_eq j 1)) (cases_eq j 0);
-}
-from_before P k false next here before = record {
-  from = omega arith;
-  to = omega arith;
-  there = λ j lt. ⊎_elim (λ (e : j ≡ 0). moved P k (k + j) (omega (arith, e)) before)
-      (λ (n : ¬ (j ≡ 0)). moved P (suc k) (k + j) (omega (arith, lt, n)) here) (cases_eq j 0);
+spanned P k first false next here low before = record {
+  from = low;
+  to = omega (arith, low);
+  there = λ j lt. ⊎_elim (λ (less : first + j < k). before (first + j) (omega arith) less)
+      (λ (least : k ≤ first + j). let e : k ≡ first + j = omega (arith, lt, least) in
+      subst (λ (m : ℕ). P m ≡ true) e here)
+      (cases_lt (first + j) k);
 }
 
 either : (P : ℕ → Bool) (k : ℕ) (a b : Bool) → P k ≡ a → P (suc k + 1) ≡ b → P (suc k) ≡ true →
     IsInSpan P (suc k) (if a then k else suc k)
     ((if b then suc k + 2 else suc k + 1) - (if a then k else suc k))
-either P k true b before next here = from_before P k b next here before
-either P k false b before next here = from_here P (suc k) b next here
+either P k true b before next here =
+    spanned P (suc k) k b next here (omega arith) (λ n low less. let e : k ≡ n = omega (arith, low, less) in
+    subst (λ (m : ℕ). P m ≡ true) e before)
+either P k false b before next here =
+    spanned P (suc k) (suc k) b next here (omega arith) (λ n low less. absurd (omega (arith, low, less)))
 
 -- a frame in the file lies in its span, whose frames are all in the file
 pub in_span : (count : ℕ) (s : StreamOf Channel) (k : ℕ) → is_in_file count s k ≡ true →
     IsInSpan (is_in_file count s) k (span_first count s k) (span_frames count s k)
-in_span count s zero here = from_here (is_in_file count s) 0 (is_in_file count s (0 + 1)) refl here
+in_span count s zero here =
+    spanned (is_in_file count s) 0 0 (is_in_file count s (0 + 1)) refl here (omega arith)
+    (λ n low less. absurd (omega (arith, less)))
 in_span count s (suc k) here =
     either (is_in_file count s) k (is_in_file count s k) (is_in_file count s (suc k + 1)) refl refl
     here
@@ -229,12 +221,6 @@ heard_frame plan c s base k heard here = record {
   symbol_long = heard.symbol_long;
   begins = heard_begins s.form plan.link.start s.first c.first base k heard.begins;
 }
-
--- one frame of the channel stands so to the symbols that the channel sends in it
-abbrev pub FrameRelates : (Bool → ℤ → Type 0) → CellPlan → Carrier → Form → List Sample → ℕ → Type 0
-FrameRelates R plan c form samples frame = (u : ℕ) → IsFrameOf plan c form u frame →
-    length (c.symbols frame) ≡ symbols form →
-    AllZip R (c.symbols frame) (softs samples (path_finger plan c.row ∷ []) form u)
 
 module _ (R : Bool → ℤ → Type 0) (turns : Turns R) {plan : CellPlan} {c : Carrier} {s : StreamOf Channel}
     {bits_of : ℕ → List Bool} {base : ℕ} (samples : List Sample) (heard : IsHeardBy plan c s base)

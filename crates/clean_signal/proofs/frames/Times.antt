@@ -24,12 +24,6 @@ within_of_one : (count u phase row : ℕ) (form : Form) →
     is_within count (reference_finger phase row ∷ []) form u ≡ nat_le (u + frame_chips form) count
 within_of_one count u phase row form = ends_within u (frame_chips form) count
 
-begun_of_one : (u phase row : ℕ) → near.all_begun u (reference_finger phase row ∷ []) ≡ true
-begun_of_one u phase row = grind (arith, ints)
-
-near_of_one : (phase row : ℕ) → near.AreNear (reference_finger phase row ∷ [])
-near_of_one phase row = refl
-
 -- ---- a stream with one finger, on the reference path
 
 pub record IsAlone (s : StreamOf Channel) : Type 0 where
@@ -39,10 +33,9 @@ pub record IsAlone (s : StreamOf Channel) : Type 0 where
 
 pub timed_alone : (count : ℕ) (s : StreamOf Channel) → IsAlone s → IsTimed count s 0
 timed_alone count s alone =
-    let close : near.AreNear s.fingers =
-    subst near.AreNear (sym alone.fingers) (near_of_one alone.phase alone.row) in
+    let close : near.AreNear s.fingers = subst near.AreNear (sym alone.fingers) refl in
     let begun : near.all_begun s.first s.fingers ≡ true =
-    ap (near.all_begun s.first) alone.fingers ∙ begun_of_one s.first alone.phase alone.row in
+    ap (near.all_begun s.first) alone.fingers ∙ grind (arith, ints) in
     let low : near.low_in s ≡ 0 = rw begun refl in
     subst (λ (n : ℕ). IsTimed count s n) low (timed_in count s close)
 

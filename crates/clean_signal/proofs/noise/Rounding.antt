@@ -14,16 +14,14 @@ use Rattle.clean_signal.specs.NearFiles as laws
 spread_i : (x y : ℤ) (b c : Bool) (m : ℕ) → unsigned_abs x + unsigned_abs y ≤ m →
     unsigned_abs ((x *ℤ sign b) -ℤ (y *ℤ sign c)) ≤ m
 spread_i x y true true m most = omega (arith, ints, most)
-spread_i x y true false m most = omega (arith, ints, most)
 spread_i x y false true m most = omega (arith, ints, most)
-spread_i x y false false m most = omega (arith, ints, most)
+spread_i x y b c m most = omega (arith, ints, most)
 
 spread_q : (x y : ℤ) (b c : Bool) (m : ℕ) → unsigned_abs x + unsigned_abs y ≤ m →
     unsigned_abs ((x *ℤ sign c) +ℤ (y *ℤ sign b)) ≤ m
 spread_q x y true true m most = omega (arith, ints, most)
-spread_q x y true false m most = omega (arith, ints, most)
 spread_q x y false true m most = omega (arith, ints, most)
-spread_q x y false false m most = omega (arith, ints, most)
+spread_q x y b c m most = omega (arith, ints, most)
 
 -- both parts are at most this
 pub record IsSmall (e : ℕ) (z : Pair) : Type 0 where
@@ -107,17 +105,13 @@ none_same xs ys = (near-same xs ys, near-equal 0 xs ys)
 distributed : (d x y : ℤ) → d *ℤ (x -ℤ y) ≡ (d *ℤ x) -ℤ (d *ℤ y)
 distributed d x y = distrib d x (neg_ℤ y) ∙ ap (λ (z : ℤ). (d *ℤ x) +ℤ z) (times_neg d y)
 
--- so many times a number
-times_abs : (d : ℕ) (z : ℤ) → unsigned_abs (pos d *ℤ z) ≡ d * unsigned_abs z
-times_abs d z = unsigned_abs-mul (pos d) z
-
 rounded_near : (d e : ℕ) (x r u : ℤ) → unsigned_abs (x -ℤ (pos d *ℤ u)) ≤ e * d →
     IsRounded d x r → unsigned_abs (r -ℤ u) ≤ e
 rounded_near d e x r u near rounded =
     let whole : unsigned_abs ((pos d *ℤ r) -ℤ (pos d *ℤ u)) < d * (e + 1) =
     omega (arith, ints, near, rounded) in
-    let less : d * unsigned_abs (r -ℤ u) < d * (e + 1) =
-    rw (← times_abs d (r -ℤ u), distributed (pos d) r u) whole in
+    let size : unsigned_abs (pos d *ℤ (r -ℤ u)) ≡ d * unsigned_abs (r -ℤ u) = unsigned_abs-mul (pos d) (r -ℤ u) in
+    let less : d * unsigned_abs (r -ℤ u) < d * (e + 1) = rw (← size, distributed (pos d) r u) whole in
     let all = lt_of_mul-lt-mul_left d less in
     omega (arith, all)
 

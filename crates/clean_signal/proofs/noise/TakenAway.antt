@@ -27,17 +27,15 @@ close_i : (X Y U V x y : ℤ) (p q : Bool) (n : ℕ) → X ≡ U +ℤ x → Y �
     unsigned_abs x + unsigned_abs y ≤ n →
     unsigned_abs (((U *ℤ sign p) -ℤ (V *ℤ sign q)) -ℤ ((X *ℤ sign p) -ℤ (Y *ℤ sign q))) ≤ n
 close_i X Y U V x y true true n i q few = omega (arith, ints, i, q, few)
-close_i X Y U V x y true false n i q few = omega (arith, ints, i, q, few)
 close_i X Y U V x y false true n i q few = omega (arith, ints, i, q, few)
-close_i X Y U V x y false false n i q few = omega (arith, ints, i, q, few)
+close_i X Y U V x y b c n i q few = omega (arith, ints, i, q, few)
 
 close_q : (X Y U V x y : ℤ) (p q : Bool) (n : ℕ) → X ≡ U +ℤ x → Y ≡ V +ℤ y →
     unsigned_abs x + unsigned_abs y ≤ n →
     unsigned_abs (((U *ℤ sign q) +ℤ (V *ℤ sign p)) -ℤ ((X *ℤ sign q) +ℤ (Y *ℤ sign p))) ≤ n
 close_q X Y U V x y true true n i q few = omega (arith, ints, i, q, few)
-close_q X Y U V x y true false n i q few = omega (arith, ints, i, q, few)
 close_q X Y U V x y false true n i q few = omega (arith, ints, i, q, few)
-close_q X Y U V x y false false n i q few = omega (arith, ints, i, q, few)
+close_q X Y U V x y b c n i q few = omega (arith, ints, i, q, few)
 
 -- an amplitude is what is left of it without a part, and that part
 parted : (a b x : ℤ) → a *ℤ x ≡ ((a -ℤ b) *ℤ x) +ℤ (b *ℤ x)
@@ -84,11 +82,6 @@ near_places plan c (t ∷ ts) = (
       (amplitude_most (plan.link.start + t) c)),
   near_places plan c ts,
 )
-
-near_without : (plan : CellPlan) (c : Carrier) →
-    IsNear (channel_loudness plan c.gain) (samples_without plan c) (made_samples plan)
-unfolding made_samples samples_of samples_without
-near_without plan c = near_places plan c (places plan.link.samples)
 
 -- ---- what the channel's row finds
 
@@ -182,8 +175,9 @@ no_soft plan c form u frame j low apart has is few =
 -- ---- the laws
 
 pub taken_away : laws.ChannelsAreTakenAway
+unfolding made_samples samples_of samples_without
 taken_away width plan c is has = (
-  near_without plan c,
+  near_places plan c (places plan.link.samples),
   λ form u frame at.
       softs_none (samples_without plan c) (path_finger plan c.row) form u
       (λ j few. no_soft plan c form u frame j is.lawful.pn (plan_apart width plan is.lawful) has at

@@ -20,29 +20,21 @@ unit true true = record { i = pos 0; q = negsuc 1 }
 
 turn_unit : (a c b d : Bool) → turn (a, c) (b, d) ≡ unit (odd_step a c b d) (way_step a c b d)
 unfolding unit odd_step way_step
-turn_unit false false false false = refl
 turn_unit false false false true = refl
-turn_unit false false true false = refl
 turn_unit false false true true = refl
-turn_unit false true false false = refl
 turn_unit false true false true = refl
-turn_unit false true true false = refl
 turn_unit false true true true = refl
-turn_unit true false false false = refl
 turn_unit true false false true = refl
-turn_unit true false true false = refl
 turn_unit true false true true = refl
-turn_unit true true false false = refl
 turn_unit true true false true = refl
-turn_unit true true true false = refl
 turn_unit true true true true = refl
+turn_unit a c b d = refl
 
 unit_size : (o w : Bool) → unsigned_abs (unit o w).i + unsigned_abs (unit o w).q ≡ 2
 unfolding unit
-unit_size false false = refl
 unit_size false true = refl
-unit_size true false = refl
 unit_size true true = refl
+unit_size o w = refl
 
 -- the turn of one phase's chip by another's
 abbrev pub turn_of : ℕ → ℕ → Pair
@@ -75,11 +67,10 @@ part_at part a phase f t = pos (a t) *ℤ part (turn_of (phase + t) (f + t))
 abbrev pub part_to : (Pair → ℤ) → (ℕ → ℕ) → ℕ → ℕ → ℕ → ℤ
 part_to part a phase f n = sum_below n (part_at part a phase f)
 
-abbrev pub in_i : Pair → ℤ
-in_i z = z.i
-
-abbrev pub in_q : Pair → ℤ
-in_q z = z.q
+-- the real part of a number, or its imaginary part
+abbrev pub side : Bool → Pair → ℤ
+side false z = z.i
+side true z = z.q
 
 at_first : (part : Pair → ℤ) (a : ℕ → ℕ) (phase f : ℕ) →
     part_at part a phase f 0 ≡ pos (a 0) *ℤ part (turn_of phase f)
@@ -107,7 +98,8 @@ front part a phase f n =
 
 -- what so many samples add up to at phase f, over the link
 abbrev pub turned_to : (ℕ → ℕ) → ℕ → ℕ → ℕ → Pair
-turned_to a phase f n = record { i = part_to in_i a phase f n; q = part_to in_q a phase f n }
+turned_to a phase f n =
+    record { i = part_to (side false) a phase f n; q = part_to (side true) a phase f n }
 
 pub turned_is : (h : Pair) (f phase : ℕ) (a : ℕ → ℕ) (xs : List Sample) → AreSpread h phase a xs →
     sum_of (despread f xs) ≡ times h (turned_to a phase f (length xs))
@@ -124,7 +116,8 @@ turned_is h f phase a (x ∷ xs) are =
     ∙ turned_point (pos (a 0)) h c d
     ∙ ap (λ (z : Pair). times h (scaled (pos (a 0)) z)) (turn_unit c.0 c.1 d.0 d.1) in
     let all : plus first later ≡ turned_to a phase f (suc (length xs)) =
-    same_parts _ _ _ _ (sym (front in_i a phase f (length xs))) (sym (front in_q a phase f (length xs))) in
+    same_parts _ _ _ _ (sym (front (side false) a phase f (length xs)))
+    (sym (front (side true) a phase f (length xs))) in
     ap (λ (z : Pair). plus z (sum_of (despread (f + 1) xs))) here ∙ ap (plus (times h first)) rest
     ∙ times_plus h first later ∙ ap (times h) all
 
@@ -142,21 +135,19 @@ apart : (o w p v : Bool) (a b m : ℕ) → m ≤ a → m ≤ b → (o ≡ p → 
     × (unsigned_abs ((pos a *ℤ (unit o w).q) +ℤ (pos b *ℤ (unit p v).q)) + 2 * m ≤ 2 * (a + b))
 unfolding unit
 apart false false false false a b m pa pb differ = absurd (differ refl refl)
-apart false false false true a b m pa pb differ = (omega (arith, ints, pa, pb), omega (arith, ints, pa, pb))
-apart false false true false a b m pa pb differ = (omega (arith, ints, pa, pb), omega (arith, ints, pa, pb))
-apart false false true true a b m pa pb differ = (omega (arith, ints, pa, pb), omega (arith, ints, pa, pb))
-apart false true false false a b m pa pb differ = (omega (arith, ints, pa, pb), omega (arith, ints, pa, pb))
 apart false true false true a b m pa pb differ = absurd (differ refl refl)
-apart false true true false a b m pa pb differ = (omega (arith, ints, pa, pb), omega (arith, ints, pa, pb))
-apart false true true true a b m pa pb differ = (omega (arith, ints, pa, pb), omega (arith, ints, pa, pb))
-apart true false false false a b m pa pb differ = (omega (arith, ints, pa, pb), omega (arith, ints, pa, pb))
-apart true false false true a b m pa pb differ = (omega (arith, ints, pa, pb), omega (arith, ints, pa, pb))
 apart true false true false a b m pa pb differ = absurd (differ refl refl)
-apart true false true true a b m pa pb differ = (omega (arith, ints, pa, pb), omega (arith, ints, pa, pb))
-apart true true false false a b m pa pb differ = (omega (arith, ints, pa, pb), omega (arith, ints, pa, pb))
-apart true true false true a b m pa pb differ = (omega (arith, ints, pa, pb), omega (arith, ints, pa, pb))
-apart true true true false a b m pa pb differ = (omega (arith, ints, pa, pb), omega (arith, ints, pa, pb))
 apart true true true true a b m pa pb differ = absurd (differ refl refl)
+apart false false true true a b m pa pb differ = (omega (arith, ints, pa, pb), omega (arith, ints, pa, pb))
+apart false true true true a b m pa pb differ = (omega (arith, ints, pa, pb), omega (arith, ints, pa, pb))
+apart true false false true a b m pa pb differ = (omega (arith, ints, pa, pb), omega (arith, ints, pa, pb))
+apart true true false true a b m pa pb differ = (omega (arith, ints, pa, pb), omega (arith, ints, pa, pb))
+apart o w p v a b m pa pb differ = (omega (arith, ints, pa, pb), omega (arith, ints, pa, pb))
+
+apart_in : (o w p v : Bool) (a b m : ℕ) → m ≤ a → m ≤ b → (o ≡ p → w ≡ v → ⊥) → (s : Bool) →
+    unsigned_abs ((pos a *ℤ side s (unit o w)) +ℤ (pos b *ℤ side s (unit p v))) + 2 * m ≤ 2 * (a + b)
+apart_in o w p v a b m pa pb differ false = (apart o w p v a b m pa pb differ).0
+apart_in o w p v a b m pa pb differ true = (apart o w p v a b m pa pb differ).1
 
 more_same : (m n : ℕ) (s u v : ℤ) → s ≡ pos m *ℤ u → v ≡ u → s +ℤ (pos n *ℤ v) ≡ pos (m + n) *ℤ u
 more_same m n s u v is same =
@@ -178,12 +169,10 @@ module _ (a : ℕ → ℕ) (phase f least : ℕ) (each : (t : ℕ) → least ≤
 
   abbrev IsOneTurnTo : ℕ → Type 0
   IsOneTurnTo n = IsSteadyTo n
-      × (part_to in_i a phase f n ≡ pos (amount_to a n) *ℤ (turn_of phase f).i)
-      × (part_to in_q a phase f n ≡ pos (amount_to a n) *ℤ (turn_of phase f).q)
+      × ((s : Bool) → part_to (side s) a phase f n ≡ pos (amount_to a n) *ℤ side s (turn_of phase f))
 
   abbrev IsLessTo : ℕ → Type 0
-  IsLessTo n = (unsigned_abs (part_to in_i a phase f n) + 2 * least ≤ 2 * amount_to a n)
-      × (unsigned_abs (part_to in_q a phase f n) + 2 * least ≤ 2 * amount_to a n)
+  IsLessTo n = (s : Bool) → unsigned_abs (part_to (side s) a phase f n) + 2 * least ≤ 2 * amount_to a n
 
   steady_one_more : (n : ℕ) → IsSteadyTo n → odd_of (phase + n) (f + n) ≡ odd_of phase f →
       way_of (phase + n) (f + n) ≡ way_of phase f → IsSteadyTo (suc n)
@@ -195,23 +184,26 @@ module _ (a : ℕ → ℕ) (phase f least : ℕ) (each : (t : ℕ) → least ≤
       × (way_of (phase + j) (f + j) ≡ way_of phase f)) same (odd, way))
       (cases_lt t n)
 
-  turn_small : (n : ℕ) →
-      unsigned_abs (part_at in_i a phase f n) + unsigned_abs (part_at in_q a phase f n) ≤ 2 * a n
+  turn_small : (n : ℕ) → unsigned_abs (part_at (side false) a phase f n)
+      + unsigned_abs (part_at (side true) a phase f n) ≤ 2 * a n
   turn_small n =
       let size = scaled_size (a n) (turn_of (phase + n) (f + n))
       (unit_size (odd_of (phase + n) (f + n)) (way_of (phase + n) (f + n))) in
       omega (arith, size)
 
-  pub turned_small : (n : ℕ) →
-      unsigned_abs (part_to in_i a phase f n) + unsigned_abs (part_to in_q a phase f n) ≤
-      2 * amount_to a n
+  side_small : (n : ℕ) (s : Bool) → unsigned_abs (part_at (side s) a phase f n) ≤ 2 * a n
+  side_small n false = let both = turn_small n in omega (arith, both)
+  side_small n true = let both = turn_small n in omega (arith, both)
+
+  pub turned_small : (n : ℕ) → unsigned_abs (part_to (side false) a phase f n)
+      + unsigned_abs (part_to (side true) a phase f n) ≤ 2 * amount_to a n
   unfolding sum_below amount_to
   turned_small zero = omega arith
   turned_small (suc n) =
       let rest = turned_small n in
       let here = turn_small n in
-      let i = abs_sum (part_to in_i a phase f n) (part_at in_i a phase f n) in
-      let q = abs_sum (part_to in_q a phase f n) (part_at in_q a phase f n) in
+      let i = abs_sum (part_to (side false) a phase f n) (part_at (side false) a phase f n) in
+      let q = abs_sum (part_to (side true) a phase f n) (part_at (side true) a phase f n) in
       omega (arith, rest, here, i, q)
 
   -- the first turn that differs
@@ -227,17 +219,17 @@ module _ (a : ℕ → ℕ) (phase f least : ℕ) (each : (t : ℕ) → least ≤
   first_apart (suc n) one differ =
       let more = each n in
       let some : least ≤ amount_to a n + a n = omega (arith, more) in
-      let less = apart (odd_of phase f) (way_of phase f) (odd_of (phase + suc n) (f + suc n))
+      λ s.
+      rw (one.1 s)
+      (apart_in (odd_of phase f) (way_of phase f) (odd_of (phase + suc n) (f + suc n))
       (way_of (phase + suc n) (f + suc n)) (amount_to a n + a n) (a (suc n)) least some (each (suc n))
-      differ in
-      (rw one.1 less.0, rw one.2 less.1)
+      differ s)
 
   either_to : (n : ℕ) → IsOneTurnTo n ⊎ IsLessTo n
   unfolding sum_below amount_to
   either_to zero = inl (
     (λ t lt. absurd (omega (arith, lt))),
-    omega (arith, ints),
-    omega (arith, ints),
+    λ s. omega (arith, ints),
   )
   either_to (suc n) = ⊎_elim
       (λ (one : IsOneTurnTo n). ⊎_elim
@@ -247,8 +239,7 @@ module _ (a : ℕ → ℕ) (phase f least : ℕ) (each : (t : ℕ) → least ≤
       ap (λ (o : Bool). unit o (way_of (phase + n) (f + n))) odd
       ∙ ap (λ (w : Bool). unit (odd_of phase f) w) way in inl (
         steady_one_more n one.0 odd way,
-        more_same (amount_to a n) (a n) _ _ _ one.1 (ap in_i turn),
-        more_same (amount_to a n) (a n) _ _ _ one.2 (ap in_q turn),
+        λ s. more_same (amount_to a n) (a n) _ _ _ (one.1 s) (ap (side s) turn),
       ))
       (λ (differ : way_of (phase + n) (f + n) ≡ way_of phase f → ⊥).
       inr (first_apart n one (λ o w. differ (sym w))))
@@ -256,13 +247,9 @@ module _ (a : ℕ → ℕ) (phase f least : ℕ) (each : (t : ℕ) → least ≤
       (λ (differ : odd_of (phase + n) (f + n) ≡ odd_of phase f → ⊥).
       inr (first_apart n one (λ o w. differ (sym o))))
       (decide (odd_of (phase + n) (f + n)) (odd_of phase f)))
-      (λ (less : IsLessTo n).
-      let small = turn_small n in inr (
-        more_less (amount_to a n) (a n) (2 * least) (part_to in_i a phase f n) (part_at in_i a phase f n)
-            less.0 (omega (arith, small)),
-        more_less (amount_to a n) (a n) (2 * least) (part_to in_q a phase f n) (part_at in_q a phase f n)
-            less.1 (omega (arith, small)),
-      ))
+      (λ (less : IsLessTo n). inr (λ s.
+      more_less (amount_to a n) (a n) (2 * least) (part_to (side s) a phase f n) (part_at (side s) a phase f n)
+      (less s) (side_small n s)))
       (either_to n)
 
   -- so sixteen turns of two phases lose twice the least amplitude in both parts
@@ -306,49 +293,32 @@ module _ (a : ℕ → ℕ) (phase f least : ℕ) (each : (t : ℕ) → least ≤
       (same_turn (phase + (16 * k + j)) (f + (16 * k + j)) ((phase + 16 * k) % 32768 + j)
       ((f + 16 * k) % 32768 + j) (omega arith) (omega arith))))
 
-  windows_less : (k : ℕ) →
-      (unsigned_abs (part_to in_i a phase f (16 * k)) + 2 * (least * k) ≤ 2 * amount_to a (16 * k))
-      × (unsigned_abs (part_to in_q a phase f (16 * k)) + 2 * (least * k) ≤ 2 * amount_to a (16 * k))
+  windows_less : (k : ℕ) (s : Bool) →
+      unsigned_abs (part_to (side s) a phase f (16 * k)) + 2 * (least * k) ≤ 2 * amount_to a (16 * k)
   unfolding sum_below amount_to
-  windows_less zero =
+  windows_less zero s =
       let none : 16 * 0 ≡ 0 = omega arith in
-      rw none (omega arith, omega arith)
-  windows_less (suc k) =
+      rw none (omega arith)
+  windows_less (suc k) s =
       let place : 16 * suc k ≡ 16 * k + 16 = omega arith in
-      let rest = windows_less k in
       let here = window_less (λ j. a (16 * k + j)) ((phase + 16 * k) % 32768) ((f + 16 * k) % 32768)
       least (λ j. each (16 * k + j)) (omega arith) (omega arith)
-      (λ same. absurd (differ (omega (arith, low_phase, low_f, same)))) in
-      let long = amount_append a (16 * k) 16 in
-      rw place (
-        window_more (part_to in_i a phase f (16 * k))
-            (part_to in_i (λ j. a (16 * k + j)) ((phase + 16 * k) % 32768) ((f + 16 * k) % 32768) 16)
-            (part_to in_i a phase f (16 * k + 16)) (amount_to a (16 * k))
-            (amount_to (λ j. a (16 * k + j)) 16) (amount_to a (16 * k + 16)) least k (window_part in_i k)
-            rest.0 here.0 long,
-        window_more (part_to in_q a phase f (16 * k))
-            (part_to in_q (λ j. a (16 * k + j)) ((phase + 16 * k) % 32768) ((f + 16 * k) % 32768) 16)
-            (part_to in_q a phase f (16 * k + 16)) (amount_to a (16 * k))
-            (amount_to (λ j. a (16 * k + j)) 16) (amount_to a (16 * k + 16)) least k (window_part in_q k)
-            rest.1 here.1 long,
-      )
+      (λ same. absurd (differ (omega (arith, low_phase, low_f, same)))) s in
+      rw place
+      (window_more (part_to (side s) a phase f (16 * k))
+      (part_to (side s) (λ j. a (16 * k + j)) ((phase + 16 * k) % 32768) ((f + 16 * k) % 32768) 16)
+      (part_to (side s) a phase f (16 * k + 16)) (amount_to a (16 * k))
+      (amount_to (λ j. a (16 * k + j)) 16) (amount_to a (16 * k + 16)) least k (window_part (side s) k)
+      (windows_less k s) here (amount_append a (16 * k) 16))
 
   -- and whatever follows
-  pub turns_less : (k r : ℕ) →
-      (unsigned_abs (part_to in_i a phase f (16 * k + r)) + 2 * (least * k) ≤
-      2 * amount_to a (16 * k + r))
-      × (unsigned_abs (part_to in_q a phase f (16 * k + r)) + 2 * (least * k) ≤
-      2 * amount_to a (16 * k + r))
+  pub turns_less : (k r : ℕ) (s : Bool) →
+      unsigned_abs (part_to (side s) a phase f (16 * k + r)) + 2 * (least * k) ≤ 2 * amount_to a (16 * k + r)
   unfolding sum_below amount_to
-  turns_less k zero = let none : 16 * k + 0 ≡ 16 * k = omega arith in rw none (windows_less k)
-  turns_less k (suc r) =
+  turns_less k zero s = let none : 16 * k + 0 ≡ 16 * k = omega arith in rw none (windows_less k s)
+  turns_less k (suc r) s =
       let n = 16 * k + r in
       let next : 16 * k + suc r ≡ suc (16 * k + r) = omega arith in
-      let rest = turns_less k r in
-      let small = turn_small a phase f least each n in
-      rw next (
-        more_less (amount_to a n) (a n) (2 * (least * k)) (part_to in_i a phase f n)
-            (part_at in_i a phase f n) rest.0 (omega (arith, small)),
-        more_less (amount_to a n) (a n) (2 * (least * k)) (part_to in_q a phase f n)
-            (part_at in_q a phase f n) rest.1 (omega (arith, small)),
-      )
+      rw next
+      (more_less (amount_to a n) (a n) (2 * (least * k)) (part_to (side s) a phase f n)
+      (part_at (side s) a phase f n) (turns_less k r s) (side_small a phase f least each n s))
