@@ -119,26 +119,32 @@ def object_of(analysis: Analysis, name: str) -> dict[str, Any]:
     return {"name": name, **told, "rows": rows, "frames": numpy.round(levels_of(analysis.domain.frames), 2).tolist()}
 
 
-def draw(analysis: Analysis, title: str) -> Any:
-    """The figure: the rows' levels over the whole as bars, and below them over the frames."""
-    pyplot = plotting(**{"svg.fonttype": "none", "svg.hashsalt": "cdma_replay"})
-    figure, (bars, frames) = pyplot.subplots(2, 1, figsize=(9, 7), layout="constrained", height_ratios=(1, 1.2))
+def draw_rows(axes: Any, analysis: Analysis) -> None:
+    """Draws the rows' levels over the whole as bars."""
     kinds = [analysis.kinds.get(row.row, "none") for row in analysis.domain.rows]
     for kind, colour in {**COLOURS, "none": "#c9ccd1"}.items():
         rows = [row for row, own in zip(analysis.domain.rows, kinds) if own == kind]
         heights = [max(row.total_db, LOWEST) - LOWEST for row in rows]
         if rows:
-            bars.bar(
+            axes.bar(
                 [row.row for row in rows],
                 heights,
                 bottom=LOWEST,
                 color=colour,
                 label="not in use" if kind == "none" else kind,
             )
-    bars.axhline(analysis.domain.floor_db, color="#9a9a9a", linewidth=0.6, linestyle=":")
-    bars.set(xlim=(-0.8, 63.8), ylim=(LOWEST, 0), ylabel="dB of all power", title=title)
-    bars.legend(ncols=5, fontsize=7, loc="upper right")
-    bars.grid(axis="y", alpha=0.3)
+    axes.axhline(analysis.domain.floor_db, color="#9a9a9a", linewidth=0.6, linestyle=":")
+    axes.set(xlim=(-0.8, 63.8), ylim=(LOWEST, 0), ylabel="dB of all power")
+    axes.legend(ncols=5, fontsize=7, loc="upper right")
+    axes.grid(axis="y", alpha=0.3)
+
+
+def draw(analysis: Analysis, title: str) -> Any:
+    """The figure: the rows' levels over the whole as bars, and below them over the frames."""
+    pyplot = plotting(**{"svg.fonttype": "none", "svg.hashsalt": "cdma_replay"})
+    figure, (bars, frames) = pyplot.subplots(2, 1, figsize=(9, 7), layout="constrained", height_ratios=(1, 1.2))
+    draw_rows(bars, analysis)
+    bars.set_title(title)
     seconds = len(analysis.domain.frames) * 0.02
     if len(analysis.domain.frames):
         shown = frames.imshow(

@@ -19,14 +19,13 @@ import sys
 from collections.abc import Iterable, Iterator
 from typing import Any
 
-import numpy
-
 from cdma_tools.arguments import Parser, PartParser, whole_within
-from cdma_tools.correlation import best_phase, codes, energies, energy_at, read_samples
+from cdma_tools.correlation import best_phase, codes, energies, read_samples
 from cdma_tools.errors import Refused
-from cdma_tools.heard_run import CHIP_RATE, FOLLOWED, LANES, Run
+from cdma_tools.heard_run import CHIP_RATE, FOLLOWED, Run
 from cdma_tools.lines import RATES, NoLine, read_line
 from cdma_tools.overwriting import InputFile
+from cdma_tools.pictures import draw_commands, draw_lanes, draw_near, draw_phases, draw_sets
 from cdma_tools.plots import form_of, picture_of, plotting, save, title_of
 from cdma_tools.radio.air import PERIOD
 from cdma_tools.reading import MEGABYTE, all_of, read_within
@@ -95,62 +94,10 @@ def draw_correlation(pyplot: Any, options: argparse.Namespace, data: bytes) -> A
     energy, minus = best_phase(samples, signs, near)
     phase = -minus if options.phase is None else options.phase
     figure, (whole, close) = pyplot.subplots(2, 1, figsize=(9, 6), layout="constrained")
-    whole.plot(near, linewidth=0.5, color="#2f6f9f")
-    whole.set_xlim(0, PERIOD - 1)
-    whole.set_xlabel("code phase at sample 0")
+    draw_phases(whole, near)
     whole.set_title(options.title or f"phase {-minus}, energy {energy}, over {options.span:,} samples")
-    deltas = numpy.arange(-options.width, options.width + 1)
-    exact = [float(energy_at(samples, signs, int(phase + delta) % PERIOD)) for delta in deltas]
-    close.bar(deltas, exact, color="#2f6f9f", width=0.7)
-    close.set_xlabel(f"chips from phase {phase}")
-    for axes in (whole, close):
-        axes.set_ylabel("energy")
-        axes.grid(alpha=0.3)
+    draw_near(close, samples, signs, phase, options.width)
     return figure
-
-
-def draw_lanes(axes: Any, run: Run) -> None:
-    """A lane for each kind of message, and one for each rate of frames; hollow marks are frames that aren't good."""
-    names = [name for name in LANES if name in run.lanes]
-    if run.frames:
-        names += [f"frames {rate}" for rate in RATES]
-    for place, name in enumerate(names):
-        if name in run.lanes:
-            at = [message.at / CHIP_RATE for message in run.lanes[name]]
-            axes.plot(at, [place] * len(at), "|", ms=12, color="#1f4e79")
-            continue
-        rate = int(name.split()[1])
-        for is_good, face in ((True, "#3a8f4d"), (False, "none")):
-            at = [frame.at / CHIP_RATE for frame in run.frames if frame.rate == rate and frame.is_good == is_good]
-            axes.plot(at, [place] * len(at), "s", ms=5, mfc=face, mec="#3a8f4d" if is_good else "#b03030")
-    axes.set_yticks(range(len(names)), names)
-    axes.set_ylim(len(names) - 0.4, -0.6)
-    axes.grid(axis="x", alpha=0.3)
-
-
-def draw_commands(axes: Any, run: Run) -> None:
-    """The sum of the power control bits over time."""
-    places, levels = run.steps()
-    axes.step([place / CHIP_RATE for place in places], levels, where="post", linewidth=0.9, color="#8a5a00")
-    axes.set_ylabel("power steps")
-    axes.grid(alpha=0.3)
-
-
-def draw_sets(axes: Any, run: Run) -> None:
-    """Draws a lane for each pilot: broad while active, narrow while a candidate, and a mark when a report was due."""
-    active, candidates = run.spans("active"), run.spans("candidate")
-    pilots = sorted({*active, *candidates})
-    for name, spans, height, color in (("active", active, 0.6, "#2f6f9f"), ("candidate", candidates, 0.25, "#d08a2a")):
-        for number, (pilot, stretches) in enumerate(spans.items()):
-            bars = [(begin / CHIP_RATE, (end - begin) / CHIP_RATE) for begin, end in stretches]
-            label = None if number else name  # once in the legend
-            axes.broken_barh(bars, (pilots.index(pilot) - height / 2, height), color=color, label=label)
-    reports = [moment.at / CHIP_RATE for moment in run.sets if moment.is_due]
-    axes.plot(reports, [-0.7] * len(reports), "v", color="#b03030", ms=5, label="report" if reports else None)
-    axes.legend(loc="upper left", fontsize=8)
-    axes.set_yticks(range(len(pilots)), [f"pilot {pilot}" for pilot in pilots])
-    axes.set_ylim(len(pilots) - 0.4, -1)
-    axes.grid(axis="x", alpha=0.3)
 
 
 def draw_follow(pyplot: Any, options: argparse.Namespace, run: Run) -> Any:
