@@ -25,6 +25,7 @@ import math
 import os
 import sys
 from collections.abc import Iterable, Iterator
+from typing import Any
 
 from cdma_tools import sigmf
 from cdma_tools.arguments import (
@@ -286,6 +287,18 @@ def truth(options: argparse.Namespace, link: Link) -> str:
     )
 
 
+def meta_of(options: argparse.Namespace, link: Link, made: Made) -> dict[str, Any]:
+    """Returns the object of the .sigmf-meta, with the truth and with what makes the same recording again."""
+    meta = sigmf.new_meta(options.type, options.rate, "a recording of an IS-95 forward link, made by tools/channel")
+    told = {
+        "cdma_tools:arguments": arguments_of(options),
+        "cdma_tools:cells": list(map(cell_told, options.files, link.cells)),
+    }
+    sigmf.annotate(meta, 0, made.samples, "tools/channel", "truth", truth(options, link), told)
+    meta["global"]["core:extensions"] = [{"name": "cdma_tools", "version": "1.0.0", "optional": True}]
+    return meta
+
+
 def write_recording(options: argparse.Namespace, link: Link, chips: int) -> Made:
     """Writes the samples, and the .sigmf-meta if one is requested."""
     is_sigmf = options.recording.endswith(sigmf.META)
@@ -294,14 +307,7 @@ def write_recording(options: argparse.Namespace, link: Link, chips: int) -> Made
     with write_out(path) as file, bar(total=total, text="recording", unit="samples") as shown:
         made = record(link, radio_of(options), chips, file, shown.update)
     if is_sigmf:
-        meta = sigmf.new_meta(options.type, options.rate, "a recording of an IS-95 forward link, made by tools/channel")
-        told = {
-            "cdma_tools:arguments": arguments_of(options),
-            "cdma_tools:cells": list(map(cell_told, options.files, link.cells)),
-        }
-        sigmf.annotate(meta, 0, made.samples, "tools/channel", "truth", truth(options, link), told)
-        meta["global"]["core:extensions"] = [{"name": "cdma_tools", "version": "1.0.0", "optional": True}]
-        sigmf.write_meta(options.recording, meta)
+        sigmf.write_meta(options.recording, meta_of(options, link, made))
     return made
 
 

@@ -105,13 +105,17 @@ class Locked(NamedTuple):
 def find(path: str, options: Options) -> Pilot:
     """Returns the pilot that stands out of a recording, or of its conjugate; refuses a recording without one."""
     recording = Recording(path, options.kind, float(options.rate), options.skip)
-    if recording.rate < CHIP_RATE:
-        raise Refused(f"{recording.rate:.0f} samples a second are fewer than the chip rate, {CHIP_RATE}")
-    front = Front(recording)
-    check_length(front, options)
-    front.set_carrier(options.shift)
-    pilot = searched_pilot(front, options.policy)
-    check_pilot(pilot, options.policy, options.shift)
+    try:
+        if recording.rate < CHIP_RATE:
+            raise Refused(f"{recording.rate:.0f} samples a second are fewer than the chip rate, {CHIP_RATE}")
+        front = Front(recording)
+        check_length(front, options)
+        front.set_carrier(options.shift)
+        pilot = searched_pilot(front, options.policy)
+        check_pilot(pilot, options.policy, options.shift)
+    except BaseException:
+        recording.close()
+        raise
     return pilot
 
 
