@@ -14,23 +14,35 @@ The functions run the program `cdma_replay`, which is found as the tools find it
 Names without an underscore here are public, and change only with the major version.
 """
 
+from cdma import plot
 from cdma.bits import Bits, bit_text, bits
 from cdma.cells import Cell, make, read_script
 from cdma.chips import Chips, load, save
+from cdma.domains import CodeDomain, code_domain
 from cdma.errors import Error, FileError, NoProgramError, ParameterError, ScriptError
 from cdma.events import Event, Frame, Page, Pilot, PilotSets, Rank, RawMessage, Sync, Table, TrafficMessage
+from cdma.explaining import Explanation, explain, margin
+from cdma.locking import Lock, RecordedPath, lock
 from cdma.programs import use_model, use_program
 from cdma.receiving import Run, find, follow, survey
+from cdma.recordings import Recording, record
 from cdma_tools import __version__
+from cdma_tools.analysis.cell_table import CellFacts
+from cdma_tools.margins import Margin
 
 __all__ = [
     "Bits",
     "Cell",
+    "CellFacts",
     "Chips",
+    "CodeDomain",
     "Error",
     "Event",
+    "Explanation",
     "FileError",
     "Frame",
+    "Lock",
+    "Margin",
     "NoProgramError",
     "Page",
     "ParameterError",
@@ -38,6 +50,8 @@ __all__ = [
     "PilotSets",
     "Rank",
     "RawMessage",
+    "RecordedPath",
+    "Recording",
     "Run",
     "ScriptError",
     "Sync",
@@ -46,11 +60,17 @@ __all__ = [
     "__version__",
     "bit_text",
     "bits",
+    "code_domain",
+    "explain",
     "find",
     "follow",
     "load",
+    "lock",
     "make",
+    "margin",
+    "plot",
     "read_script",
+    "record",
     "save",
     "survey",
     "use_model",

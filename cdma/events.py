@@ -158,7 +158,7 @@ EVENTS: tuple[type[Event], ...] = (Pilot, Rank, Sync, Page, Frame, TrafficMessag
 KINDS = {kind.first: kind for kind in EVENTS}
 NAMES = {kind: frozenset(field.name for field in dataclasses.fields(kind)) for kind in EVENTS}
 FLAGS = ("good", "report")  # fields that are true or false
-EventType = TypeVar("EventType", bound=Event)
+RowType = TypeVar("RowType")
 
 
 def plain(value: Any) -> Any:
@@ -186,8 +186,8 @@ def event_of(line: str) -> Event:
     return kind(**values)
 
 
-class Table(list[EventType]):
-    """A list of events of one kind, which a notebook shows as a table."""
+class Table(list[RowType]):
+    """A list of events of one kind, or of other rows, which a notebook shows as a table."""
 
     def to_pandas(self) -> Any:
         """Returns a `pandas.DataFrame` with a column for each field; raises `cdma.Error` without pandas."""
@@ -202,9 +202,10 @@ class Table(list[EventType]):
         return html_table(rows_of(self[:MOST_SHOWN]), len(self))
 
 
-def rows_of(events: Iterable[Event]) -> list[dict[str, Any]]:
-    """Returns the fields of events by their names, without the line's first word."""
-    return [{name: value for name, value in event.to_dict().items() if name != "line"} for event in events]
+def rows_of(rows: Iterable[Any]) -> list[dict[str, Any]]:
+    """Returns the fields of rows by their names; those of events are without the line's first word."""
+    found = [row.to_dict() if isinstance(row, Event) else dataclasses.asdict(row) for row in rows]
+    return [{name: value for name, value in fields.items() if name != "line"} for fields in found]
 
 
 def html_table(rows: list[dict[str, Any]], count: int, shown: Callable[[Any], str] = str) -> str:

@@ -1,10 +1,13 @@
 """Parameters: values are checked by the bounds of the program's options, whose names they have."""
 
+import argparse
+import numbers
 import operator
+import re
 from collections.abc import Mapping
-from typing import SupportsIndex
+from typing import Any, NoReturn, SupportsIndex
 
-from cdma.errors import ParameterError
+from cdma.errors import ParameterError, as_errors
 from cdma_tools.scripting import arguments
 from cdma_tools.scripting.values import Wrong
 
@@ -56,3 +59,40 @@ def option_words(command: str, values: Mapping[str, object]) -> list[str]:
         name, _, reason = fault.replace("--", "").partition(" ")
         raise ParameterError(name, reason)
     return words
+
+
+def parsed(parser: Any, words: list[str]) -> argparse.Namespace:
+    """Returns the options that a command's parser reads; raises ParameterError in place of ending the process."""
+
+    def refuse(message: str) -> NoReturn:
+        named = re.search(r"--([a-z][a-z0-9-]*)", message)
+        name = named[1].replace("-", "_") if named else "arguments"
+        raise ParameterError(name, re.sub(r"^argument [^:]*: ", "", message))
+
+    parser.error = refuse
+    with as_errors():
+        options: argparse.Namespace = parser.parse_args(words)
+    return options
+
+
+def words_of(values: Mapping[str, object]) -> list[str]:
+    """Returns parameters as options of a command line: none for None and False, one for each part of a list."""
+    words = []
+    for name, value in values.items():
+        option = f"--{name.replace('_', '-')}"
+        if value is True:
+            words.append(option)
+        elif isinstance(value, list):
+            words += [f"{option}={text_of(part)}" for part in value]
+        elif value is not None and value is not False:
+            words.append(f"{option}={text_of(value)}")
+    return words
+
+
+def text_of(value: object) -> str:
+    """Returns a value as an option has it; the parts of a tuple stand between colons."""
+    if isinstance(value, tuple):
+        return ":".join(text_of(part) for part in value)
+    if isinstance(value, numbers.Real) and not isinstance(value, numbers.Rational):
+        return repr(float(value))
+    return str(value)

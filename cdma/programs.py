@@ -5,7 +5,7 @@ import sys
 from dataclasses import dataclass
 
 import model
-from cdma.errors import Error, NoProgramError, as_errors
+from cdma.errors import NoProgramError, as_errors
 from cdma_tools.errors import Refused
 from cdma_tools.program import NAME, VARIABLE, checked_program, find_program
 
@@ -74,5 +74,13 @@ def program_path() -> str:
     """Returns the path of the program, for what runs it by itself; raises Error if the model is chosen."""
     found = chosen()
     if found.modules:
-        raise Error("this needs the program cdma_replay: cdma.use_model() chose the model")
+        raise NoProgramError("this needs the program cdma_replay: cdma.use_model() chose the model")
     return found.words[0]
+
+
+def path_or_none() -> str | None:
+    """Returns the path of the program, None if there is none or the model is chosen."""
+    try:
+        return program_path()
+    except NoProgramError:
+        return None

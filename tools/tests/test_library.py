@@ -62,7 +62,7 @@ class Chosen(unittest.TestCase):
 class Examples(unittest.TestCase):
     """The examples of all docstrings."""
 
-    seconds = 5
+    seconds = 15
 
     def test_examples(self) -> None:
         count = 0
@@ -250,7 +250,7 @@ class Commands(unittest.TestCase):
     @classmethod
     def setUpClass(cls) -> None:
         choose()
-        text = Path(EXAMPLES, "call.script").read_text("ascii").replace("samples=3686400", "samples=1843200")
+        text = Path(EXAMPLES, "call.script").read_text("ascii").replace("samples=3686400", "samples=983040")
         cls.cell = cdma.Cell.from_script(text)
         cls.chips = cdma.make(cls.cell)
         cls.file = command("make", data=text.encode())[1]

@@ -1,0 +1,126 @@
+"""The code domain: the power of each Walsh row, and how well a cell sends (docs/RADIO.md, "Code domain")."""
+
+import contextlib
+import os
+import tempfile
+from dataclasses import dataclass
+from typing import Any
+
+import numpy
+from numpy.typing import NDArray
+
+from cdma.chips import Source, save
+from cdma.errors import as_errors
+from cdma.events import html_table
+from cdma.locking import Lock
+from cdma.programs import path_or_none
+from cdma_tools.analysis.measuring import Analysis, analysis_of_chips, analysis_of_file, seen_lock
+from cdma_tools.analysis.telling import figures_of, levels_of
+from cdma_tools.recordings import Recording
+
+
+@dataclass(frozen=True, repr=False)
+class CodeDomain:
+    """The 64 Walsh rows of a cell, and the quality of its waveform.
+
+    The arrays have shape (64,), one number for each row:
+
+    - `db` is the row's power in dB of all power, without the noise in it, and `total_db` the same with it.
+    - `sigma` is by how many standard deviations of noise the row stands out, and `used` whether it is in use.
+    - `degrees` and `chips` are its phase and time relative to the pilot.
+
+    `frames`, shape (n, 64), has the power of each row in each frame of 20 ms in dB of the frame's power. `kinds` are
+    `pilot`, `sync`, `paging`, `other` and `none`; a row is called paging if the program decodes a message on it.
+    `rho` is the cell's share of all power, and `error_vector` the root mean square of the error relative to what is
+    sent. `figures` has all figures of `tools/domain` by their names.
+    """
+
+    rho: float
+    error_vector: float
+    figures: dict[str, Any]
+    kinds: tuple[str, ...]
+    db: NDArray[numpy.float64]
+    total_db: NDArray[numpy.float64]
+    sigma: NDArray[numpy.float64]
+    used: NDArray[numpy.bool_]
+    degrees: NDArray[numpy.float64]
+    chips: NDArray[numpy.float64]
+    frames: NDArray[numpy.float64]
+    analysis: Analysis
+
+    def rows(self) -> list[dict[str, Any]]:
+        """Returns the rows in use, each with its number, kind and figures."""
+        return [
+            {"row": row, "kind": self.kinds[row], "db": round(float(self.db[row]), 2),
+             "total_db": round(float(self.total_db[row]), 2), "sigma": round(float(self.sigma[row]), 1),
+             "degrees": round(float(self.degrees[row]), 2), "chips": round(float(self.chips[row]), 4)}
+            for row in numpy.flatnonzero(self.used).tolist()
+        ]  # fmt: skip
+
+    def __repr__(self) -> str:
+        """Returns rho and the number of rows in use."""
+        return f"<CodeDomain: rho {self.rho:.4f}, {int(self.used.sum())} rows in use>"
+
+    def _repr_html_(self) -> str:
+        """Returns the rows in use as an HTML table."""
+        rows = self.rows()
+        return f"<p>rho {self.rho:.4f}</p>" + html_table(rows, len(rows))
+
+
+def code_domain(source: Lock | Source) -> CodeDomain:
+    """Returns the code domain of a lock, of chips, or of the sample file at a path.
+
+    For a lock to the strongest cell, the figures also have what the radio adds: carrier, clock, paths and imbalance.
+    Raises `cdma.Error` if there are too few chips, or no pilot stands out.
+
+    >>> cell = cdma.Cell(pn=3, gain=100, samples=122_880)
+    >>> cell.add_sync(gain=50)
+    >>> domain = cdma.code_domain(cdma.make(cell))
+    >>> domain.kinds[0], domain.kinds[32], domain.used.nonzero()[0].tolist()
+    ('pilot', 'sync', [0, 32])
+    >>> round(float(domain.db[0] - domain.db[32]), 1)  # 20 log(100 / 50)
+    6.0
+    """
+    with tempfile.TemporaryDirectory(prefix="domain-") as folder, as_errors():
+        if isinstance(source, (str, os.PathLike)):
+            return domain_of(analysis_of_file(os.fspath(source), path_or_none(), lambda part, text: None))
+        path = os.path.join(folder, "cell.is95")
+        save(source.chips if isinstance(source, Lock) else source, path)
+        if isinstance(source, Lock) and source.kept.held is not None:
+            return domain_of(analysis_of_lock(source, path))
+        return domain_of(analysis_of_file(path, path_or_none(), lambda part, text: None))
+
+
+def analysis_of_lock(lock: Lock, path: str) -> Analysis:
+    """Returns the analysis of a lock, whose chips are in the file at a path."""
+    kept, held = lock.kept, lock.kept.held
+    assert held is not None
+    options = kept.options
+    recording = Recording(kept.path, options.kind, float(options.rate), options.skip, held.is_conjugate)
+    with contextlib.closing(recording):
+        held.front.recording = recording
+        seen = seen_lock(held, lock.lost)
+    return analysis_of_chips(path, seen, path_or_none())
+
+
+def domain_of(analysis: Analysis) -> CodeDomain:
+    """Returns an analysis as arrays."""
+    rows = sorted(analysis.domain.rows, key=lambda row: row.row)
+
+    def column(name: str) -> NDArray[Any]:
+        return numpy.array([getattr(row, name) for row in rows])
+
+    return CodeDomain(
+        rho=analysis.rho,
+        error_vector=analysis.error_vector,
+        figures=figures_of(analysis),
+        kinds=tuple(analysis.kinds.get(row.row, "none") for row in rows),
+        db=column("db"),
+        total_db=column("total_db"),
+        sigma=column("sigma"),
+        used=column("is_used"),
+        degrees=column("degrees"),
+        chips=column("chips"),
+        frames=levels_of(analysis.domain.frames),
+        analysis=analysis,
+    )

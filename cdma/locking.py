@@ -1,0 +1,222 @@
+"""Locks: from a radio's recording to chips, and what was found on the way (docs/RADIO.md)."""
+
+import contextlib
+import os
+import tempfile
+from dataclasses import dataclass, field
+from fractions import Fraction
+from typing import IO, Any
+
+import numpy
+from numpy.typing import NDArray
+
+from cdma.chips import Chips, read_samples
+from cdma.errors import ParameterError, as_errors
+from cdma.events import Table, html_table
+from cdma.parameters import parsed, words_of
+from cdma.programs import path_or_none, program_path
+from cdma.recordings import Recording
+from cdma_tools.analysis import importing
+from cdma_tools.analysis.cell_table import CellFacts, table_of_cells
+from cdma_tools.analysis.cells import Search
+from cdma_tools.commands import import_capture
+from cdma_tools.radio import locking
+from cdma_tools.radio.plain import assumed, recording_told, with_hints
+
+RecordingSource = Recording | NDArray[Any] | str | os.PathLike[str]  # an array of complex numbers, or a path
+
+
+@dataclass(frozen=True)
+class RecordedPath:
+    """A path: its delay in chips, and its level in dB below the strongest."""
+
+    delay: float
+    level: float
+
+
+@dataclass(frozen=True)
+class Held:
+    """What a lock keeps for measurements on the same recording: where its samples are, and how they were followed."""
+
+    path: str
+    options: locking.Options
+    held: locking.Held | None
+    source: object  # keeps a temporary file open
+
+
+@dataclass(frozen=True, repr=False)
+class Lock:
+    """The result of a lock: `chips` of one base station, and the figures of the line that the tool writes.
+
+    `carrier_hz` is the carrier above the middle, and `drift` its rise in Hz per second. `clock_ppm` is by how many
+    millionths the radio's clock is slow. `phase` is the code phase of the first chip, `ec_io_db` the pilot's share of
+    all power, `lost` the number of chips that were lost, and `scale` the factor of the samples. `remarks` has what the
+    tool says besides. `cells` has a row for each cell, if they were asked for.
+    """
+
+    chips: Chips
+    carrier_hz: float
+    drift: float
+    clock_ppm: float
+    phase: int
+    ec_io_db: float
+    paths: tuple[RecordedPath, ...]
+    equaliser: bool
+    conjugate: bool
+    lost: int
+    scale: float
+    remarks: tuple[str, ...]
+    cells: Table[CellFacts]
+    line: str
+    kept: Held = field(compare=False)
+
+    def __str__(self) -> str:
+        """Returns the line that the tool writes."""
+        return self.line
+
+    def __repr__(self) -> str:
+        """Returns the main figures."""
+        return (
+            f"<Lock: carrier {self.carrier_hz:.1f} Hz, clock {self.clock_ppm:.3f} ppm, Ec/Io {self.ec_io_db:.2f} dB,"
+            f" {len(self.paths)} paths, {len(self.chips):,} chips>"
+        )
+
+    def _repr_html_(self) -> str:
+        """Returns the figures as an HTML table."""
+        figures = [one.partition("=") for one in self.line.split(" ")]
+        rows = [{"figure": name, "value": value} for name, _, value in figures]
+        return html_table(rows, len(rows))
+
+
+@contextlib.contextmanager
+def as_path(recording: RecordingSource, given: dict[str, object]) -> Any:
+    """Yields the path of a recording, with what keeps it; adds its type and its rate to the parameters."""
+    if isinstance(recording, (str, os.PathLike)):
+        yield os.fspath(recording), None
+        return
+    if given["type"] is not None:
+        raise ParameterError("type", "a path needs it; other recordings have their own")
+    if isinstance(recording, Recording):
+        given |= {"type": recording.type, "rate": recording.exact_rate}
+        yield recording.path, recording
+        return
+    array = numpy.asarray(recording)
+    if array.ndim != 1 or array.dtype.kind != "c":
+        shape = f"{array.dtype} of shape {array.shape}"
+        raise ParameterError("recording", f"a row of complex numbers is needed, not {shape}")
+    if given["rate"] is None:
+        raise ParameterError("rate", "an array needs it")
+    file = tempfile.TemporaryFile()
+    array.astype("<c8").tofile(file)
+    file.flush()
+    given["type"] = "cf32_le"
+    kept = Recording(file, "cf32_le", Fraction(1), 0, "", {})
+    yield kept.path, kept
+
+
+def lock(
+    recording: RecordingSource,
+    *,
+    type: str | None = None,
+    rate: float | Fraction | None = None,
+    capture: int | None = None,
+    skip: int = 0,
+    shift: float | None = None,
+    search: float | None = None,
+    conjugate: str | None = None,
+    equaliser: str | None = None,
+    fingers: int | None = None,
+    count: int | None = None,
+    scale: float | None = None,
+    bits: int = 16,
+    complement_30: bool = False,
+    complement_16: bool = False,
+    cell: int | None = None,
+    pn: int | None = None,
+    cells: int | None = None,
+) -> Lock:
+    """Returns the lock to the strongest pilot of a recording, or to another cell of it.
+
+    `recording` is a `cdma.Recording`, or the path of a `.sigmf-meta`, a `.sigmf`, a `.wav`, or of raw samples of `type`
+    and `rate`. It may also be an array of complex numbers, shape (n,), with `rate`. The other parameters are the
+    options of `tools/import_capture --lock`:
+
+    - `capture` chooses one of several captures. `skip` leaves out samples, and `count` is the greatest number of chips.
+    - The carrier is searched `search` Hz to each side of `shift`. `conjugate` and `equaliser` are `yes`, `no` or `try`.
+    - `fingers`, 1 to 3, is the number of paths for which the instants are chosen.
+    - `scale` multiplies the samples, and `bits` is 16 or 8. `complement_30` and `complement_16` are flags of the chips.
+    - `cell`, from 1 on, takes the cell of that rank without the stronger ones; `pn` takes the one of a pilot offset.
+    - `cells` also fills the table of that many cells, which takes longer.
+
+    Raises `cdma.ParameterError` for a wrong parameter, and `cdma.Error` if no pilot stands out or a file can't be read.
+
+    >>> cell = cdma.Cell(pn=3, samples=614_400)
+    >>> recording = cdma.record(cdma.make(cell), type="cu8", carrier=1500, clock_ppm=3, ec_io=-6)
+    >>> lock = cdma.lock(recording)
+    >>> round(lock.carrier_hz), round(lock.clock_ppm), round(lock.ec_io_db)
+    (1500, 3, -6)
+    """
+    given: dict[str, object] = {
+        "type": type, "rate": rate, "capture": capture, "skip": skip, "shift": shift, "search": search,
+        "conjugate": conjugate, "equaliser": equaliser, "fingers": fingers, "count": count, "scale": scale,
+        "format": {16: 1, 8: 2}.get(bits, bits), "complement_30": complement_30, "complement_16": complement_16,
+        "cell": cell, "pn": pn, "cells": cells,
+    }  # fmt: skip
+    if bits not in (8, 16):
+        raise ParameterError("bits", f"8 or 16 is needed, not {bits!r}")
+    with as_path(recording, given) as (path, source):
+        parser = import_capture.parser()
+        options = parsed(parser, [*words_of(given), "--lock", "--", path, "-"])
+        import_capture.check_words(parser, options)
+        with as_errors():
+            return locked(options, source)
+
+
+def locked(options: Any, source: object) -> Lock:
+    """Returns the lock that the tool's options ask for."""
+    kind, rate, path = recording_told(options)
+    hints = assumed(options, kind, path)
+    asked = import_capture.lock_options(options, kind, rate)
+    held: list[locking.Held] = []
+    with with_hints(hints), tempfile.TemporaryFile() as file:
+        if options.pn is not None or (options.cell or 1) > 1:
+            found, said = taken(path, asked, options, file)
+        else:
+            found, said = locking.lock(path, asked, file, look=lambda one, _: held.append(one)), []
+        file.seek(0)
+        chips = read_samples(file)
+    found = found._replace(said=(*hints, *said))
+    kept = Held(path, asked, held[0] if held else None, source)
+    return Lock(
+        chips=chips,
+        carrier_hz=found.carrier_hz,
+        drift=found.drift,
+        clock_ppm=found.clock_ppm,
+        phase=found.phase,
+        ec_io_db=found.ec_io_db,
+        paths=tuple(RecordedPath(way.delay, way.level) for way in found.paths),
+        equaliser=found.equaliser,
+        conjugate=found.conjugate,
+        lost=found.lost,
+        scale=found.scale,
+        remarks=tuple(found.remarks()),
+        cells=cells_of(kept, options.cells or 0),
+        line=found.line(),
+        kept=kept,
+    )
+
+
+def taken(path: str, asked: locking.Options, options: Any, file: IO[bytes]) -> importing.Taken:
+    """Writes the chips of one cell of several."""
+    program = None if options.pn is None else program_path()
+    with tempfile.TemporaryDirectory(prefix="cells-") as folder:
+        return importing.take(path, asked, importing.Wanted(options.cell, options.pn, program), file, folder)
+
+
+def cells_of(kept: Held, count: int) -> Table[CellFacts]:
+    """Returns the table of up to `count` cells."""
+    if not count:
+        return Table()
+    with tempfile.TemporaryDirectory(prefix="cells-") as folder:
+        with Search(kept.path, kept.options, folder, first=kept.held) as search:
+            return Table(table_of_cells(search, count, path_or_none(), lambda done: None))
