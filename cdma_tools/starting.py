@@ -23,6 +23,7 @@ COMMANDS = (
     ("conformance", "conformance/run", "cdma-conformance"),
     ("margin", "tools/margin", "cdma-margin"),
     ("listen", "tools/listen", "cdma-listen"),
+    ("view", "tools/view", "cdma-view"),
     ("domain", "tools/domain", "cdma-domain"),
     ("adapt", "tools/adapt", "cdma-adapt"),
     ("script", "tools/script", "cdma-script"),

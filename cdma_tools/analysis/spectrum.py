@@ -6,7 +6,7 @@ import numpy
 from numpy.typing import NDArray
 from scipy import fft
 
-from cdma_tools.recordings import Recording
+from cdma_tools.recordings import Kind, Recording
 
 # Bins of a transform, rows of time, and transforms that are averaged for a row: they lie evenly in the row's time.
 BINS, ROWS, AVERAGED = 256, 160, 24
@@ -20,10 +20,18 @@ class Spectrum(NamedTuple):
     rows: NDArray[numpy.float64]
 
 
-def full_scale(recording: Recording) -> float:
-    """The greatest part of the recording's type."""
-    form = numpy.dtype(recording.kind.form)
-    return 1.0 if form.kind == "f" else float(numpy.iinfo(form).max) - recording.kind.middle
+def full_scale_of(kind: Kind) -> float:
+    """The greatest part of a type of samples."""
+    form = numpy.dtype(kind.form)
+    return 1.0 if form.kind == "f" else float(numpy.iinfo(form).max) - kind.middle
+
+
+def window_of(scale: float) -> NDArray[numpy.float64]:
+    """Returns the window of a transform, by which the powers of all bins add up to the mean power; `scale` is 1."""
+    from scipy.signal.windows import hann  # takes half a second to load, and is wanted here alone
+
+    window: NDArray[numpy.float64] = hann(BINS, sym=False)
+    return window / (numpy.sqrt(BINS * numpy.sum(window**2)) * scale)
 
 
 def decibels(power: NDArray[numpy.float64]) -> NDArray[numpy.float64]:
@@ -34,11 +42,8 @@ def decibels(power: NDArray[numpy.float64]) -> NDArray[numpy.float64]:
 
 def spectrum_of(recording: Recording) -> Spectrum:
     """The spectrum of a recording: of a long one, of some moments in each part of its time."""
-    from scipy.signal.windows import hann  # takes half a second to load, and is wanted here alone
-
     rows = min(ROWS, max(1, recording.count // (BINS * AVERAGED)))
-    window = hann(BINS, sym=False)
-    window /= numpy.sqrt(BINS * numpy.sum(window**2)) * full_scale(recording)
+    window = window_of(full_scale_of(recording.kind))
     length = recording.count / rows
     powers = numpy.empty((rows, BINS))
     for row in range(rows):

@@ -131,15 +131,32 @@ def add_tuning(words: argparse.ArgumentParser) -> None:
     radio.add_argument("--agc", action="store_true", help="let the radio set its gain by itself")
 
 
-def parser() -> Parser:
-    """The arguments of the command line."""
-    words = Parser("listen", __doc__)
+def add_source(words: argparse.ArgumentParser) -> None:
+    """The source, its samples, and the program that follows."""
     source = "a file of samples, a .sigmf-meta, .sigmf or .wav, -, or the address of a live source"
     words.add_argument("source", type=InputFile, metavar="SOURCE", help=source)
     kinds = "how the samples are kept; not with a .sigmf-meta, a .sigmf or a .wav"
     words.add_argument("--type", type=type_named, choices=TYPES, metavar="TYPE", help=f"{kinds}: {', '.join(TYPES)}")
     rates = "samples a second, as 2400000 or 2.4M; with a .sigmf-meta only where it tells none"
     words.add_argument("--rate", type=Within(rational, CHIP_RATE, MOST_RATE), metavar="N", help=rates)
+    add_program_option(words)
+    add_capture_option(words)
+
+
+def add_lock(words: argparse.ArgumentParser) -> None:
+    """The arguments that say where the pilot is searched."""
+    lock = words.add_argument_group("the lock")
+    middle = "search the first carrier around one that lies HZ above the middle (default 0)"
+    lock.add_argument("--shift", type=number_within(-MOST_SHIFT, MOST_SHIFT), default=0.0, metavar="HZ", help=middle)
+    add_search_options(lock)
+    sent = "whether the base station has a phase equaliser (default try)"
+    lock.add_argument("--equaliser", choices=TRIES, default="try", help=sent)
+
+
+def parser() -> Parser:
+    """The arguments of the command line."""
+    words = Parser("listen", __doc__)
+    add_source(words)
     words.add_argument("--json", action="store_true", help="write objects, with their time in UTC")
     out = "add the lines to a file, and continue after those already there"
     words.add_argument("--out", type=OutputFile, metavar="FILE", help=out)
@@ -151,16 +168,9 @@ def parser() -> Parser:
     words.add_argument("--pcapng", type=OutputFile, metavar="FILE", help=packets)
     notes = "write the recording's .sigmf-meta with notes on what was decoded; for a file of samples"
     words.add_argument("--meta", type=UpdatedFile, metavar="FILE", help=notes)
-    add_program_option(words)
-    add_capture_option(words)
     add_tuning(words)
     add_handset(words)
-    lock = words.add_argument_group("the lock")
-    middle = "search the first carrier around one that lies HZ above the middle (default 0)"
-    lock.add_argument("--shift", type=number_within(-MOST_SHIFT, MOST_SHIFT), default=0.0, metavar="HZ", help=middle)
-    add_search_options(lock)
-    sent = "whether the base station has a phase equaliser (default try)"
-    lock.add_argument("--equaliser", choices=TRIES, default="try", help=sent)
+    add_lock(words)
     shared = words.add_argument_group("files of samples")
     lasts = f"seconds of a part (default {PART:.0f})"
     shared.add_argument("--part", type=number_within(LEAST_PART, MOST_PART), default=PART, metavar="S", help=lasts)
@@ -199,15 +209,20 @@ def check_source(words: argparse.ArgumentParser, options: argparse.Namespace) ->
         words.error(fault)
 
 
-def check(words: argparse.ArgumentParser, options: argparse.Namespace) -> None:
-    """Ends with status 2 if arguments don't go together."""
-    check_source(words, options)
+def check_handset(words: argparse.ArgumentParser, options: argparse.Namespace) -> None:
+    """Ends with status 2 if arguments of the handset don't go together."""
     if (options.esn is None) != (options.row is None):
         words.error("--esn and --row need each other")
     if options.offset is not None and options.row is None:
         words.error("--offset needs --esn and --row")
     if options.row in (SYNC_ROW, options.paging):
         words.error(f"--row {options.row} is the row of the sync channel or of the paging channel")
+
+
+def check(words: argparse.ArgumentParser, options: argparse.Namespace) -> None:
+    """Ends with status 2 if arguments don't go together."""
+    check_source(words, options)
+    check_handset(words, options)
     if options.append and options.out is None:
         words.error("--append needs --out")
     if options.meta is not None and not options.meta.endswith(META):
@@ -230,9 +245,13 @@ def lock_options(options: argparse.Namespace, kind: str, rate: Fraction, is_live
     )  # fmt: skip
 
 
+def flags_of(options: argparse.Namespace) -> int:
+    """Returns the flags of sample files: which checks of messages are sent complemented."""
+    return (1 if options.complement_30 else 0) | (2 if options.complement_16 else 0)
+
+
 def handset_of(options: argparse.Namespace) -> Handset:
     """The handset that follows."""
-    flags = (1 if options.complement_30 else 0) | (2 if options.complement_16 else 0)
     return Handset(
         program=find_program(options.program),
         fingers=options.fingers,
@@ -241,7 +260,7 @@ def handset_of(options: argparse.Namespace) -> Handset:
         row=options.row,
         offset=options.offset or 0,
         is_raw=bool(options.raw),
-        flags=flags,
+        flags=flags_of(options),
     )
 
 
@@ -254,6 +273,12 @@ def counts_of(options: argparse.Namespace) -> dict[str, int]:
 def tuning_of(options: argparse.Namespace) -> Tuning:
     """How a radio is to be tuned."""
     return Tuning(frequency_given(options), options.gain, options.ppm, options.bias_tee, options.agc)
+
+
+def check_there(options: argparse.Namespace) -> None:
+    """Refuses a file that isn't there."""
+    if scheme_of(options.source) is None and options.source != STANDARD:
+        os.stat(options.source)
 
 
 def source_of(options: argparse.Namespace) -> Stream | Recording:

@@ -1,0 +1,195 @@
+"""What a page shows of a listening, in bounded memory: the last lines, spectra and figures, and the newest panels.
+
+Lines, spectra and remarks are numbered. A page gets those after the last one that it has; if those were dropped
+meanwhile it gets the oldest that are kept, and the number of the missing ones.
+"""
+
+import json
+import os
+import tempfile
+from collections import Counter, deque
+from collections.abc import Iterator
+from dataclasses import dataclass, field
+from typing import Any, Generic, TypeVar
+
+from cdma_tools.heard_run import CHIP_RATE
+from cdma_tools.lines import BY_WORDS, ORIGIN, TIME_NAME, Field, Group, NoLine, Shape, spell_line
+from cdma_tools.listening.events import Event
+from cdma_tools.listening.system_time import time_told
+from cdma_tools.report.heard_lines import Thinned
+from cdma_tools.report.meaning import MEANINGS, rows_of
+from cdma_tools.view.steps import MarkTold
+
+# Lines, rows of the waterfall, remarks and points of the figures over time that are kept.
+MOST_LINES, MOST_SPECTRA, MOST_REMARKS, MOST_POINTS = 5_000, 150, 200, 600
+# Sync messages whose time is kept: more than the 27 seconds of chips have.
+MOST_MARKS = 400
+# Messages that tell who the base station is, by their lines' words, and the names of their tables.
+IDENTITY = {("sync", None): "Sync message", ("paging", "system"): "System Parameters"}
+# Figures that are shown over time.
+FIGURES = ("ec_io_db", "carrier_hz", "clock_ppm", "rho")
+
+Thing = TypeVar("Thing")
+
+
+class Numbered(Generic[Thing]):
+    """The last things of a kind, with numbers from 0 on."""
+
+    def __init__(self, most: int) -> None:
+        """None yet; at most `most` are kept."""
+        self.kept: deque[Thing] = deque(maxlen=most)
+        self.count = 0
+
+    def add(self, thing: Thing) -> None:
+        """Takes the next one."""
+        self.kept.append(thing)
+        self.count += 1
+
+    @property
+    def first(self) -> int:
+        """Returns the number of the oldest one that is kept."""
+        return self.count - len(self.kept)
+
+    def at(self, number: int) -> Thing | None:
+        """Returns the one of a number, None if it isn't kept."""
+        return self.kept[number - self.first] if self.first <= number < self.count else None
+
+    def since(self, number: int, most: int) -> Iterator[tuple[int, Thing]]:
+        """Yields up to `most` of those from a number on, with their numbers."""
+        begin = max(number, self.first)
+        for place in range(begin, min(self.count, begin + most)):
+            yield place, self.kept[place - self.first]
+
+
+@dataclass(frozen=True)
+class KeptLine:
+    """A line: its kind in words, the second at which it was known, its text, its time in UTC, and its object."""
+
+    kind: str
+    seconds: float
+    text: str
+    utc: str
+    read: dict[str, Any] = field(repr=False)
+
+    def shown(self, number: int) -> dict[str, Any]:
+        """Returns what a table shows of it."""
+        told = {"n": number, "kind": self.kind, "seconds": round(self.seconds, 4), "text": self.text, "utc": self.utc}
+        if self.kind == "frame":
+            told |= {"rate": self.read["rate"], "good": self.read["good"]}
+        return told
+
+
+def fields_of(shape: Shape, read: dict[str, Any]) -> Iterator[Field]:
+    """Yields the fields that a line has."""
+    for part in (*shape.head, *shape.body):
+        for one in part.fields if isinstance(part, Group) else (part,):
+            if one.name in read:
+                yield one
+
+
+def field_rows(read: dict[str, Any]) -> list[list[str]]:
+    """Returns the fields of a line: the name, the value as the line has it, and the meaning."""
+    shape = BY_WORDS[read["line"], read.get("message", read.get("channel") if read["line"] == "raw" else None)]
+    rows = []
+    for one in fields_of(shape, read):
+        value = read[one.name]
+        meaning = MEANINGS.get(one.meaning)
+        is_named = meaning is not None and not isinstance(value, list)
+        told = meaning(value, read) if is_named and meaning is not None else ""
+        rows.append([one.meaning if is_named else one.name, one.form.spell(value), told or one.meaning])
+    return rows
+
+
+class LinesFile:
+    """All lines in a file without a name, which may be read while it grows."""
+
+    def __init__(self) -> None:
+        """An empty file."""
+        self.file = tempfile.TemporaryFile(prefix="cdma-view-", buffering=1 << 16)
+
+    def add(self, data: bytes) -> None:
+        """Adds a line."""
+        self.file.write(data)
+
+    @property
+    def path(self) -> str:
+        """Returns a path by which this process can open it again."""
+        self.file.flush()
+        return f"/proc/{os.getpid()}/fd/{self.file.fileno()}"
+
+
+class Kept:
+    """What is known of one listening so far."""
+
+    def __init__(self, name: str) -> None:
+        """Nothing yet of a source, which has a name."""
+        self.name = name
+        self.lines = Numbered[KeptLine](MOST_LINES)
+        self.spectra = Numbered[dict[str, Any]](MOST_SPECTRA)
+        self.remarks = Numbered[dict[str, Any]](MOST_REMARKS)
+        self.counts: Counter[str] = Counter()
+        self.file = LinesFile()
+        self.figures: dict[str, Any] = {}
+        self.identity: dict[str, list[list[str]]] = {}
+        self.panels: dict[str, tuple[int, Any]] = {}  # each with its version
+        self.history: Thinned[list[float | None]] = Thinned(MOST_POINTS)
+        self.ended: dict[str, Any] | None = None
+        self.base = self.end = 0  # chips: of the first line of this stream, and of the last one
+        self.pilot: int | None = None  # PILOT_PN of the last sync message
+        self.has_pages = False
+        self.marks: deque[MarkTold] = deque(maxlen=MOST_MARKS)  # by the chips of lines
+        self.row: int | None = None  # of the traffic channel, as the last pilot sets tell it
+
+    def take(self, data: bytes) -> None:
+        """Takes a message of the listening: a line, or another one."""
+        told = json.loads(data)
+        kind = told.pop("view", None)
+        if kind is None:
+            self.take_line(data, told)
+        elif kind == "spectrum":
+            self.spectra.add(told)
+        elif kind == "remark":
+            self.remarks.add(told)
+        else:
+            self.set_panel(kind, told)
+            self.figures = told if kind == "figures" else self.figures
+            self.ended = told if kind == "ended" else self.ended
+
+    def take_line(self, data: bytes, read: dict[str, Any]) -> None:
+        """Takes a line of the listening, and its object."""
+        self.file.add(data)
+        try:
+            text = spell_line(read)
+        except NoLine:
+            return
+        if read["line"] == ORIGIN:
+            self.base = self.end
+        at = self.base + read.get("at", 0)
+        self.end = max(self.end, at)
+        kind = " ".join([read["line"], *([read["message"]] if "message" in read else [])])
+        self.counts[kind if kind != "frame" else f"frame {read['rate']}{'' if read['good'] else ' bad'}"] += 1
+        self.lines.add(KeptLine(kind, at / CHIP_RATE, text, read.pop(TIME_NAME, ""), read))
+        self.learn(read, text)
+
+    def learn(self, read: dict[str, Any], text: str) -> None:
+        """Notes what a line tells of the base station, of its time, and of the traffic channel's row."""
+        words = read["line"], read.get("message")
+        if words[0] == "sync":
+            self.pilot = read["pn"]
+            if time := time_told(Event(read["at"], text)):
+                self.marks.append(MarkTold.of(time, read))
+        if words[0] == "sets":
+            self.row = next((row for pn, row, _ in read["active"] if pn == self.pilot), self.row)
+        self.has_pages = self.has_pages or words[0] == "paging"
+        if name := IDENTITY.get(words):
+            self.identity[name] = [list(row) for row in rows_of(BY_WORDS[words], read)]
+            self.set_panel("identity", self.identity)
+
+    def set_panel(self, name: str, content: Any) -> None:
+        """Takes the newest content of a panel."""
+        version = self.panels[name][0] + 1 if name in self.panels else 1
+        self.panels[name] = version, content
+
+    def add_point(self, seconds: float, told: dict[str, Any]) -> None:
+        """Adds a point to the figures over time."""
+        self.history.add([seconds, *(told.get(name) for name in FIGURES)])

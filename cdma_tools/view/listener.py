@@ -1,0 +1,170 @@
+"""The process of a listening, which tells the page's server what it hears."""
+
+import argparse
+import contextlib
+import os
+import signal
+import sys
+import time
+from collections.abc import Iterator
+
+from cdma_tools.commands import listen
+from cdma_tools.errors import Refused, printable, text_of
+from cdma_tools.frequencies import frequency_given
+from cdma_tools.json_lines import LONGEST, as_json, as_line
+from cdma_tools.lines import NoLine
+from cdma_tools.listening.line_writer import Already
+from cdma_tools.listening.live import Stream
+from cdma_tools.listening.parts import Recording
+from cdma_tools.radio.search_policy import policy_of
+from cdma_tools.report.heard_lines import is_lines
+from cdma_tools.sources import is_described, stored_of
+from cdma_tools.starting import INTERRUPTED
+from cdma_tools.view.chip_store import ChipKeeper, ChipStore
+from cdma_tools.view.outbox import Outbox
+from cdma_tools.view.paced import PacedRecording
+from cdma_tools.view.watched import PageWriter, WatchedStream
+
+FAILED = 1
+
+
+class NoOutput:
+    """An output of lines that go to the page: there is no file that could be opened again."""
+
+    already = Already()
+
+    def write(self, data: bytes) -> None:
+        """Nothing is written here."""
+
+    def reopen(self) -> None:
+        """Leaves it as it is."""
+
+    def close(self) -> None:
+        """Leaves it as it is."""
+
+
+def shows_lines(options: argparse.Namespace) -> bool:
+    """Whether the source is a file of lines that a listening wrote."""
+    return options.type is None and not is_described(options.source) and is_lines(options.source)
+
+
+def lines_in(path: str) -> Iterator[bytes]:
+    """Yields the lines of a file as `listen --json` writes them; refuses what is no line."""
+    with open(path, encoding="ascii", errors="replace") as file:
+        number = 0
+        while text := file.readline(LONGEST):
+            number += 1
+            try:
+                text = text.rstrip("\n")
+                if text.startswith("{"):
+                    as_line(text)
+                else:
+                    text = as_json(text)
+            except NoLine as why:
+                raise Refused(f"{path}: line {number} is none: {why}") from None
+            yield text.encode("ascii") + b"\n"
+
+
+def tell_lines(options: argparse.Namespace, outbox: Outbox) -> str:
+    """Tells the lines of a file, and returns how it ended."""
+    count = 0
+    for line in lines_in(options.source):
+        outbox.line(line)
+        count += 1
+    return f"all {count:,} lines were read"
+
+
+def middle_of(options: argparse.Namespace) -> float | None:
+    """Returns the frequency in Hz of the samples' middle, if the command line or the recording tells it."""
+    if is_described(options.source):
+        return stored_of(options.source, options.rate, options.capture).frequency
+    return frequency_given(options)
+
+
+def tell_listening(options: argparse.Namespace, outbox: Outbox, store: ChipStore) -> str:
+    """Listens, and returns how it ended in words; refuses a source in which no pilot was found."""
+    source = listen.source_of(options)
+    handset, counts = listen.handset_of(options), listen.counts_of(options)
+    is_live = not isinstance(source, Recording)
+    stream: Stream
+    if isinstance(source, Recording):
+        lock, stream = source.lock, PacedRecording.of(source, options.speed)
+    else:
+        lock, stream = listen.lock_options(options, source.kind, source.rate, is_live=is_live), source
+    outbox.may_wait = not is_live
+    writer = PageWriter(outbox, counts)
+    outbox.tell("source", rate=float(stream.rate), type=stream.kind, frequency=middle_of(options))
+    watched = WatchedStream(lock, handset, writer, outbox, ChipKeeper(store))
+    watched.hear(stream, NoOutput())
+    if not watched.listening.is_heard:
+        policy = policy_of(options)
+        raise Refused(f"no pilot stands out anywhere {policy.searched(options.shift)}{policy.advice}")
+    return watched.summary()
+
+
+def run(options: argparse.Namespace, outbox: Outbox, store: ChipStore) -> int:
+    """Tells all there is to tell, and its end; returns the exit status."""
+    status, text = FAILED, ""
+    try:
+        if shows_lines(options):
+            outbox.may_wait = True
+            text = tell_lines(options, outbox)
+        else:
+            text = tell_listening(options, outbox, store)
+        status = 0
+    except Refused as why:
+        text = str(why)
+    except OSError as why:
+        text = text_of(why)
+    except MemoryError:
+        text = "out of memory"
+    except KeyboardInterrupt:
+        status, text = INTERRUPTED, "broken off"
+    with contextlib.suppress(KeyboardInterrupt):
+        outbox.close("ended", status=status, text=printable(text))
+    return status
+
+
+class ListenerProcess:
+    """A child of this process that listens; SIGTERM ends it in order, a second one breaks it off."""
+
+    def __init__(self, options: argparse.Namespace, store: ChipStore, closed: list[int]) -> None:
+        """Starts it; `closed` are descriptors of files that are not the child's."""
+        self.reader, writer = os.pipe()
+        sys.stdout.flush()
+        sys.stderr.flush()
+        self.number = os.fork()
+        if self.number:
+            os.close(writer)
+            return
+        try:
+            signal.signal(signal.SIGINT, signal.SIG_IGN)  # Ctrl-C in a terminal comes to the server, which passes it on
+            for descriptor in (self.reader, *closed):
+                os.close(descriptor)
+            status = run(options, Outbox(writer, may_wait=False), store)
+            sys.stderr.flush()
+            os._exit(status)
+        finally:
+            os._exit(FAILED)
+
+    def stop(self) -> None:
+        """Ends it in order, or breaks it off if it is ending already."""
+        with contextlib.suppress(ProcessLookupError):
+            os.kill(self.number, signal.SIGTERM)
+
+    def wait(self, seconds: float) -> int:
+        """Returns its status; kills it if it hasn't ended after some seconds."""
+        until = time.monotonic() + seconds
+        while time.monotonic() < until:
+            ended, status = os.waitpid(self.number, os.WNOHANG)
+            if ended:
+                return status_told(status)
+            time.sleep(0.02)
+        os.kill(self.number, signal.SIGKILL)
+        return status_told(os.waitpid(self.number, 0)[1])
+
+
+def status_told(status: int) -> int:
+    """Returns an exit status of a process, FAILED if a signal ended it."""
+    code = os.waitstatus_to_exitcode(status)
+    return code if code >= 0 else FAILED

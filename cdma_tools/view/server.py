@@ -1,0 +1,456 @@
+"""The server of the page: it takes what a listening tells, and sends it to each browser at most ten times a second."""
+
+import asyncio
+import gzip
+import importlib.util
+import json
+import os
+import secrets
+import signal
+import socket
+import time
+from concurrent.futures import ThreadPoolExecutor
+from typing import Any
+
+from tornado.httpserver import HTTPServer
+from tornado.ioloop import PeriodicCallback
+from tornado.iostream import PipeIOStream, StreamClosedError
+from tornado.netutil import bind_sockets
+from tornado.web import Application, HTTPError, RequestHandler
+from tornado.websocket import WebSocketClosedError, WebSocketHandler
+
+from cdma_tools.errors import Refused, said
+from cdma_tools.report.heard_lines import heard_lines
+from cdma_tools.starting import INTERRUPTED, called
+from cdma_tools.view.chip_store import ChipStore, Extent
+from cdma_tools.view.kept import Kept, KeptLine, field_rows
+from cdma_tools.view.listener import ListenerProcess
+from cdma_tools.view.outbox import message_of
+from cdma_tools.view.safety import Door
+from cdma_tools.view.steps import WHY_NONE, FrameAsked, Handset, steps_text
+from cdma_tools.view.waveform import WHOLE, Measured, Wanted, measured
+
+HERE = os.path.dirname(os.path.abspath(__file__))
+# Seconds from one update of a browser to the next, and from one measurement to the next.
+UPDATE_EVERY, MEASURE_EVERY = 0.1, 0.5
+# Lines of an update, and of the first one; rows of a waterfall of one update.
+MOST_LINES, FIRST_LINES, MOST_ROWS = 200, 500, 10
+MOST_VIEWERS = 16
+LONGEST_MESSAGE, LONGEST_LINE = 1_000, 1 << 20  # bytes: of a browser's request, and of the listening's
+# Seconds for which a listening may take to end, and a browser to take its end.
+ENDING, LAST_WORDS = 60.0, 1.0
+ASSETS = {"view.js": "text/javascript", "view.css": "text/css"}
+PIECE = 1 << 16  # bytes of a file that are sent at once
+DEBIAN_PLOTLY = "/usr/share/python3-plotly/plotly.js"
+PACKING = 6  # the level to which it is compressed
+
+
+class Hub:
+    """One listening, and the browsers that watch it."""
+
+    plotly: "asyncio.Future[bytes]"  # Plotly's script, compressed
+
+    def __init__(self, name: str, store: ChipStore, handset: Handset, row: int | None) -> None:
+        """No browser watches yet of the source of a name; the traffic channel begins on a row."""
+        self.kept, self.store, self.handset, self.row = Kept(name), store, handset, row
+        self.number = secrets.token_hex(8)  # of this run, by which a page knows a new one
+        self.viewers: set[Viewer] = set()
+        self.worker, self.explainer = ThreadPoolExecutor(max_workers=1), ThreadPoolExecutor(max_workers=1)
+        self.measured = Extent(0, 0)  # chips that were measured last
+        self.is_measuring = False
+        self.counted = 0  # lines of the counts that were sent
+
+    @property
+    def extent(self) -> Extent:
+        """Returns the chips that are kept."""
+        return Extent(*self.kept.figures.get("chips", (0, 0)))
+
+    async def take_all(self, descriptor: int) -> None:
+        """Takes all that the listening tells."""
+        stream = PipeIOStream(descriptor, max_buffer_size=4 * LONGEST_LINE)
+        try:
+            while True:
+                self.kept.take(await stream.read_until(b"\n", max_bytes=LONGEST_LINE))
+        except StreamClosedError:
+            pass
+        finally:
+            stream.close()
+        if self.kept.ended is None:
+            self.kept.take(message_of("ended", status=1, text="the listening's process was killed"))
+
+    def update(self) -> None:
+        """Sends each browser what is new."""
+        kept = self.kept
+        if self.viewers and kept.counts.total() != self.counted:
+            self.counted = kept.counts.total()
+            kept.set_panel("counts", dict(kept.counts))
+        for viewer in list(self.viewers):
+            viewer.update()
+
+    async def measure(self) -> None:
+        """Measures the last chips, if there are new ones."""
+        extent = self.extent
+        if self.is_measuring or extent.end - extent.first < WHOLE or extent == self.measured:
+            return
+        self.is_measuring, self.measured = True, extent
+        wanted = Wanted(
+            self.handset.paging if self.kept.has_pages else None, self.kept.pilot, self.kept.figures.get("kept", 1.0)
+        )
+        seconds = self.kept.figures["seconds"]
+        try:
+            loop = asyncio.get_running_loop()
+            told = await loop.run_in_executor(self.worker, self.measure_chips, extent.last(WHOLE), wanted)
+        finally:
+            self.is_measuring = False
+        if told is not None:
+            for name, panel in told.panels.items():
+                self.kept.set_panel(name, panel)
+            self.kept.set_panel("quality", told.figures)
+            self.kept.add_point(seconds, {**self.kept.figures, **told.figures})
+
+    async def steps(self, line: KeptLine) -> str:
+        """Returns the steps of the frame in which a line ends, or why there are none."""
+        asked = FrameAsked.of(line.read, line.read.get("at", 0))
+        if asked is None or not self.extent.end:
+            return WHY_NONE
+        origin, row = self.kept.figures["origin"], self.kept.row or self.row
+        extent = Extent(self.extent.first - origin, self.extent.end - origin)
+        loop = asyncio.get_running_loop()
+        words = self.store, extent, asked, list(self.kept.marks), self.handset, row, origin
+        return await loop.run_in_executor(self.explainer, steps_text, *words)
+
+    def measure_chips(self, extent: Extent, wanted: Wanted) -> Measured | None:
+        """Returns what chips show; runs in a thread of its own."""
+        return measured(self.store.samples(extent), extent.first, wanted)
+
+
+class Guarded(RequestHandler):
+    """A handler that answers only requests of the server's own page."""
+
+    door: Door
+    hub: Hub
+    needs_origin = False
+
+    def initialize(self, door: Door, hub: Hub) -> None:
+        """Takes what the server knows."""
+        self.door, self.hub = door, hub
+
+    def set_default_headers(self) -> None:
+        """Sets what each answer has: what the page may do, and that nobody else may use it."""
+        self.clear_header("Server")
+        self.set_header("X-Content-Type-Options", "nosniff")
+        self.set_header("Referrer-Policy", "no-referrer")
+        self.set_header("Cross-Origin-Resource-Policy", "same-origin")
+        self.set_header("Cross-Origin-Opener-Policy", "same-origin")
+        self.set_header("Cache-Control", "no-store")
+
+    def prepare(self) -> None:
+        """Refuses a request that isn't of the own page."""
+        host = self.request.headers.get("Host", "")
+        if not self.door.is_own_host(host):
+            raise HTTPError(403)
+        if not self.door.is_own_origin(self.request.headers, self.needs_origin):
+            raise HTTPError(403)
+        if not self.door.is_token(self.path_kwargs.get("token") or ""):
+            raise HTTPError(404)
+        self.set_header("Content-Security-Policy", self.door.policy(host))
+
+    def write_error(self, status_code: int, **more: Any) -> None:
+        """Answers with a status and its name, and nothing of the request."""
+        self.set_header("Content-Type", "text/plain; charset=utf-8")
+        self.finish(f"{status_code} {self._reason}\n")
+
+    def log_exception(self, *_: Any) -> None:
+        """Leaves out what a request did wrong."""
+
+
+class Page(Guarded):
+    """The page."""
+
+    def get(self, token: str | None = None) -> None:
+        """Sends the page."""
+        with open(os.path.join(HERE, "page.html"), "rb") as file:
+            self.set_header("Content-Type", "text/html; charset=utf-8")
+            self.write(file.read())
+
+
+class Asset(Guarded):
+    """The page's script and style."""
+
+    def get(self, name: str, token: str | None = None) -> None:
+        """Sends a file of the package."""
+        with open(os.path.join(HERE, name), "rb") as file:
+            self.set_header("Content-Type", f"{ASSETS[name]}; charset=utf-8")
+            self.write(file.read())
+
+
+def plotly_path() -> str:
+    """Returns the path of Plotly's script, that of Debian or that of the package; Refused if there is none.
+
+    The package itself isn't imported here, since it loads much that only its figures need.
+    """
+    found = importlib.util.find_spec("plotly")
+    folders = found.submodule_search_locations or [] if found is not None else []
+    paths = [DEBIAN_PLOTLY, *(os.path.join(folder, "package_data", "plotly.min.js") for folder in folders)]
+    path = next((path for path in paths if os.path.isfile(path)), None)
+    if path is None:
+        raise Refused("no plotly: install the package python3-plotly, and run /usr/bin/python3")
+    return path
+
+
+def packed_plotly() -> bytes:
+    """Returns Plotly's script, compressed."""
+    with open(plotly_path(), "rb") as file:
+        return gzip.compress(file.read(), PACKING)
+
+
+class Plotly(Guarded):
+    """Plotly's script."""
+
+    async def get(self, token: str | None = None) -> None:
+        """Sends it compressed, as every browser takes it."""
+        self.set_header("Content-Type", "text/javascript; charset=utf-8")
+        self.set_header("Content-Encoding", "gzip")
+        self.write(await self.hub.plotly)
+
+
+class Saved(Guarded):
+    """A file of what was heard so far."""
+
+    async def get(self, name: str, token: str | None = None) -> None:
+        """Sends the lines, a report of them, or the last chips as a sample file."""
+        kinds = {"lines.jsonl": "application/x-ndjson", "report.html": "text/html; charset=utf-8"}
+        self.set_header("Content-Type", kinds.get(name, "application/octet-stream"))
+        self.set_header("Content-Disposition", f'attachment; filename="{name}"')
+        if name == "lines.jsonl":
+            await self.send_lines()
+            return
+        loop = asyncio.get_running_loop()
+        made = self.report if name == "report.html" else self.sample_file
+        self.write(await loop.run_in_executor(self.hub.worker, made))
+
+    async def send_lines(self) -> None:
+        """Sends all lines so far, some at a time."""
+        with open(self.hub.kept.file.path, "rb") as file:
+            while data := file.read(PIECE):
+                self.write(data)
+                await self.flush()
+
+    def report(self) -> bytes:
+        """Returns the report of all lines so far."""
+        from cdma_tools.report.lines_page import page_of_lines  # takes seconds to load, with all of Plotly
+
+        return page_of_lines(self.hub.kept.name, heard_lines(self.hub.kept.file.path)).encode()
+
+    def sample_file(self) -> bytes:
+        """Returns the sample file of the last chips."""
+        return self.hub.store.sample_file(self.hub.extent.last())
+
+
+class Viewer(Guarded, WebSocketHandler):
+    """A browser that watches."""
+
+    needs_origin = True
+
+    def check_origin(self, origin: str) -> bool:
+        """Leaves it to `prepare`, which has looked at it."""
+        return True
+
+    async def get(self, *words: Any, **named: Any) -> None:
+        """Opens the connection, unless as many browsers watch as may."""
+        if len(self.hub.viewers) >= MOST_VIEWERS:
+            raise HTTPError(503)
+        await super().get(*words, **named)
+
+    def open(self, *_: Any, **__: Any) -> None:
+        """Sends what there is, and from now on what is new."""
+        self.set_nodelay(True)
+        kept = self.hub.kept
+        self.line, self.remark = max(kept.lines.first, kept.lines.count - FIRST_LINES), kept.remarks.first
+        self.spectrum, self.point = kept.spectra.first, 0
+        self.versions: dict[str, int] = {}
+        self.missed = 0  # lines and rows that were dropped before they could be sent
+        self.sending: asyncio.Future[None] | None = None
+        self.is_explaining = False
+        hello = {"run": self.hub.number, "name": kept.name, "source": {}, "history": kept.history.kept}
+        self.point = kept.history.count
+        self.send({"hello": hello, **self.news()})
+        self.hub.viewers.add(self)
+
+    def on_close(self) -> None:
+        """Forgets it."""
+        self.hub.viewers.discard(self)
+
+    async def on_message(self, message: str | bytes) -> None:
+        """Answers a click on a line: with its fields, or with the steps of its frame."""
+        asked = asked_for(message)
+        if asked is None:
+            self.close(1003)
+            return
+        what, number = asked
+        line = self.hub.kept.lines.at(number)
+        if what == "line":
+            rows = field_rows(line.read) if line is not None else []
+            self.send({"fields": {"line": number, "text": line.text if line is not None else "", "rows": rows}})
+        elif line is not None and not self.is_explaining:
+            self.is_explaining = True
+            try:
+                self.send({"steps": {"line": number, "text": await self.hub.steps(line)}})
+            finally:
+                self.is_explaining = False
+
+    def send(self, told: dict[str, Any]) -> None:
+        """Sends something."""
+        try:
+            self.sending = self.write_message(json.dumps(told, separators=(",", ":")))
+        except WebSocketClosedError:
+            self.hub.viewers.discard(self)
+
+    def update(self) -> None:
+        """Sends what is new, unless the last update is still on its way."""
+        if self.sending is not None and not self.sending.done():
+            return
+        if self.sending is not None and self.sending.exception() is not None:
+            self.hub.viewers.discard(self)
+            return
+        if news := self.news():
+            self.send(news)
+
+    def news(self) -> dict[str, Any]:
+        """Returns what this browser doesn't have yet, as much as an update may hold."""
+        kept, told = self.hub.kept, dict[str, Any]()
+        self.missed += max(0, kept.lines.first - self.line)
+        most = MOST_LINES if self.versions else FIRST_LINES
+        if lines := [line.shown(number) for number, line in kept.lines.since(self.line, most)]:
+            told["lines"] = lines
+        self.line = max(self.line, kept.lines.first) + len(lines)
+        begin = max(self.spectrum, kept.spectra.count - MOST_ROWS) if self.versions else self.spectrum
+        self.missed += max(0, begin - self.spectrum)
+        if rows := [row for _, row in kept.spectra.since(begin, len(kept.spectra.kept))]:
+            told["spectra"] = rows
+        self.spectrum = kept.spectra.count
+        if remarks := [remark for _, remark in kept.remarks.since(self.remark, len(kept.remarks.kept))]:
+            told["remarks"] = remarks
+        self.remark = kept.remarks.count
+        if kept.history.count > self.point and kept.history.kept:
+            told["points"] = kept.history.kept[-1:]
+            self.point = kept.history.count
+        for name, (version, content) in kept.panels.items():
+            if self.versions.get(name) != version:
+                self.versions[name] = version
+                told[name] = content
+        if told and self.missed:
+            told["missed"] = self.missed
+        return told
+
+
+def asked_for(message: str | bytes) -> tuple[str, int] | None:
+    """Returns what a browser asks for, fields ("line") or steps of a line, and its number; None if it is neither."""
+    try:
+        asked = json.loads(message)
+    except (ValueError, RecursionError):
+        return None
+    if not isinstance(asked, dict) or len(asked) != 1:
+        return None
+    what, number = next(iter(asked.items()))
+    return (what, number) if what in ("line", "steps") and type(number) is int else None
+
+
+def bound(address: str, port: int) -> list[socket.socket]:
+    """Returns sockets that listen; refuses a port that is taken, or an address that isn't this machine's."""
+    try:
+        return bind_sockets(port, address or None, reuse_port=False)
+    except (OSError, OverflowError) as why:
+        raise Refused(f"{address} port {port}: {getattr(why, 'strerror', None) or why}") from None
+
+
+def application(door: Door, hub: Hub) -> Application:
+    """Returns what answers requests."""
+    shared = {"door": door, "hub": hub}
+    start = r"/(?:(?P<token>[\w-]{8,64})/)?" if door.token else "/"
+    files = "|".join(name.replace(".", r"\.") for name in ASSETS)
+    return Application(
+        [
+            (start, Page, shared),
+            (rf"{start}(?P<name>{files})", Asset, shared),
+            (rf"{start}plotly\.js", Plotly, shared),
+            (rf"{start}events", Viewer, shared),
+            (rf"{start}save/(?P<name>lines\.jsonl|report\.html|samples\.is95)", Saved, shared),
+        ],
+        log_function=lambda handler: None,
+        websocket_ping_interval=10,
+        websocket_max_message_size=LONGEST_MESSAGE,
+    )
+
+
+class Serving:
+    """The server of one listening, up to its end."""
+
+    def __init__(self, hub: Hub, listener: ListenerProcess, is_ending: bool) -> None:
+        """With `is_ending` it ends with the listening, otherwise with an interrupt."""
+        self.hub, self.listener, self.is_ending = hub, listener, is_ending
+        self.interrupts = 0
+        self.interrupted = asyncio.Event()
+
+    def interrupt(self) -> None:
+        """Ends the listening in order; the next time, or if it has ended, the server."""
+        self.interrupts += 1
+        self.interrupted.set()
+        if self.hub.kept.ended is None:
+            self.listener.stop()
+
+    async def serve(self, sockets: list[socket.socket], door: Door) -> int:
+        """Serves the page, and returns the exit status."""
+        loop = asyncio.get_running_loop()
+        self.hub.plotly = loop.run_in_executor(self.hub.worker, packed_plotly)
+        for number in (signal.SIGINT, signal.SIGTERM):
+            if signal.getsignal(number) is not signal.SIG_IGN:
+                loop.add_signal_handler(number, self.interrupt)
+        server = HTTPServer(application(door, self.hub), max_buffer_size=1 << 16, max_header_size=1 << 14)
+        server.add_sockets(sockets)
+        ticks = [
+            PeriodicCallback(self.hub.update, 1_000 * UPDATE_EVERY),
+            PeriodicCallback(self.hub.measure, 1_000 * MEASURE_EVERY),
+        ]
+        for tick in ticks:
+            tick.start()
+        await self.hub.take_all(self.listener.reader)
+        status = await self.end_of_listening()
+        if not self.is_ending and not self.interrupts:
+            await self.interrupted.wait()
+        await self.last_words()
+        for tick in ticks:
+            tick.stop()
+        server.stop()
+        return status
+
+    async def end_of_listening(self) -> int:
+        """Says how the listening ended, and returns its status."""
+        loop = asyncio.get_running_loop()
+        status = await loop.run_in_executor(None, self.listener.wait, ENDING)
+        ended = self.hub.kept.ended or {}
+        if status != INTERRUPTED:
+            more = "" if self.is_ending or self.interrupts else "; the page stays until Ctrl-C"
+            said(called("view"), f"{ended.get('text', '')}{more}")
+        return status
+
+    async def last_words(self) -> None:
+        """Lets the browsers take the end."""
+        self.hub.update()
+        until = time.monotonic() + LAST_WORDS
+        while time.monotonic() < until and any(
+            viewer.sending is not None and not viewer.sending.done() for viewer in self.hub.viewers
+        ):
+            await asyncio.sleep(UPDATE_EVERY)
+        for viewer in list(self.hub.viewers):
+            viewer.close(1001)
+
+
+def serve(hub: Hub, listener: ListenerProcess, sockets: list[socket.socket], door: Door, is_ending: bool) -> int:
+    """Serves the page of a listening, and returns the exit status."""
+    status = asyncio.run(Serving(hub, listener, is_ending).serve(sockets, door))
+    for worker in (hub.worker, hub.explainer):
+        worker.shutdown(wait=False, cancel_futures=True)
+    if status == INTERRUPTED:
+        raise KeyboardInterrupt
+    return status

@@ -1,0 +1,141 @@
+"""The steps in which a frame of the last chips was decoded, as `explain` shows them, by the model of `model/`.
+
+The search and the mark of a handset are not made again: the chips' numbers tell the code's phase, and a sync message
+that the listening has decoded tells the system time and the state of the long code.
+"""
+
+from dataclasses import dataclass
+from typing import Any
+
+import numpy
+
+from cdma_tools.commands.explain import text_of
+from cdma_tools.explaining.frame_steps import NoFrame, Steps, paging_steps, sync_steps, traffic_steps
+from cdma_tools.listening.notes import FRAME
+from cdma_tools.listening.system_time import SUPERFRAME, SystemTime
+from cdma_tools.radio.air import PERIOD
+from cdma_tools.view.chip_store import ChipStore, Extent
+from model.files import Capture
+from model.handset import Assigned, Mark
+from model.search import Found
+
+# Chips before a frame in which the messages begin that go on in it, and those after it by which it is decoded.
+BEFORE, AFTER = 10 * FRAME, 2 * FRAME
+# Chips before the mark that a window has, so that paths that come early lie in it.
+MARGIN = 1_024
+GROUP = 1_536  # chips of a power control group, in which FRAME_OFFSET counts
+WHY_NONE = "The steps need samples: the last 27 seconds of chips, and a sync message in them."
+
+
+@dataclass(frozen=True)
+class Handset:
+    """The handset that listened: its paging channel, and the serial number and FRAME_OFFSET of its traffic channel."""
+
+    paging: int
+    esn: str | None
+    offset: int
+    flags: int  # of sample files: whether checks of messages are sent complemented
+
+
+@dataclass(frozen=True)
+class MarkTold:
+    """A sync message's time and state of the long code, and the chip at which they hold."""
+
+    chip: int
+    read: dict[str, Any]
+
+    @classmethod
+    def of(cls, time: SystemTime, read: dict[str, Any]) -> "MarkTold":
+        """Returns the mark of a sync message that tells a time."""
+        return cls(time.base + SUPERFRAME * time.told, read)
+
+    def in_window(self, begin: int) -> Mark:
+        """Returns the model's mark in a window that begins at a chip."""
+        read = self.read
+        return Mark(self.chip - begin, read["time"], int(read["lc"], 16), read["pn"], read["prat"])
+
+
+@dataclass(frozen=True)
+class FrameAsked:
+    """A frame: the kind of its line, and its first chip."""
+
+    line: str
+    first: int
+
+    @classmethod
+    def of(cls, read: dict[str, Any], chip: int) -> "FrameAsked | None":
+        """Returns the frame in which a line that was known at a chip ends; None of a line of another kind.
+
+        Frames of the sync and paging channels are known when the next one has come.
+        """
+        lengths = {"sync": 2 * PERIOD, "paging": 2 * FRAME, "frame": FRAME, "traffic": FRAME}
+        return cls(read["line"], chip - lengths[read["line"]]) if read["line"] in lengths else None
+
+
+def mark_before(marks: list[MarkTold], first: int, extent: Extent) -> MarkTold | None:
+    """Returns the last mark that lies some frames before a frame, or just before it; None if none is kept."""
+    kept = [mark for mark in marks if extent.first + MARGIN <= mark.chip <= first + MARGIN]
+    early = [mark for mark in kept if mark.chip <= first - BEFORE]
+    return early[-1] if early else kept[0] if kept else None
+
+
+def steps_text(
+    store: ChipStore,
+    extent: Extent,
+    asked: FrameAsked,
+    marks: list[MarkTold],
+    handset: Handset,
+    row: int | None,
+    origin: int,
+) -> str:
+    """Returns the steps of a frame in lines, or why they can't be shown.
+
+    `row` is that of the traffic channel. All chips count from the recording's start, which has number `origin` in the
+    store.
+    """
+    mark = mark_before(marks, asked.first, extent)
+    if asked.line == "sync":
+        begin = max(extent.first, asked.first - 16 * PERIOD)
+    elif mark is None:
+        return WHY_NONE
+    else:
+        begin = mark.chip - MARGIN
+    if asked.first < begin or asked.first >= extent.end:
+        return WHY_NONE
+    window = Extent(begin, min(extent.end, asked.first + 2 * PERIOD + AFTER))
+    samples = store.samples(Extent(window.first + origin, window.end + origin)).astype(numpy.complex128)
+    capture = Capture(bool(handset.flags & 1), bool(handset.flags & 2), len(samples), samples, None)
+    found = Found((begin + origin) % PERIOD, 0, [0])
+    try:
+        steps = steps_of(capture, found, asked, begin, mark, handset, row)
+    except NoFrame as why:
+        return str(why)
+    return "\n".join(text_of(steps)) if steps is not None else WHY_NONE
+
+
+def steps_of(
+    capture: Capture,
+    found: Found,
+    asked: FrameAsked,
+    begin: int,
+    mark: MarkTold | None,
+    handset: Handset,
+    row: int | None,
+) -> Steps | None:
+    """Returns the steps of a frame in a window that begins at a chip; None if its channel isn't followed."""
+    if asked.line == "sync":
+        return sync_steps(capture, found, nearest(asked.first - begin - -found.phase % PERIOD, PERIOD))
+    if mark is None:
+        return None
+    own, since = mark.in_window(begin), asked.first - mark.chip
+    if asked.line == "paging":
+        return paging_steps(capture, found, own, handset.paging, nearest(since, FRAME))
+    if handset.esn is None or row is None:
+        return None
+    assigned = Assigned(int(handset.esn, 16), row, handset.offset)
+    return traffic_steps(capture, found, own, assigned, nearest(since - GROUP * handset.offset, FRAME), rate_set=1)
+
+
+def nearest(chips: int, length: int) -> int:
+    """Returns the number of frames of a length in some chips, which a path may come early or late."""
+    return round(chips / length)

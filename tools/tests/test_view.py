@@ -1,0 +1,459 @@
+"""Tests of tools/view without a browser: what the page is told, whom the server answers, and how the command ends."""
+
+from __future__ import annotations
+
+import asyncio
+import json
+import os
+import re
+import signal
+import socket
+import subprocess
+import time
+import unittest
+import urllib.error
+import urllib.request
+from collections.abc import Callable
+from typing import Any, ClassVar
+
+from tools.tests.helping import HEADER, PYTHON, ROOT, needs, run_inside, temporary_folder
+
+needs("numpy", "scipy", "tornado", "plotly")
+
+import numpy  # noqa: E402
+from numpy.typing import NDArray  # noqa: E402
+from tornado.httpclient import HTTPClientError, HTTPRequest  # noqa: E402
+from tornado.websocket import WebSocketClientConnection, websocket_connect  # noqa: E402
+
+from cdma_tools.analysis.spectrum import BINS  # noqa: E402
+from cdma_tools.listening.pieces import Chips  # noqa: E402
+from cdma_tools.radio.air import PERIOD  # noqa: E402
+from cdma_tools.view.chip_store import CHIP_BYTES, MOST, ROOM, ChipKeeper, ChipStore, Extent  # noqa: E402
+from cdma_tools.view.kept import MOST_LINES, Kept, Numbered  # noqa: E402
+from cdma_tools.view.safety import Door  # noqa: E402
+from cdma_tools.view.spectrum_rows import SpectrumRows  # noqa: E402
+from cdma_tools.view.waveform import WHOLE, Measured, Wanted, measured  # noqa: E402
+from tools.tests.radio_helping import code, whole_cell  # noqa: E402
+from tools.tests.report_fixture import FOLLOWED  # noqa: E402
+
+SECONDS = 120  # that a server may take to start on a busy machine
+TOOL = [PYTHON, "-B", os.path.join(ROOT, "tools", "view")]
+PAGE_MOST = 10  # updates a second
+
+
+class TheChips(unittest.TestCase):
+    """The file of the last chips."""
+
+    def setUp(self) -> None:
+        self.store = ChipStore()
+        self.addCleanup(self.store.file.close)
+        self.keeper = ChipKeeper(self.store)
+
+    def test_around_the_end_of_the_space(self) -> None:
+        """Chips on both sides of the space's end are read as they were written."""
+        chips = numpy.random.default_rng(1).integers(-100, 100, 4_000).astype(">i2").tobytes()
+        self.keeper.add(Chips(ROOM - 700, chips))
+        self.assertEqual(self.keeper.extent, Extent(ROOM - 700, ROOM + 1_300))
+        self.assertEqual(self.store.read(Extent(ROOM - 700, ROOM + 1_300)), chips)
+        self.assertEqual(self.store.read(Extent(ROOM - 1, ROOM + 1)), chips[699 * CHIP_BYTES : 701 * CHIP_BYTES])
+
+    def test_lost_chips_are_zeros(self) -> None:
+        self.keeper.add(Chips(10, bytes([1]) * 40))
+        self.keeper.add(Chips(25, bytes([2]) * 40))
+        self.assertEqual(self.keeper.extent, Extent(10, 35))
+        self.assertEqual(self.store.read(self.keeper.extent), bytes([1]) * 40 + bytes(20) + bytes([2]) * 40)
+
+    def test_only_the_last_ones_count(self) -> None:
+        self.keeper.add(Chips(0, bytes(4)))
+        self.keeper.add(Chips(MOST, bytes(8)))
+        self.assertEqual(self.keeper.extent, Extent(2, MOST + 2))
+        self.keeper.add(Chips(3 * MOST, bytes(8)))
+        self.assertEqual(self.keeper.extent, Extent(3 * MOST, 3 * MOST + 2))
+
+    def test_a_new_beginning(self) -> None:
+        self.keeper.add(Chips(500, bytes(40)))
+        self.keeper.restart()
+        self.keeper.add(Chips(7, bytes(8)))
+        self.assertEqual(self.keeper.extent, Extent(7, 9))
+
+    def test_a_sample_file(self) -> None:
+        chips = numpy.arange(-6, 6).astype(">i2").tobytes()
+        self.keeper.add(Chips(99, chips))
+        self.assertEqual(self.store.sample_file(self.keeper.extent), HEADER.pack(b"IS95", 1, 0, 6) + chips)
+
+
+class TheSpectrum(unittest.TestCase):
+    def test_a_tone(self) -> None:
+        """A tone of a sixteenth of the rate lies a sixteenth above the middle, with nothing far from it."""
+        turns = numpy.exp(2j * numpy.pi * numpy.arange(8_192) / 16)
+        parts = (127.5 + 100 * numpy.stack([turns.real, turns.imag], axis=1)).round().astype("u1").tobytes()
+        row = SpectrumRows("cu8").row(parts)
+        assert row is not None
+        self.assertEqual(int(row.argmax()), BINS // 2 + BINS // 16)
+        self.assertLess(float(row[: BINS // 2 - 8].max()), float(row.max()) - 40)
+
+    def test_the_power(self) -> None:
+        """All bins together have the mean power against full scale: of noise with a spread of 1,000 of 32,767."""
+        parts = numpy.random.default_rng(2).normal(0, 1_000, 2 * 60_000).round().astype("<i2").tobytes()
+        row = SpectrumRows("ci16_le").row(parts)
+        assert row is not None
+        self.assertAlmostEqual(float((10 ** (row / 10)).sum()), 2 * (1_000 / 32_767) ** 2, delta=1e-4)
+
+    def test_too_few_samples_and_strange_numbers(self) -> None:
+        self.assertIsNone(SpectrumRows("cu8").row(bytes(2 * BINS - 1)))
+        strange = numpy.full(2 * BINS, numpy.nan, dtype="<f4")
+        row = SpectrumRows("cf32_le").row(strange.tobytes())
+        assert row is not None
+        self.assertTrue(numpy.isfinite(row).all())
+
+
+class TheWaveform(unittest.TestCase):
+    """Panels of made chips: a pilot of 100, sync of 40, paging of 80 and row 10 of 70, in noise."""
+
+    noise, phase = 60.0, 12_345
+    chips: ClassVar[NDArray[numpy.complex64]]
+    told: ClassVar[Measured]
+
+    @classmethod
+    def setUpClass(cls) -> None:
+        draws = numpy.random.default_rng(7)
+        chips = whole_cell(WHOLE, phase=cls.phase)
+        # A second cell of half the amplitude, whose code comes 5 steps and 3 chips later.
+        chips = chips + 0.5 * whole_cell(WHOLE, seed=9, phase=(cls.phase - 5 * 64 - 3) % PERIOD)
+        chips = chips + draws.normal(0, cls.noise, WHOLE) + 1j * draws.normal(0, cls.noise, WHOLE)
+        cls.chips = chips.astype(numpy.complex64)
+        told = measured(cls.chips, cls.phase, Wanted(1, 20, 1.0))
+        assert told is not None
+        cls.told = told
+
+    def test_rows_in_use(self) -> None:
+        domain = self.told.panels["domain"]
+        self.assertEqual(domain["used"], [0, 1, 10, 32])
+        kinds = {row: domain["kinds"][row] for row in domain["used"]}
+        self.assertEqual(kinds, {0: "pilot", 1: "paging", 10: "other", 32: "sync"})
+        self.assertEqual(domain["kinds"].count("not in use"), 60)
+
+    def test_ec_io(self) -> None:
+        """The pilot's 2 x 100^2 of all power: of both cells and the noise."""
+        cell = 2 * (100**2 + 40**2 + 80**2 + 70**2)
+        wanted = 10 * numpy.log10(2 * 100**2 / (1.25 * cell + 2 * self.noise**2))
+        # The pulse's sides, which made chips don't have, are taken off: 2.27 % of what the cell sends.
+        self.assertAlmostEqual(self.told.figures["ec_io_db"], wanted, delta=0.12)
+
+    def test_cells(self) -> None:
+        panel = self.told.panels["cells"]
+        self.assertTrue(panel["is_known"])
+        first, second = panel["cells"]
+        self.assertEqual((first["pn"], first["delay"]), (20, 0))
+        self.assertEqual((second["pn"], second["delay"]), (25, 3))
+        self.assertEqual(first["ec_io_db"], self.told.figures["ec_io_db"])
+        self.assertAlmostEqual(second["ec_io_db"] - first["ec_io_db"], -6.02, delta=0.6)
+
+    def test_correlation(self) -> None:
+        panel = self.told.panels["correlation"]
+        best = panel["deltas"][int(numpy.argmax(panel["levels"]))]
+        self.assertEqual(best, 0)
+        self.assertEqual(sum(level >= panel["floor_db"] for level in panel["levels"]), 1)
+
+    def test_symbols(self) -> None:
+        """The sync channel's symbols lie at 0.4 of the pilot on both sides, those of paging at 0.8."""
+        for name, amplitude in (("pilot", 1.0), ("sync", 0.4), ("paging", 0.8)):
+            real, imaginary = (numpy.array(part) for part in self.told.panels["symbols"][name])
+            self.assertAlmostEqual(float(numpy.abs(real).mean()), amplitude, delta=0.1)
+            self.assertLess(abs(float(imaginary.mean())), 0.05)
+            self.assertEqual(bool((real < 0).any()), name != "pilot")
+
+    def test_nothing_to_measure(self) -> None:
+        wanted = Wanted(None, None, 1.0)
+        self.assertIsNone(measured(numpy.zeros(WHOLE, dtype=numpy.complex64), 0, wanted))
+        self.assertIsNone(measured(self.chips[:1_000], 0, wanted))
+
+    def test_noise_has_no_cells(self) -> None:
+        draws = numpy.random.default_rng(3)
+        noise = (draws.normal(0, 50, WHOLE) + 1j * draws.normal(0, 50, WHOLE)).astype(numpy.complex64)
+        chips = (noise + 5 * code()[numpy.arange(WHOLE) % PERIOD]).astype(numpy.complex64)
+        told = measured(chips, 0, Wanted(None, None, 1.0))
+        assert told is not None
+        self.assertEqual([cell["pn"] for cell in told.panels["cells"]["cells"]], [0])
+        self.assertFalse(told.panels["cells"]["is_known"])
+
+
+class WhatIsKept(unittest.TestCase):
+    def test_numbers_go_on(self) -> None:
+        things = Numbered[int](3)
+        for thing in range(10, 20):
+            things.add(thing)
+        self.assertEqual((things.first, things.count), (7, 10))
+        self.assertEqual(list(things.since(0, 2)), [(7, 17), (8, 18)])
+        self.assertEqual((things.at(6), things.at(9), things.at(10)), (None, 19, None))
+
+    def test_memory_is_bounded(self) -> None:
+        """However many lines, spectra, remarks and figures come, a fixed number of each is kept."""
+        kept = Kept("x")
+        self.addCleanup(kept.file.file.close)
+        frame = '{"line":"frame","at":%d,"rate":1200,"good":1,"bits":"0:","commands":[%s]}\n'
+        for number in range(MOST_LINES + 500):
+            kept.take((frame % (number, ",".join("01" * 8))).encode())
+        for number in range(2_000):
+            kept.take(b'{"view":"spectrum","seconds":%d,"levels":[1]}\n' % number)
+            kept.take(b'{"view":"remark","seconds":%d,"text":"x"}\n' % number)
+            kept.add_point(number, {"rho": 1.0})
+        self.assertEqual(len(kept.lines.kept), MOST_LINES)
+        self.assertEqual(kept.lines.count, MOST_LINES + 500)
+        self.assertLessEqual(max(len(kept.spectra.kept), len(kept.remarks.kept), len(kept.history.kept)), 700)
+        self.assertEqual(kept.counts["frame 1200"], MOST_LINES + 500)
+
+
+class TheDoor(unittest.TestCase):
+    """Whom the server answers."""
+
+    def test_hosts(self) -> None:
+        own, other = Door.of("127.0.0.1", 8_080), Door.of("0.0.0.0", 8_080)
+        self.assertEqual(own.token, "")
+        self.assertGreaterEqual(len(other.token), 20)
+        for host, is_own, is_other in (
+            ("127.0.0.1:8080", True, True),
+            ("localhost:8080", True, True),
+            ("LOCALHOST:8080", True, True),
+            (f"{socket.gethostname()}:8080", False, True),
+            ("192.0.2.7:8080", False, True),
+            ("[::1]:8080", False, True),
+            ("127.0.0.1", False, False),
+            ("127.0.0.1:80", False, False),
+            ("evil.example:8080", False, False),
+            ("127.0.0.1.evil.example:8080", False, False),
+            ("user@127.0.0.1:8080", False, False),
+            ("127.0.0.1:8080/x", False, False),
+            ("[::1:8080", False, False),
+            ("127.0.0.1:x", False, False),
+            ("", False, False),
+        ):
+            with self.subTest(host=host):
+                self.assertEqual((own.is_own_host(host), other.is_own_host(host)), (is_own, is_other))
+
+    def test_origins(self) -> None:
+        door, host = Door.of("127.0.0.1", 8_080), {"Host": "127.0.0.1:8080"}
+        self.assertTrue(door.is_own_origin({**host, "Origin": "http://127.0.0.1:8080"}, True))
+        self.assertTrue(door.is_own_origin(host, False))
+        self.assertTrue(door.is_own_origin({**host, "Sec-Fetch-Site": "same-origin"}, False))
+        self.assertFalse(door.is_own_origin({**host, "Sec-Fetch-Site": "cross-site"}, False))
+        self.assertFalse(door.is_own_origin(host, True))
+        for origin in ("http://evil.example", "null", "http://127.0.0.1:8081", "https://127.0.0.1:8080", ""):
+            with self.subTest(origin=origin):
+                self.assertFalse(door.is_own_origin({**host, "Origin": origin}, False))
+
+    def test_a_name_of_the_network(self) -> None:
+        """The address of a server that others can reach has the secret, a new one each time."""
+        first, second = Door.of("192.0.2.7", 9), Door.of("192.0.2.7", 9)
+        self.assertEqual(first.url, f"http://192.0.2.7:9/{first.token}/")
+        self.assertNotEqual(first.token, second.token)
+        self.assertTrue(first.is_token(first.token))
+        self.assertFalse(first.is_token("") or first.is_token(second.token) or first.is_token("é"))
+        self.assertEqual(Door.of("::1", 9).url, "http://[::1]:9/")
+
+
+class Server(unittest.TestCase):
+    """A server of a file of lines."""
+
+    def setUp(self) -> None:
+        self.folder = temporary_folder(self.addCleanup)
+        self.lines = self.keep("call.jsonl", "".join(line + "\n" for line in FOLLOWED))
+
+    def keep(self, name: str, text: str) -> str:
+        path = os.path.join(self.folder, name)
+        with open(path, "w", encoding="utf-8") as file:
+            file.write(text)
+        return path
+
+    def start(self, *words: str, given: int = subprocess.DEVNULL) -> tuple[subprocess.Popen[str], str]:
+        """A server with an input, and its address."""
+        process = subprocess.Popen(
+            [*TOOL, *words, "--no-browser"], stdout=subprocess.PIPE, stderr=subprocess.PIPE, text=True,
+            stdin=given, preexec_fn=lambda: signal.signal(signal.SIGINT, signal.SIG_DFL),
+        )  # fmt: skip
+        self.addCleanup(self.stop, process)
+        assert process.stdout is not None
+        return process, process.stdout.readline().strip()
+
+    def stop(self, process: subprocess.Popen[str]) -> None:
+        """Ends a server that is still there."""
+        process.kill()
+        process.communicate()
+
+    def ended(self, process: subprocess.Popen[str]) -> tuple[int, str]:
+        """The status and the words of a server that Ctrl-C ends."""
+        process.send_signal(signal.SIGINT)
+        _, said = process.communicate(timeout=SECONDS)
+        return process.returncode, said
+
+    def status(self, url: str, **headers: str) -> int:
+        """The status of an answer."""
+        asked = urllib.request.Request(url, headers={name.replace("_", "-"): value for name, value in headers.items()})
+        try:
+            with urllib.request.urlopen(asked, timeout=SECONDS) as answer:
+                return int(answer.status)
+        except urllib.error.HTTPError as why:
+            why.close()
+            return why.code
+
+    def fetched(self, url: str) -> tuple[bytes, Any]:
+        """What a server answers, and its headers."""
+        with urllib.request.urlopen(url, timeout=SECONDS) as answer:
+            return answer.read(), answer.headers
+
+    def watch(self, url: str, act: Callable[[WebSocketClientConnection], Any]) -> Any:
+        """What something makes of a connection, as the page has it."""
+
+        async def run() -> Any:
+            asked = HTTPRequest(url.replace("http:", "ws:") + "events", headers={"Origin": url.rstrip("/")})
+            connection = await websocket_connect(asked)
+            try:
+                return await act(connection)
+            finally:
+                connection.close()
+
+        return asyncio.run(run())
+
+
+async def told_until(connection: WebSocketClientConnection, name: str) -> dict[str, Any]:
+    """All that a page is told until something of a name comes; lists are joined."""
+    told: dict[str, Any] = {}
+    while name not in told:
+        message = await asyncio.wait_for(connection.read_message(), SECONDS)
+        assert isinstance(message, str), "the server has closed the connection"
+        for key, value in json.loads(message).items():
+            told[key] = told.get(key, []) + value if isinstance(value, list) else value
+    return told
+
+
+class TheServer(Server):
+    def test_lines_and_saved_files(self) -> None:
+        process, url = self.start(self.lines)
+        told = self.watch(url, lambda connection: told_until(connection, "ended"))
+        self.assertEqual(told["hello"]["name"], "call.jsonl")
+        self.assertEqual([line["text"] for line in told["lines"]], list(FOLLOWED))
+        self.assertEqual(told["lines"][3]["kind"], "paging system")
+        self.assertAlmostEqual(told["lines"][3]["seconds"], 737_280 / 1_228_800, places=4)
+        self.assertEqual(told["ended"], {"status": 0, "text": f"all {len(FOLLOWED)} lines were read"})
+        rows = {name: value for name, value, _ in told["identity"]["Sync message"]}
+        self.assertEqual((rows["SID"], rows["PILOT_PN"]), ("4139", "300"))
+        saved, headers = self.fetched(url + "save/lines.jsonl")
+        self.assertEqual(headers["Content-Disposition"], 'attachment; filename="lines.jsonl"')
+        self.assertEqual(run_inside("lines", "--back", data=saved)[1].decode().splitlines(), list(FOLLOWED))
+        page, _ = self.fetched(url + "save/report.html")
+        self.assertIn(b"BASE_LONG", page)
+        self.assertEqual(self.fetched(url + "save/samples.is95")[0], HEADER.pack(b"IS95", 1, 0, 0))
+        status, said = self.ended(process)
+        ended = f"view: all {len(FOLLOWED)} lines were read; the page stays until Ctrl-C\n"
+        self.assertEqual((status, said), (0, ended))
+
+    def test_fields_of_a_line(self) -> None:
+        async def ask(connection: WebSocketClientConnection) -> dict[str, Any]:
+            await told_until(connection, "ended")
+            await connection.write_message('{"line":3}')
+            return await told_until(connection, "fields")
+
+        _, url = self.start(self.lines)
+        rows = {name: (value, meaning) for name, value, meaning in self.watch(url, ask)["fields"]["rows"]}
+        self.assertEqual(rows["BASE_ID"], ("58253", "base station"))
+        self.assertEqual(rows["BASE_LONG"], ("6625769", "-122.419375°, 122° 25′ 9.75″ W"))
+
+    def test_whom_it_answers(self) -> None:
+        process, url = self.start(self.lines)
+        self.assertRegex(url, r"^http://127\.0\.0\.1:\d+/$")
+        host = url.split("/")[2]
+        _, headers = self.fetched(url)
+        policy = headers["Content-Security-Policy"]
+        self.assertIn(f"connect-src 'self' ws://{host};", policy)
+        self.assertIn("default-src 'none'; script-src 'self';", policy)
+        self.assertNotRegex(policy, r"script-src[^;]*(unsafe|\*|http)")
+        self.assertEqual(self.status(url, Host="evil.example"), 403)
+        self.assertEqual(self.status(url, Origin="http://evil.example"), 403)
+        self.assertEqual(self.status(url + "save/lines.jsonl", Sec_Fetch_Site="cross-site"), 403)
+        for path in ("none", "view.py", "../README.md", "%2e%2e/README.md", "save/other", "token/view.js"):
+            self.assertEqual(self.status(url + path), 404, path)
+        for headers in ({}, {"Origin": "http://evil.example"}, {"Origin": "null"}):
+            with self.subTest(headers=headers), self.assertRaises(HTTPClientError) as why:
+                asked = HTTPRequest(url.replace("http:", "ws:") + "events", headers=headers)
+                asyncio.run(asyncio.wait_for(connected(asked), SECONDS))
+            self.assertEqual(why.exception.code, 403)
+        self.assertEqual(self.ended(process)[0], 0)
+
+    def test_a_secret_path(self) -> None:
+        _, url = self.start(self.lines, "--listen", "0.0.0.0")
+        start, token = url.rsplit("/", 2)[0] + "/", url.rsplit("/", 2)[1]
+        start = re.sub(r"//[^:/]+:", "//127.0.0.1:", start)
+        self.assertEqual(self.status(start), 404)
+        self.assertEqual(self.status(f"{start}{token[:-1]}/"), 404)
+        self.assertEqual(self.status(f"{start}view.js"), 404)
+        self.assertEqual(self.status(f"{start}{token}/"), 200)
+        self.assertEqual(self.status(f"{start}{token}/view.js"), 200)
+
+    def test_a_client_of_nonsense(self) -> None:
+        """A request that isn't the page's ends the connection, and the server stays."""
+
+        async def tell(connection: WebSocketClientConnection, text: str) -> None:
+            await connection.write_message(text)
+            while await asyncio.wait_for(connection.read_message(), SECONDS) is not None:
+                pass
+
+        process, url = self.start(self.lines)
+        for text in ("nonsense", "[]", '{"line":"1"}', '{"line":null}', "[" * 900, "x" * 5_000):
+            with self.subTest(text=text[:20]):
+                self.watch(url, lambda connection: tell(connection, text))
+        self.assertEqual(self.status(url), 200)
+        self.assertEqual(self.ended(process)[0], 0)
+
+    def test_a_port_that_is_taken(self) -> None:
+        with socket.create_server(("127.0.0.1", 0)) as taken:
+            port = taken.getsockname()[1]
+            status, wrote, said = run_inside("view", self.lines, "--port", port, "--no-browser")
+        self.assertEqual((status, wrote), (1, b""))
+        self.assertEqual(said, f"view: 127.0.0.1 port {port}: Address already in use\n")
+
+    def test_what_is_no_source(self) -> None:
+        for words, status, told in (
+            ((os.path.join(self.folder, "none.jsonl"),), 2, "--type and --rate are needed"),
+            (("--type", "cu8", "--rate", "2M", os.path.join(self.folder, "none")), 1, "No such file"),
+            ((self.lines, "--port", "70000"), 2, "--port"),
+            ((self.lines, "--speed", "0"), 2, "--speed"),
+        ):
+            with self.subTest(words=words):
+                ended, wrote, said = run_inside("view", *words, "--no-browser", "--program", "/bin/true")
+                self.assertEqual((ended, wrote, said.count("\n")), (status, b"", 1))
+                self.assertIn(told, said)
+
+    def test_a_source_that_ends_the_command(self) -> None:
+        """With --exit the command ends with its source, with the source's status: here lines of which one is none."""
+        broken = self.keep("broken.jsonl", FOLLOWED[0] + "\nnonsense\n")
+        process, _ = self.start(broken, "--exit")
+        _, said = process.communicate(timeout=SECONDS)
+        self.assertEqual((process.returncode, said.count("\n")), (1, 1))
+        self.assertIn("line 2 is none", said)
+
+    def test_updates_a_second(self) -> None:
+        """A page gets at most ten updates a second, whatever comes."""
+
+        async def count(connection: WebSocketClientConnection) -> int:
+            await connection.read_message()
+            until, number = time.monotonic() + 3, 0
+            while (left := until - time.monotonic()) > 0:
+                try:
+                    message = await asyncio.wait_for(connection.read_message(), left)
+                except asyncio.TimeoutError:
+                    break
+                number += message is not None
+            return number
+
+        many = self.keep("many.jsonl", FOLLOWED[0] + "\n" + (FOLLOWED[2] + "\n") * 30_000)
+        _, url = self.start(many)
+        self.assertLessEqual(self.watch(url, count), 3 * PAGE_MOST + 1)
+
+
+async def connected(asked: HTTPRequest) -> WebSocketClientConnection:
+    """A connection."""
+    return await websocket_connect(asked)
+
+
+if __name__ == "__main__":
+    unittest.main()
