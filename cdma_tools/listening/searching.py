@@ -41,7 +41,7 @@ PAUSE = 2 * WINDOW
 ROUNDS = 2
 # A live stream: bins of a slice, which a processor searches in some 0.1 s, and seconds after which no further slice is
 # begun, so that the search is never as far behind the air as samples are kept for it.
-SLICE_BINS, MOST_SEARCH = 16, 1.5
+SLICE_BINS, MOST_SEARCH = 33, 1.5
 NEIGHBORS = STEP * numpy.arange(-4, 5)
 
 
@@ -94,6 +94,12 @@ class Slice:
     is_conjugate: bool
 
 
+def bands_outward(bins: NDArray[numpy.int64]) -> list[NDArray[numpy.int64]]:
+    """Bins in bands of neighbors: first the one around 0, then those further and further off to both sides."""
+    numbers = (bins // STEP + SLICE_BINS // 2) // SLICE_BINS
+    return [bins[numbers == number] for number in sorted(set(numbers.tolist()), key=abs)]
+
+
 class LiveSearch:
     """The search in a live stream, which keeps up with the air: slices of the carriers, the nearest first, in turn.
 
@@ -103,10 +109,7 @@ class LiveSearch:
 
     def __init__(self, search: float, conjugates: tuple[bool, ...]) -> None:
         """Nothing was searched yet."""
-        bins = bins_within(search)
-        bins = bins[numpy.argsort(numpy.abs(bins), kind="stable")]
-        bands = numpy.array_split(bins, -(-len(bins) // SLICE_BINS))
-        self.slices = [Slice(band, turned) for band in bands for turned in conjugates]
+        self.slices = [Slice(band, turned) for band in bands_outward(bins_within(search)) for turned in conjugates]
         self.turns = itertools.cycle(self.slices)
         self.seconds = 0.0  # that the last search took
 

@@ -1,12 +1,15 @@
 """Acquisition: the code phase and the carrier at which a pilot stands out.
 
-A stretch of 2,048 chips is correlated with the whole code at once, by transforms of 32,768, at one sample a chip and in
-steps of 300 Hz. Between two samples the sums are interpolated, since what a front lets through is hardly wider than the
-chip rate. Energies of one stretch after the other are added, until a cell of phase and carrier stands out.
+A stretch of 2,048 chips is correlated with the whole code, at two samples a chip and in steps of 300 Hz. Energies of
+one stretch after the other are added, until a cell of phase and carrier stands out.
+
+A first pass takes a quarter of the cells by transforms of 32,768: every second step, at one sample a chip. The others
+are taken one by one, and only those whose neighbors in the first pass have the greatest energies.
 """
 
 import functools
 import os
+from concurrent.futures import ThreadPoolExecutor
 from typing import Callable, Iterator, NamedTuple
 
 import numpy
@@ -31,14 +34,12 @@ ONE_IN = 1e6
 # Times the median magnitude to which a chip is cut: noise exceeds it once in 500 chips, so a pilot loses nothing, and
 # a strong pulse of some chips, which many stretches of the code are like, can't stand out.
 PULSE = 3.0
-# Bins of a batch of transforms, 4 MB of numbers, and those whose energies are kept at once, 64 MB.
+# Bins of a batch of transforms, 4 MB of numbers, and those that are searched at once, whose energies take 17 MB.
 BATCH, MOST_BINS = 16, 256
-# Processors that share the transforms of a batch.
+# Processors that share the transforms of a stretch.
 WORKERS = min(4, len(os.sched_getaffinity(0)))
-# Sums at the two nearest phases count as sinc(1/2) in a sum between them, and those beyond as sinc(3/2): the latter over
-# the former, and the energy by which noise has as much power there.
-FAR_TAP = numpy.float32(-1 / 3)
-NEAR_ENERGY = numpy.float32(1 / (2 + 2 * FAR_TAP**2))
+# Squares of four cells that noise alone lets be looked at closely, and the most that are.
+FEW, MOST_SQUARES = 32, 64
 # The finer carrier: chips of a sum, and bins of its transform; the span is one step of the search and a half more.
 FINE_CHIPS, FINE_BINS, FINE_SPAN = 64, 4_096, 1.5 * STEP * BIN
 
@@ -85,52 +86,155 @@ def code_spectrum() -> NDArray[numpy.complex64]:
     return fft.fft(short_code())
 
 
-class Between:
-    """Energies of samples half a chip late, by the sums at the two phases to each side, with room that is used again.
+def transformed_bins(bins: NDArray[numpy.int64]) -> list[NDArray[numpy.int64]]:
+    """Returns the bins of a first pass for each run of neighboring bins: every second one, from end to end.
 
-    Noise has the same power in them. A pilot half a chip late loses 0.45 dB, less than one a quarter of a chip late.
+    The last one lies a step after a run of an even number of bins, or two steps after a single one.
+    """
+    runs = numpy.split(bins, numpy.flatnonzero(numpy.diff(bins) != STEP) + 1)
+    return [run[0] + 2 * STEP * numpy.arange(max(len(run) // 2, 1) + 1) for run in runs]
+
+
+class Cells(NamedTuple):
+    """Cells of a search, as arrays: their bins, their lateness in half chips (0 or 1), their phases."""
+
+    bins: NDArray[numpy.int64]
+    halves: NDArray[numpy.int64]
+    phases: NDArray[numpy.int64]
+
+    def of_bins(self, bins: NDArray[numpy.int64]) -> "Cells":
+        """The cells of some bins."""
+        kept = numpy.isin(self.bins, bins)
+        return Cells(*(column[kept] for column in self))
+
+
+class Squares(NamedTuple):
+    """Squares of four cells of the first pass: the lower bins, the later phases, and the sums of the energies."""
+
+    bins: NDArray[numpy.int64]
+    phases: NDArray[numpy.int64]
+    sums: NDArray[numpy.float32]
+
+    def greatest(self) -> "Squares":
+        """The squares with the greatest sums."""
+        kept = numpy.argsort(self.sums)[-MOST_SQUARES:]
+        return Squares(self.bins[kept], self.phases[kept], self.sums[kept])
+
+    def cells_between(self) -> Cells:
+        """The cells in the middle of the squares and of their edges, each once."""
+        # Steps to the bin, and half chips before the later phase.
+        steps, early = numpy.array([(1, 0), (0, 1), (1, 1), (2, 1), (1, 2)]).T
+        found = numpy.stack([self.bins[:, None] + STEP * steps, 2 * self.phases[:, None] - early])
+        bins, doubled = numpy.unique(found.reshape(2, -1), axis=1)
+        # A phase half a chip before a whole one is that one's in the samples half a chip later.
+        return Cells(bins, doubled % 2, (doubled + 1) // 2 % PERIOD)
+
+
+class Search:
+    """The energies of stretches in the cells of some bins, and the cell with the greatest.
+
+    A pilot between the cells of the first pass, in phase, in carrier or in both, leaves most of its energy in the four
+    around it. So of the other cells only those around the greatest sums of four are computed.
     """
 
-    def __init__(self) -> None:
-        """Makes the room."""
-        self.near, self.far = numpy.empty((2, PERIOD), dtype=numpy.complex64)
+    def __init__(self, bins: NDArray[numpy.int64]) -> None:
+        """No stretch was added yet."""
+        self.bins = numpy.unique(bins)
+        self.runs = transformed_bins(self.bins)
+        self.rows = numpy.concatenate(self.runs)
+        self.energies = numpy.zeros((len(self.rows), PERIOD), dtype=numpy.float32)
+        self.stretches: list[NDArray[numpy.complex64]] = []
 
-    def energies(self, sums: NDArray[numpy.complex64]) -> NDArray[numpy.float32]:
-        """The energies between sums and those a phase before them."""
-        near, far = self.near, self.far
-        numpy.add(sums[1:], sums[:-1], out=near[1:])
-        near[0] = sums[0] + sums[-1]
-        numpy.add(sums[3:], sums[:-3], out=far[2:-1])
-        far[[0, 1, -1]] = sums[[1, 2, 0]] + sums[[-2, -1, -3]]
-        far *= FAR_TAP
-        near += far
-        found = near.real**2 + near.imag**2
-        found *= NEAR_ENERGY
-        return found
+    @property
+    def cells(self) -> int:
+        """The number of cells."""
+        return 2 * PERIOD * len(self.bins)
+
+    @property
+    def mean(self) -> float:
+        """The mean energy of one stretch in a cell."""
+        return max(float(self.energies.mean(axis=1).mean(dtype=float)), 1e-30) / len(self.stretches)
+
+    def add(self, halves: NDArray[numpy.complex64]) -> None:
+        """Adds the next stretch, of two samples per chip."""
+        whole = numpy.zeros(PERIOD, dtype=numpy.complex64)
+        # The stretch stands at its own place, so that the phase found is that of the search's first chip.
+        place = STRETCH * len(self.stretches)
+        whole[place : place + STRETCH] = halves[::2]
+        self.stretches.append(halves)
+        spectrum = fft.fft(whole).conj()
+        add_rows = functools.partial(self.add_rows, numpy.concatenate([spectrum, spectrum]))
+        parts = numpy.array_split(numpy.arange(len(self.rows)), min(WORKERS, -(-len(self.rows) // BATCH)))
+        if len(parts) == 1:
+            add_rows(parts[0])
+            return
+        with ThreadPoolExecutor(len(parts)) as pool:
+            list(pool.map(add_rows, parts))
+
+    def add_rows(self, spectra: NDArray[numpy.complex64], numbers: NDArray[numpy.int64]) -> None:
+        """Adds the energies of a stretch to consecutive rows; `spectra` is its conjugate spectrum twice in a row."""
+        code = code_spectrum()
+        room = numpy.empty((min(BATCH, len(numbers)), PERIOD), dtype=numpy.complex64)
+        power = numpy.empty(PERIOD, dtype=numpy.float32)
+        for batch in numpy.array_split(numbers, -(-len(numbers) // BATCH)):
+            for row, first in zip(room, self.rows[batch] % PERIOD):
+                numpy.multiply(spectra[first : first + PERIOD], code, out=row)  # the spectrum rolled to the left
+            got = fft.ifft(room[: len(batch)], axis=1, overwrite_x=True)
+            for energies, sums in zip(self.energies[batch[0] : batch[-1] + 1], got):
+                for part in (sums.real, sums.imag):
+                    energies += numpy.multiply(part, part, out=power)
+
+    def squares(self, mean: float) -> Squares:
+        """The squares of four cells with the greatest sums; `mean` is the mean energy of one stretch in a cell."""
+        count = len(self.stretches)
+        least = mean * float(gammainccinv(4 * count, min(1.0, FEW / self.energies.size)))
+        found, first = [], 0
+        for run in self.runs:
+            pairs = neighbors_added(self.energies[first])
+            for row, bin_before in enumerate(run[:-1], first + 1):
+                before, pairs = pairs, neighbors_added(self.energies[row])
+                before += pairs
+                phases = numpy.flatnonzero(before > least)
+                found.append(Squares(numpy.full(len(phases), bin_before), phases, before[phases]))
+            first += len(run)
+        return Squares(*(numpy.concatenate(column) for column in zip(*found))).greatest()
+
+    def energies_of(self, cells: Cells) -> NDArray[numpy.float32]:
+        """The energies of cells, each by its own sum over each stretch."""
+        code = short_code()
+        windows = numpy.lib.stride_tricks.sliding_window_view(numpy.concatenate([code, code[:STRETCH]]), STRETCH)
+        bins, of_bin = numpy.unique(cells.bins, return_inverse=True)
+        ramps = turn(bins[:, None] / PERIOD * numpy.arange(STRETCH))
+        energies = numpy.zeros(len(cells.bins), dtype=numpy.float32)
+        for number, halves in enumerate(self.stretches):
+            terms = windows[(cells.phases + number * STRETCH) % PERIOD]
+            terms *= halves.reshape(-1, 2).T.conj()[cells.halves]
+            terms *= ramps[of_bin]
+            sums = terms.sum(axis=1)
+            energies += sums.real**2 + sums.imag**2
+        return energies
+
+    def strongest(self, tries: int) -> Best:
+        """The strongest cell; its excess is over the energy that noise reaches in `tries` tries of as many cells."""
+        mean, tops = self.mean, self.energies.max(axis=1)
+        tops[~numpy.isin(self.rows, self.bins)] = 0.0
+        row = int(tops.argmax())
+        best, greatest = Best(int(self.rows[row]), 0.0, int(self.energies[row].argmax()), 0.0), float(tops[row])
+        cells = self.squares(mean).cells_between().of_bins(self.bins)
+        energies = self.energies_of(cells)
+        if len(energies) and energies.max() > greatest:
+            bin_found, half, phase = (int(column[energies.argmax()]) for column in cells)
+            best, greatest = Best(bin_found, half / 2, phase, 0.0), float(energies.max())
+        count = len(self.stretches)
+        return best._replace(excess=greatest / mean / least_energy(self.cells * tries * len(LOOKS), count))
 
 
-def add_energies(
-    energies: NDArray[numpy.float32], chips: NDArray[numpy.complex64], place: int, bins: NDArray[numpy.int64]
-) -> None:
-    """Adds the energies of a stretch to those of shape (bins, 2, 32,768); its first chip is chip `place` of the search.
-
-    The second of the two is that of samples half a chip later.
-    """
-    code, between = code_spectrum(), Between()
-    whole = numpy.zeros(PERIOD, dtype=numpy.complex64)
-    # The stretch stands at its own place, so that the phase found is that of the search's first chip.
-    whole[place : place + STRETCH] = chips
-    spectrum = fft.fft(whole).conj()
-    twice = numpy.concatenate([spectrum, spectrum])
-    rows = numpy.empty((BATCH, PERIOD), dtype=numpy.complex64)
-    for begin in range(0, len(bins), BATCH):
-        firsts = bins[begin : begin + BATCH] % PERIOD
-        for row, first in zip(rows, firsts):
-            numpy.multiply(twice[first : first + PERIOD], code, out=row)  # the spectrum rolled to the left
-        got = fft.ifft(rows[: len(firsts)], axis=1, overwrite_x=True, workers=WORKERS)
-        for of_bin, sums in zip(energies[begin : begin + BATCH], got):
-            of_bin[0] += sums.real**2 + sums.imag**2
-            of_bin[1] += between.energies(sums)
+def neighbors_added(energies: NDArray[numpy.float32]) -> NDArray[numpy.float32]:
+    """The energies at each phase and at the one before, added."""
+    pairs = energies.copy()
+    pairs[1:] += energies[:-1]
+    pairs[0] += energies[-1]
+    return pairs
 
 
 def strongest(stretch: Callable[[int], NDArray[numpy.complex64]], bins: NDArray[numpy.int64], tries: int) -> Best:
@@ -138,18 +242,13 @@ def strongest(stretch: Callable[[int], NDArray[numpy.complex64]], bins: NDArray[
 
     It continues until a cell stands out of noise in `tries` tries with this number of cells, up to four stretches.
     """
-    energies = numpy.zeros((len(bins), 2, PERIOD), dtype=numpy.float32)
-    best = Best(0, 0.0, 0, 0.0)
+    search, best = Search(bins), Best(0, 0.0, 0, 0.0)
     for count in range(1, MOST_STRETCHES + 1):
-        add_energies(energies, stretch(count - 1)[::2], (count - 1) * STRETCH, bins)
-        if count not in LOOKS:
-            continue
-        row, half, phase = numpy.unravel_index(int(energies.argmax()), energies.shape)
-        level = float(energies[row, half, phase]) / max(float(energies.mean(dtype=float)), 1e-30) * count
-        excess = level / least_energy(energies.size * tries * len(LOOKS), count)
-        best = Best(int(bins[row]), float(half / 2), int(phase), excess)
-        if excess > 1:
-            break
+        search.add(stretch(count - 1))
+        if count in LOOKS:
+            best = search.strongest(tries)
+            if best.excess > 1:
+                break
     return best
 
 

@@ -2,6 +2,7 @@
 
 import os
 import unittest
+import unittest.mock
 from typing import Any
 
 from tools.tests.helping import needs, temporary_folder
@@ -198,6 +199,73 @@ class Acquisitions(unittest.TestCase):
     def test_shorter_than_a_period(self) -> None:
         with self.assertRaisesRegex(Refused, "32767 chips are too few"):
             confirmation.first_pilot(front.Front(Given(numpy.ones(32_767), CHIP_RATE)), 9_000)
+
+
+class Cells(unittest.TestCase):
+    """The strongest cell of a search is that of all cells, whose energies are computed here by their definition."""
+
+    BINS = acquisition.STEP * numpy.arange(-5, 6)
+
+    def received(self, level: float, late: float, bin_sent: float, count: int) -> NDArray[numpy.complex64]:
+        """Noise and a pilot of `level` dB at phase 321 - late: two samples per chip of stretches."""
+        draws = numpy.random.default_rng(90)
+        spectrum = numpy.fft.fftshift(numpy.fft.fft(code()))
+        places = numpy.arange(2 * count * acquisition.STRETCH)
+        spectrum *= numpy.exp(-2j * numpy.pi * late * numpy.arange(-PERIOD // 2, PERIOD // 2) / PERIOD)
+        wave = numpy.fft.ifft(numpy.fft.ifftshift(numpy.pad(spectrum, PERIOD // 2))) * 2
+        pilot = wave[(2 * 321 + places) % (2 * PERIOD)] * numpy.sqrt(10 ** (level / 10) / 2)
+        noise = draws.standard_normal(len(places)) + 1j * draws.standard_normal(len(places))
+        turned = pilot * numpy.exp(2j * numpy.pi * bin_sent * places / (2 * PERIOD)) + noise / numpy.sqrt(2)
+        return turned.astype(numpy.complex64).reshape(count, -1)
+
+    def energies(self, stretches: NDArray[numpy.complex64]) -> NDArray[numpy.float64]:
+        """The energies of all cells of the bins, at whole chips and half a chip later, as (bins, 2, 32,768)."""
+        spectrum, found = numpy.fft.fft(code()), numpy.zeros((len(self.BINS), 2, PERIOD))
+        places = numpy.arange(acquisition.STRETCH)
+        for number, halves in enumerate(stretches):
+            for row, half in numpy.ndindex(found.shape[:2]):
+                turned = halves[half::2] * numpy.exp(-2j * numpy.pi * self.BINS[row] / PERIOD * places)
+                whole = numpy.roll(numpy.pad(turned, (0, PERIOD - len(turned))), number * acquisition.STRETCH)
+                found[row, half] += numpy.abs(numpy.fft.ifft(numpy.fft.fft(whole).conj() * spectrum)) ** 2
+        return found
+
+    def test_wherever_the_pilot_lies(self) -> None:
+        for level, count in ((-13.0, 1), (-18.0, 4)):
+            for late, bin_sent in ((0.0, 16), (0.5, 16), (0.0, -8), (0.5, -8), (0.25, 4), (0.25, -28), (0.5, -40), (0.5, 40)):
+                with self.subTest(level=level, late=late, bin=bin_sent):
+                    stretches = self.received(level, late, bin_sent, count)
+                    wanted = self.energies(stretches)
+                    row, half, phase = numpy.unravel_index(int(wanted.argmax()), wanted.shape)
+                    search = acquisition.Search(self.BINS)
+                    for halves in stretches:
+                        search.add(halves)
+                    best = search.strongest(3)
+                    self.assertEqual((best.bin, best.late, best.phase), (self.BINS[row], half / 2, phase))
+                    least = acquisition.least_energy(wanted.size * 3 * len(acquisition.LOOKS), count)
+                    excess = wanted.max() / wanted.mean() * count / least
+                    self.assertAlmostEqual(best.excess / excess, 1.0, delta=0.02)
+                    self.assertGreater(best.excess, 1.0)
+
+    def test_bins_that_are_apart(self) -> None:
+        """Each run of bins is searched up to its ends, and nothing beyond them is found."""
+        halves = self.received(-8.0, 0.0, 40, 1)[0]
+        for bins, found in (([-8, 0, 40], 40), ([-8, 0, 32], 32), ([40], 40), ([0, 8, 16, 40, 48], 40), ([48, 0], 48)):
+            best = acquisition.strongest(lambda _: halves, numpy.array(bins), 3)
+            self.assertEqual((best.bin, best.phase), (found, 321), bins)
+
+    def test_nothing_is_received(self) -> None:
+        best = acquisition.strongest(lambda _: numpy.zeros(4_096, numpy.complex64), self.BINS, 1)
+        self.assertEqual(best.excess, 0.0)
+
+    def test_any_number_of_processors(self) -> None:
+        stretches, found = self.received(-18.0, 0.5, -8, 4), []
+        for workers in (1, 2, 3):
+            with (
+                unittest.mock.patch("cdma_tools.radio.acquisition.WORKERS", workers),
+                unittest.mock.patch("cdma_tools.radio.acquisition.BATCH", 2),
+            ):
+                found.append(acquisition.strongest(lambda number: stretches[number], self.BINS, 1))
+        self.assertEqual(found, 3 * found[:1])
 
 
 class Confirmations(unittest.TestCase):

@@ -474,7 +474,7 @@ class NoiseTest(unittest.TestCase):
         search = LiveSearch(88_000.0, (False, True))
         bins = sorted((int(one), part.is_conjugate) for part in search.slices for one in part.bins)
         self.assertEqual(bins, sorted((int(one), turned) for one in bins_within(88_000.0) for turned in (False, True)))
-        nearest = [abs(int(part.bins[0])) for part in search.slices]
+        nearest = [int(numpy.abs(part.bins).min()) for part in search.slices]
         self.assertEqual(nearest, sorted(nearest))
         self.assertLessEqual(max(len(part.bins) for part in search.slices), SLICE_BINS)
         looked: list[int] = []
