@@ -1,5 +1,4 @@
 -- The frames of a stream.
 pub mod Times
-pub mod OwnBits
 -- those of any channel that is heard, of the sync channel, and of a paging channel after the mark
 pub mod ChannelFrames

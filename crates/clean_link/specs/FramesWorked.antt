@@ -34,25 +34,14 @@ bit_count_of event = 0
 heard : CellPlan → ℕ → List (ℕ × ℕ)
 heard plan row = map (λ (e : Event). (at_of e, bit_count_of e)) (frames_sent plan row 786432)
 
--- frames 32 and 33 of the channel, of which the second ends with the file
-two_frames : heard (cell 0 838656) 9 ≡ (814080, 16) ∷ (838656, 40) ∷ []
+-- Frames 32 and 33 of the channel, of which the second ends with the file, or one sample after it;
+-- in a file that begins 100 chips before the mark; and a row that no traffic channel has.
+two_frames : (heard (cell 0 838656) 9 ≡ (814080, 16) ∷ (838656, 40) ∷ [])
+    × (heard (cell 0 838655) 9 ≡ (814080, 16) ∷ [])
+    × (heard (cell 786332 52324) 9 ≡ (27748, 16) ∷ (52324, 40) ∷ [])
+    × (heard (cell 0 838656) 10 ≡ [])
 unfolding heard cell slow faster frames_sent places
-two_frames = refl
-
--- one sample less
-one_frame : heard (cell 0 838655) 9 ≡ (814080, 16) ∷ []
-unfolding heard cell slow faster frames_sent places
-one_frame = refl
-
--- a file that begins 100 chips before the mark
-from_a_later_chip : heard (cell 786332 52324) 9 ≡ (27748, 16) ∷ (52324, 40) ∷ []
-unfolding heard cell slow faster frames_sent places
-from_a_later_chip = refl
-
--- a row that no traffic channel has
-no_such_channel : heard (cell 0 838656) 10 ≡ []
-unfolding heard cell frames_sent
-no_such_channel = refl
+two_frames = (refl, refl, refl, refl)
 
 -- power control bits as they are sent
 lowering : sent_power_bits faster ≡ replicate 16 true

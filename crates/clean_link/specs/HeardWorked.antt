@@ -29,28 +29,15 @@ heard samples channel =
     (pages_sent (cell samples) channel 786432)
 
 -- The mark lies after the first half-frame of a round, so that round's run isn't whole. The file
--- ends with three frames after the mark.
-three_frames : heard 860160 1 ≡
-    (835584, 22) ∷ (860160, 20) ∷ (860160, 21) ∷ (860160, 22) ∷ (860160, 20) ∷ []
+-- ends with three frames after the mark. With one sample less the last frame isn't whole. A mark
+-- may lie after the file, and a channel that isn't sent has no pages.
+three_frames : (heard 860160 1 ≡
+    (835584, 22) ∷ (860160, 20) ∷ (860160, 21) ∷ (860160, 22) ∷ (860160, 20) ∷ [])
+    × (heard 860159 1 ≡ (835584, 22) ∷ (835584, 20) ∷ (835584, 21) ∷ [])
+    × (heard 786431 1 ≡ []) × (heard 860160 2 ≡ [])
 unfolding heard cell page pages_sent page_cycle half_frames_of framed laid_on fill
     capsule check_bits places binary
-three_frames = refl
-
--- one sample less, and the last frame isn't whole
-two_frames : heard 860159 1 ≡ (835584, 22) ∷ (835584, 20) ∷ (835584, 21) ∷ []
-unfolding heard cell page pages_sent page_cycle half_frames_of framed laid_on fill
-    capsule check_bits places binary
-two_frames = refl
-
--- a mark after the file, and a channel that isn't sent
-before_the_mark : heard 786431 1 ≡ []
-unfolding heard cell page pages_sent page_cycle half_frames_of framed laid_on fill
-    capsule check_bits places binary
-before_the_mark = refl
-
-no_such_channel : heard 860160 2 ≡ []
-unfolding heard cell pages_sent
-no_such_channel = refl
+three_frames = (refl, refl, refl, refl)
 
 -- ---- a cycle of pages
 
@@ -72,32 +59,15 @@ second = capsule M30 Plain (replicate 18 false)
 third : List Bool
 third = capsule M30 Plain (replicate 10 false)
 
-three_half_frames : cycle_half_frames R9600 Plain pages ≡ 3
-unfolding pages page_cycle half_frames_of framed laid_on fill
-    capsule check_bits places binary
-three_half_frames = refl
-
 -- From frame 1 on, half-frame 2: the third page ends there, and then the next round begins in
--- half-frame 3.
-from_frame_1 : sendings_between R9600 Plain pages 1 2 3
-    ≡ (0, third) ∷ (0, first) ∷ (1, second) ∷ (1, third) ∷ []
+-- half-frame 3. In frame 2 alone the run that began in half-frame 3 isn't heard. A file ends with
+-- frame 2, or one chip before its end.
+three_half_frames : (cycle_half_frames R9600 Plain pages ≡ 3)
+    × (sendings_between R9600 Plain pages 1 2 3
+    ≡ (0, third) ∷ (0, first) ∷ (1, second) ∷ (1, third) ∷ [])
+    × (sendings_between R9600 Plain pages 2 1 3 ≡ (0, third) ∷ [])
+    × (whole_page_sendings R9600 Plain pages 2 73728 ≡ (0, third) ∷ [])
+    × (whole_page_sendings R9600 Plain pages 2 73727 ≡ [])
 unfolding pages first second third page_cycle half_frames_of framed laid_on fill
     capsule check_bits places binary
-from_frame_1 = refl
-
--- in frame 2 alone the run that began in half-frame 3 isn't heard
-in_frame_2 : sendings_between R9600 Plain pages 2 1 3 ≡ (0, third) ∷ []
-unfolding pages third page_cycle half_frames_of framed laid_on fill
-    capsule check_bits places binary
-in_frame_2 = refl
-
--- a file that ends with frame 2, or one chip before its end
-to_the_end : whole_page_sendings R9600 Plain pages 2 73728 ≡ (0, third) ∷ []
-unfolding pages third page_cycle half_frames_of framed laid_on fill
-    capsule check_bits places binary
-to_the_end = refl
-
-before_the_end : whole_page_sendings R9600 Plain pages 2 73727 ≡ []
-unfolding pages page_cycle half_frames_of framed laid_on fill
-    capsule check_bits places binary
-before_the_end = refl
+three_half_frames = (refl, refl, refl, refl, refl)

@@ -47,26 +47,13 @@ frames =
 cell : ℕ → CellPlan
 cell samples = cell_of_frames 0 samples Complemented frames
 
--- After superframe 8 the message begins in frame 33 and ends in frame 35, at that frame's end.
-in_two_frames : messages_sent (cell 887808) 9 786432 ≡ Traffic 887808 spelled message ∷ []
+-- After superframe 8 the message begins in frame 33 and ends in frame 35, at that frame's end. With
+-- one sample less its last frame isn't in the file, and a mark may lie after the beginning of its
+-- first frame.
+in_two_frames : (messages_sent (cell 887808) 9 786432 ≡ Traffic 887808 spelled message ∷ [])
+    × (messages_sent (cell 887807) 9 786432 ≡ []) × (messages_sent (cell 887808) 9 814081 ≡ [])
 unfolding cell frames slow signaling spelled message messages_sent split split_9600 capsule_ending
     front_capsule is_stated traffic_reading traffic_capsule traffic_message_body spelling
     traffic_body_reading is_traffic_body head_at head_of part_reading reading fields_at group_at
     presence_at octets_at number_part part_at records_at capsule check_bits binary places
-in_two_frames = refl
-
--- one sample less, and its last frame isn't in the file
-cut_short : messages_sent (cell 887807) 9 786432 ≡ []
-unfolding cell frames slow signaling spelled message messages_sent split split_9600 capsule_ending
-    front_capsule is_stated traffic_reading traffic_capsule traffic_message_body spelling
-    traffic_body_reading is_traffic_body head_at head_of part_reading reading fields_at group_at
-    presence_at octets_at number_part part_at records_at capsule check_bits binary places
-cut_short = refl
-
--- a mark after the beginning of its first frame
-begun_before : messages_sent (cell 887808) 9 814081 ≡ []
-unfolding cell frames slow signaling spelled message messages_sent split split_9600 capsule_ending
-    front_capsule is_stated traffic_reading traffic_capsule traffic_message_body spelling
-    traffic_body_reading is_traffic_body head_at head_of part_reading reading fields_at group_at
-    presence_at octets_at number_part part_at records_at capsule check_bits binary places
-begun_before = refl
+in_two_frames = (refl, refl, refl)

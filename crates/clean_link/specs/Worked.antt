@@ -22,23 +22,13 @@ heard plan =
     (sending_ends plan told_message q - plan.link.start))
     (whole_sendings plan told_message)
 
-from_the_first_chip : heard (cell 0 1228800) ≡ 294848 ∷ 589760 ∷ 884672 ∷ 1179584 ∷ []
+-- A transmission under way at the file's start isn't whole. A file may end with the first
+-- transmission's last frame, or one sample before it.
+from_the_first_chip : (heard (cell 0 1228800) ≡ 294848 ∷ 589760 ∷ 884672 ∷ 1179584 ∷ [])
+    × (whole_sendings (cell 102400 1228800) told_message ≡ 1 ∷ 2 ∷ 3 ∷ [])
+    × (heard (cell 0 262080) ≡ 262080 ∷ []) × (heard (cell 0 262079) ≡ [])
 unfolding heard cell sync_capsule sync_body spelling capsule check_bits places binary
-from_the_first_chip = refl
-
--- a transmission under way at the file's start isn't whole
-from_a_later_chip : whole_sendings (cell 102400 1228800) told_message ≡ 1 ∷ 2 ∷ 3 ∷ []
-unfolding cell sync_capsule sync_body spelling capsule check_bits places binary
-from_a_later_chip = refl
-
--- the file ends with the first transmission's last frame, or one sample before it
-just_whole : heard (cell 0 262080) ≡ 262080 ∷ []
-unfolding heard cell sync_capsule sync_body spelling capsule check_bits places binary
-just_whole = refl
-
-not_whole : heard (cell 0 262079) ≡ []
-unfolding heard cell sync_capsule sync_body spelling capsule check_bits places binary
-not_whole = refl
+from_the_first_chip = (refl, refl, refl, refl)
 
 later_frames : first_sync_frame (cell 102400 1228800) ≡ 3
 unfolding cell

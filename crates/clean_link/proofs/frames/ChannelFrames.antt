@@ -6,15 +6,15 @@ use Rattle.clean_link.proofs.Common.{CellPlan, SyncPlan, length-sync_frame_bits,
 use Rattle.clean_link.proofs.Common.{Tuning, fingers_of, modulo_code, sync_stream, AreZeroWithoutSync, FramesAreZeros, FramesComeBack}
 use Rattle.clean_link.proofs.Common.{HaveSentSigns, SentCodewordsAreTheOnlyBest, IsOnPath, first_sync_frame, soft_strength, AreReadBy}
 use Rattle.clean_link.proofs.Common.{IsHeardBy, path_finger, reference_finger, IsReceivable, Option, None, Sample, Width, unwrap_or, Bears}
-use Rattle.clean_link.proofs.Common.{IsNear, ShowsSync, ◌*◌, ◌/◌, false, Bool, length, inr, ℤ, replicate, Contains, length-map}
-use Rattle.clean_link.proofs.Common.{All-contains, places, xor, zip_with, length-places, after, long_chip, paging_mask, scrambling}
-use Rattle.clean_link.proofs.Common.{data_shape, repeats_of, Rate, R9600, Cycle, cycle_frame_bits, cycle_symbols, cycled, frame_scrambling}
-use Rattle.clean_link.proofs.Common.{paging_frame_size, IsLawfulPlan, IsPagingPlan, cycle_of, paging_carrier, PagingPlan, Data}
-use Rattle.clean_link.proofs.Common.{paging_stream, descrambled, unscrambled, Stream, Mark, IsTrueMark, PagingFramesComeBack}
-use Rattle.clean_link.proofs.Common.{PagingHaveSentSigns, PagingCodewordsAreTheOnlyBest, SilentPagingFramesAreZeros, FrameHasSigns}
-use Rattle.clean_link.proofs.Common.{HasSyncSigns, IsCellMark, PagingFrameHasSigns, HasSign, frame_softs, Carrier, carriers}
+use Rattle.clean_link.proofs.Common.{IsNear, ShowsSync, symbols, ◌≤◌, frame_own_bits, ◌*◌, ◌/◌, false, Bool, length, inr, ℤ, replicate}
+use Rattle.clean_link.proofs.Common.{Contains, length-map, All-contains, places, xor, zip_with, length-places, after, long_chip}
+use Rattle.clean_link.proofs.Common.{paging_mask, scrambling, data_shape, repeats_of, Rate, R9600, Cycle, cycle_frame_bits, cycle_symbols}
+use Rattle.clean_link.proofs.Common.{cycled, frame_scrambling, paging_frame_size, IsLawfulPlan, IsPagingPlan, cycle_of, paging_carrier}
+use Rattle.clean_link.proofs.Common.{PagingPlan, Data, paging_stream, descrambled, unscrambled, Stream, Mark, IsTrueMark}
+use Rattle.clean_link.proofs.Common.{PagingFramesComeBack, PagingHaveSentSigns, PagingCodewordsAreTheOnlyBest, SilentPagingFramesAreZeros}
+use Rattle.clean_link.proofs.Common.{FrameHasSigns, HasSyncSigns, IsCellMark, PagingFrameHasSigns, HasSign, frame_softs, Carrier, carriers}
 use Rattle.clean_link.proofs.Common.{SilentPagingIsZero, ordered_symbols, scrambled_with, ChannelFramesComeBack}
-use Rattle.clean_signal.proofs.signal.CarriersApart.{plan_apart, sync_sent, sync_silent, paging_sent, paging_silent}
+use Rattle.clean_signal.proofs.signal.CarriersApart.{sync_sent, sync_silent, paging_sent, paging_silent}
 use Rattle.clean_signal.proofs.noise.Near.{length-near, none_borne, near-self, signs_turn}
 use Rattle.clean_signal.proofs.signal.Frames.{noisy_relates}
 use Rattle.clean_signal.proofs.signal.Samples.{length-made}
@@ -22,8 +22,8 @@ use Rattle.clean_signal.specs.Signals.{IsFrameAt}
 use Rattle.rake_finger.specs.declared.form.Form.{Form}
 use Rattle.viterbi.specs.Signs.{HaveSigns}
 use Rattle.clean_signal.proofs.frames.Scores.{whole_frames}
-use Rattle.clean_signal.proofs.frames.Heard.{heard_shown, IsShown, order_of, shown_alone, stream_related}
-use Rattle.clean_link.proofs.frames.OwnBits.{shown_back, silent_back}
+use Rattle.clean_signal.proofs.frames.Heard.{heard_shown, IsShown, order_of, own_of_span, shown_alone, shown_in_span, silent_in_span}
+use Rattle.clean_signal.proofs.frames.Heard.{stream_related}
 use Rattle.clean_link.proofs.frames.Times.{frames_begin, in_file_to, paging_file_to}
 use Rattle.heard_events.specs.PagingStreams.{paging_rate}
 use Rattle.clean_signal.proofs.frames.ChannelSigns.{strength_some, silent_rows, stream_symbols}
@@ -31,6 +31,29 @@ use Rattle.frame_decoder.specs.declared.span_format.FrameKind as kinds
 use Rattle.symbol_path.specs.Scrambling as codes
 use Rattle.cell_plan.specs.PageCycles as cycles
 use Rattle.cell_plan.specs.Pages as pages
+
+-- ---- what is decoded of a frame
+
+-- What a handset decodes of a frame is what the soft values of its span show, or zeros where they are 0.
+own-is : (count : ℕ) (samples : List Sample) (s : Stream) (k : ℕ) →
+    frame_own_bits count samples s k ≡ own_of_span count samples s k
+unfolding frame_own_bits
+own-is count samples s k = refl
+
+-- a frame in the file has the bits that were sent
+pub shown_back : {count : ℕ} {samples : List Sample} {s : Stream} {bits_of : ℕ → List Bool} {base : ℕ} →
+    IsShown count samples s bits_of base → (k : ℕ) → is_in_file count s k ≡ true →
+    frame_own_bits count samples s k ≡ bits_of (base + k)
+shown_back {count} {samples} {s} is k here = own-is count samples s k ∙ shown_in_span is k here
+
+-- A frame whose span has soft values of 0 has bits of 0.
+pub silent_back : (count k : ℕ) (samples : List Sample) (s : Stream) → 8 ≤ s.channel.bits →
+    ((j : ℕ) → is_in_file count s j ≡ true →
+    frame_softs samples s j ≡ replicate (symbols s.form) (pos 0)) →
+    is_in_file count s k ≡ true →
+    frame_own_bits count samples s k ≡ replicate s.channel.bits false
+silent_back count k samples s enough shown here =
+    own-is count samples s k ∙ silent_in_span count k samples s enough shown here
 
 -- ---- a stream that hears a channel
 
@@ -147,8 +170,7 @@ pub near_frame : {width : Width} {plan : CellPlan} (c : Carrier) (form : Form) (
     (samples : List Sample) → IsReceivable width plan → Contains (carriers plan) c →
     IsNear e samples (made_samples plan) → Bears plan c.gain e →
     (frame : ℕ) → FrameHasSigns plan c form samples frame
-near_frame {width} {plan} c form e samples is has near bears =
-    noisy_relates plan c form e samples is.lawful.pn (plan_apart width plan is.lawful) has near bears
+near_frame c form e samples is has near bears = noisy_relates is c form e samples has near bears
 
 -- so near samples, where the sync channel bears the noise
 pub near_sync : {width : Width} {plan : CellPlan} {sync : SyncPlan} {e : ℕ} (samples : List Sample) →

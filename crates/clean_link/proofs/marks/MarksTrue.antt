@@ -13,8 +13,8 @@ use Rattle.paging_message.proofs.Pieces.{length-run}
 use Rattle.clean_frames.proofs.sendings.Capsules.{IsSentAt, begun, is_at, piece_of, sending_frames}
 use Rattle.clean_link.proofs.frames.Times.{frames_begin, sync_timed}
 use Rattle.clean_link.proofs.sendings.Order.{first_among, in_file, known, first_there, frames_of, mark_of_all}
-use Rattle.clean_link.proofs.sendings.Heard.{ends_sending, heard_nothing, heard_sending, none_heard, heard_pieces, ends_tells, threefold}
-use Rattle.clean_link.proofs.sendings.Heard.{ends_there, last_frame, none_give, whole_give}
+use Rattle.clean_link.proofs.sendings.Heard.{ends_sending, heard_is, none_heard, heard_pieces, ends_tells, threefold, ends_there}
+use Rattle.clean_link.proofs.sendings.Heard.{last_frame, none_give, whole_give}
 
 -- ---- the mark that a transmission sets
 -- which transmission and which of its frames the file's frame k is, where it ends the transmission
@@ -22,30 +22,20 @@ pub record EndsAt (plan : CellPlan) (m : SyncFields) (k q w : ℕ) : Type 0 wher
   pub place : IsSentAt plan m (first_sync_frame plan) k q w
   pub ends : ends_sending plan m k w ≡ true
 
-lc_of : (plan : CellPlan) (m : SyncFields) (q : ℕ) →
-    (message_of plan.cell m q).lc ≡ after plan.cell.lc (98304 * told_superframes plan.cell m q)
+-- the state, the time, the pilot and the rate that the message of a transmission tells
+pub message_tells : (plan : CellPlan) (m : SyncFields) (q : ℕ) →
+    ((message_of plan.cell m q).lc ≡ after plan.cell.lc (98304 * told_superframes plan.cell m q))
+    × ((message_of plan.cell m q).time ≡ plan.cell.time + told_superframes plan.cell m q)
+    × ((message_of plan.cell m q).pn ≡ plan.cell.pn) × ((message_of plan.cell m q).prat ≡ m.prat)
 unfolding message_of
-lc_of plan m q = refl
-
-pub time_of : (plan : CellPlan) (m : SyncFields) (q : ℕ) →
-    (message_of plan.cell m q).time ≡ plan.cell.time + told_superframes plan.cell m q
-unfolding message_of
-time_of plan m q = refl
-
-pn_of : (plan : CellPlan) (m : SyncFields) (q : ℕ) → (message_of plan.cell m q).pn ≡ plan.cell.pn
-unfolding message_of
-pn_of plan m q = refl
-
-prat_of : (plan : CellPlan) (m : SyncFields) (q : ℕ) → (message_of plan.cell m q).prat ≡ m.prat
-unfolding message_of
-prat_of plan m q = refl
+message_tells plan m q = (refl, refl, refl, refl)
 
 -- its long code's state is never 0
 lc_some : (plan : CellPlan) (m : SyncFields) (q : ℕ) → IsState plan.cell.lc →
     ((message_of plan.cell m q).lc == 0) ≡ false
 lc_some plan m q is =
     let state = IsState-after plan.cell.lc (98304 * told_superframes plan.cell m q) is in
-    ne_eqb (message_of plan.cell m q).lc 0 (λ e. omega (arith, e, lc_of plan m q, state.0))
+    ne_eqb (message_of plan.cell m q).lc 0 (λ e. omega (arith, e, (message_tells plan m q).0, state.0))
 
 abbrev sent_mark : CellPlan → SyncFields → ℕ → ℕ → Mark
 sent_mark plan m q first = record {
@@ -98,11 +88,11 @@ is_true width plan m t k q w lawful tuned at =
           ap (λ (x : ℕ). plan.link.start +
           (u + 98304 * (x + 4) - 64 * (message_of plan.cell m q).pn))
           size
-          ∙ ap (λ (x : ℕ). plan.link.start + (u + 98304 * (n + 4) - 64 * x)) (pn_of plan m q)
+          ∙ ap (λ (x : ℕ). plan.link.start + (u + 98304 * (n + 4) - 64 * x)) (message_tells plan m q).2
           ∙ at_mark plan.link.start u plan.cell.pn n q lawful.pn begins;
-      time = time_of plan m q;
-      pn = pn_of plan m q;
-      state = λ chips. ap (λ s. after s chips) (lc_of plan m q) ∙
+      time = (message_tells plan m q).1;
+      pn = (message_tells plan m q).2;
+      state = λ chips. ap (λ s. after s chips) (message_tells plan m q).0 ∙
           after-after plan.cell.lc (98304 * told_superframes plan.cell m q) chips;
     }
 
@@ -156,7 +146,7 @@ module _ {width : Width} {plan : CellPlan} {samples : List Sample} {t : Tuning}
         omega (arith, frames_open_is k q w there at) in
         ap (λ j. marks_of (frame_start (sync_stream t) j) (heard_at t samples k)) first
         ∙ ap (marks_of (frame_start (sync_stream t) (k - w)))
-        (heard_sending is tuned sync sends k q w there at.place at.ends)
+        (heard_is is tuned sync sends k q w true there at.place at.ends)
         ∙ marks_sent plan m q (frame_start (sync_stream t) (k - w)) is.receivable.lawful.lc
 
     -- A frame that sets a mark ends a transmission, and the mark is that transmission's: the
@@ -182,7 +172,7 @@ module _ {width : Width} {plan : CellPlan} {samples : List Sample} {t : Tuning}
         })
         (λ (over : ends_sending plan sync.message k w ≡ false).
         let none =
-        marks_none t samples k (heard_nothing is tuned sync sends k q w there place over) in
+        marks_none t samples k (heard_is is tuned sync sends k q w false there place over) in
         no_first m _ (sym (ap first_of none) ∙ set))
         (cases_Bool (ends_sending plan sync.message k w))
 
@@ -217,7 +207,7 @@ module _ {width : Width} {plan : CellPlan} {samples : List Sample} {t : Tuning}
   rate_in sync n m sends set =
       let (k, both) = mark_among t samples n m set in
       let sent = frame_sets sync sends k m both.0 both.1 in
-      ap (λ (x : Mark). x.prat) (sym sent.same) ∙ prat_of plan sync.message sent.sending
+      ap (λ (x : Mark). x.prat) (sym sent.same) ∙ (message_tells plan sync.message sent.sending).3
 
   -- and none is set without a sync channel
   pub unmarked_in : (n : ℕ) → plan.sync ≡ None → mark t samples n ≡ None
@@ -283,7 +273,7 @@ module _ {width : Width} {plan : CellPlan} {samples : List Sample} {t : Tuning}
         let m = sync.message in
         whole_give is.receivable.lawful tuned m (marks_at t samples) mark_sent
         (λ k q w there place over.
-        marks_none t samples k (heard_nothing is tuned sync sends k q w there place over))
+        marks_none t samples k (heard_is is tuned sync sends k q w false there place over))
         (λ k q inside.
         let w = last_frame plan m in
         let first : k - w ≡ q * sending_frames plan m - first_sync_frame plan =

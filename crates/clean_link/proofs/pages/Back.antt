@@ -17,8 +17,7 @@ use Rattle.clean_link.proofs.Common.{pages_behind, pages_from, paging_bound, pag
 use Rattle.clean_link.proofs.Common.{frame_capsules, [], IsCellMark}
 use Rattle.clean_frames.proofs.pages.Scans.{zero_frames_end_none}
 use Rattle.clean_frames.proofs.pages.CyclesBack.{stated_pages, whole_pages_back}
-use Rattle.clean_link.proofs.frames.ChannelFrames.{near_paging, paging_borne, paging_shown, silent_paging_back}
-use Rattle.clean_link.proofs.frames.OwnBits.{shown_back}
+use Rattle.clean_link.proofs.frames.ChannelFrames.{near_paging, paging_borne, paging_shown, shown_back, silent_paging_back}
 use Rattle.clean_signal.proofs.noise.Near.{near-self}
 use Rattle.clean_link.proofs.frames.Times.{paging_file_from, paging_file_to, paging_known_is, paging_timed}
 use Rattle.clean_link.proofs.sendings.Order.{HasFrames, IsBound, frames_first, given_in_order}
@@ -56,19 +55,14 @@ option_told form n None = refl
 option_told form n (Some c) = sym (append-nil (told form n c))
 
 -- the bits of a frame, one after another
-frame_told : (form : CheckForm) (n : ℕ) (e : ℕ → Option (List Bool)) (is : List ℕ) →
-    map (known_page n) (flat_map (λ i. option_to_list (page_in form (e i))) is) ≡
-    flat_map (told form n) (flat_map (λ i. option_to_list (e i)) is)
-frame_told form n e [] = refl
-frame_told form n e (i ∷ is) =
-    let pages : ℕ → List ReadPage = λ j. option_to_list (page_in form (e j)) in
-    let capsules : ℕ → List (List Bool) = λ j. option_to_list (e j) in
-    map-append (known_page n) (pages i) (flat_map pages is)
-    ∙ ap (λ (l : List KnownPage). l ++ map (known_page n) (flat_map pages is))
-    (option_told form n (e i))
-    ∙ ap (λ (l : List KnownPage). flat_map (told form n) (capsules i) ++ l)
-    (frame_told form n e is)
-    ∙ sym (flat_map-append (told form n) (capsules i) (flat_map capsules is))
+frame_told : (form : CheckForm) (n : ℕ) (e : ℕ → Option (List Bool)) (size : ℕ) →
+    map (known_page n) (flat_map (λ i. option_to_list (page_in form (e i))) (places size)) ≡
+    flat_map (told form n) (flat_map (λ i. option_to_list (e i)) (places size))
+frame_told form n e size =
+    map-flat_map (known_page n) (λ i. option_to_list (page_in form (e i))) (places size)
+    ∙ flat_map_ext_places (λ i. map (known_page n) (option_to_list (page_in form (e i))))
+    (λ i. flat_map (told form n) (option_to_list (e i))) size (λ i below. option_told form n (e i))
+    ∙ sym (flat_map-flat_map (told form n) (λ i. option_to_list (e i)) (places size))
 
 -- ---- the frames of a paging channel, whose bits are known
 
@@ -131,7 +125,7 @@ module _ (t : Tuning) (channel : ℕ) (m : Mark) (samples : List Sample) (own : 
       flat_map (told t.check30 n) (frame_capsules (half_frame_body (streams.paging_rate m.prat)) own k)
   frame_gives n k below =
       ap (map (known_page n)) (frame_pages k below)
-      ∙ frame_told t.check30 n (ending k) (places (length (own k)))
+      ∙ frame_told t.check30 n (ending k) (length (own k))
 
   -- and of all of them
   frames_give :
@@ -166,11 +160,6 @@ module _ (t : Tuning) (channel : ℕ) (m : Mark) (samples : List Sample) (own : 
       map-flat_map (known_page n) (λ k. pages_from t channel m samples k 0)
       (known_now t.count (paging_stream t channel m) n (paging_bound n))
 
-  -- after a mark with PRAT 0 or 1 a channel is heard
-  behind_is : (n : ℕ) → m.prat < 2 →
-      pages_behind t channel (Some m) samples n ≡ pages_at t channel m samples n
-  behind_is n few = let e = lt-ltb m.prat 2 few in rw e refl
-
   -- All pages of a file are those of the capsules in its frames, each known with its frame.
   pub pages_by_capsules : {low : ℕ} → IsTimed t.count (paging_stream t channel m) low →
       m.prat < 2 →
@@ -183,7 +172,7 @@ module _ (t : Tuning) (channel : ℕ) (m : Mark) (samples : List Sample) (own : 
       λ n k. map (known_page n) (pages_from t channel m samples k 0) in
       flat_map_ext_places (λ n. map (known_page n) (pages_behind t channel (Some m) samples n))
       (λ n. flat_map (f n) (known_now t.count s n (paging_bound n))) (t.count + 1)
-      (λ n below. ap (map (known_page n)) (behind_is n few) ∙ pages_are n)
+      (λ n below. (let heard = lt-ltb m.prat 2 few in rw heard refl) ∙ pages_are n)
       ∙ given_in_order s timed paging_bound bound_enough f
       ∙ ap (flat_map (λ k. f (known_at t.count s k) k))
       (frames_first s timed paging_bound bound_enough frames has)

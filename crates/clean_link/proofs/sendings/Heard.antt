@@ -29,20 +29,14 @@ pub earlier_there : (t : Tuning) (j k : ℕ) → t.deltas ≡ one_path → j ≤
 earlier_there t j k alone le there =
     in_file_from t j alone (omega (arith, in_file_to t k alone there, le))
 
-frames_before_is : (t : Tuning) (samples : List Sample) (next : ℕ) →
-    frames_before t samples next ≡
-    map (frame_own_bits t.count samples (sync_stream t)) (filter (in_file t) (places next))
-unfolding frames_before
-frames_before_is t samples next = refl
-
 -- the pieces up to a frame in the file, where the bits of those frames are known
 pieces_from : (t : Tuning) (samples : List Sample) (bits : ℕ → List Bool) (k : ℕ) →
     t.deltas ≡ one_path → in_file t k ≡ true →
     ((j : ℕ) → in_file t j ≡ true → frame_own_bits t.count samples (sync_stream t) j ≡ bits j) →
     map piece (frames_before t samples (k + 1)) ≡ run (λ j. piece (bits j)) 0 (suc k)
+unfolding frames_before
 pieces_from t samples bits k alone there back =
-    ap (map piece) (frames_before_is t samples (k + 1)
-    ∙ map_ext_filter_places (in_file t) (frame_own_bits t.count samples (sync_stream t)) bits
+    ap (map piece) (map_ext_filter_places (in_file t) (frame_own_bits t.count samples (sync_stream t)) bits
     (k + 1) (λ j lt here. back j here)
     ∙ ap (map bits)
     (filter_all_places (in_file t) (k + 1)
@@ -136,13 +130,14 @@ module _ {width : Width} {plan : CellPlan} {samples : List Sample} {t : Tuning}
         (λ j. sync_frame_bits plan.cell sync.message (first_sync_frame plan + j)) k tuned.alone there
         (λ j here. is.back sync t j sends tuned here)
 
-    -- frame w of transmission q, which is the file's frame k
-    pub heard_is : (k q w : ℕ) → in_file t k ≡ true →
-        IsSentAt plan sync.message (first_sync_frame plan) k q w → heard_at t samples k ≡
-        (if ends_sending plan sync.message k w
-        then with_message (sync_capsule plan.cell.check30 (message_of plan.cell sync.message q))
+    -- Frame w of transmission q, which is the file's frame k, tells of the transmission if it ends it, and
+    -- otherwise nothing.
+    pub heard_is : (k q w : ℕ) (ends : Bool) → in_file t k ≡ true →
+        IsSentAt plan sync.message (first_sync_frame plan) k q w → ends_sending plan sync.message k w ≡ ends →
+        heard_at t samples k ≡
+        (if ends then with_message (sync_capsule plan.cell.check30 (message_of plan.cell sync.message q))
         (Some (message_of plan.cell sync.message q)) else None)
-    heard_is k q w there place =
+    heard_is k q w ends there place is_end =
         let m = sync.message in
         let sendable = sendable_of width plan sync is.receivable.lawful sends in
         let begun = frame_early width plan t k is.receivable.lawful tuned there in
@@ -153,28 +148,9 @@ module _ {width : Width} {plan : CellPlan} {samples : List Sample} {t : Tuning}
         (capsule_ending (map piece (frames_before t samples (k + 1))))) tuned.checks_of_30
         ∙ ap (heard_in plan.cell.check30) (ap capsule_ending (heard_pieces k there) ∙
         pieces_end plan m (first_sync_frame plan) k q w sendable.message.fills place)
-        ∙ heard_choice plan.cell.check30 (ends_sending plan m k w) (message_of plan.cell m q)
-        (message_is plan m q sendable early)
-
-    pub heard_nothing : (k q w : ℕ) → in_file t k ≡ true →
-        IsSentAt plan sync.message (first_sync_frame plan) k q w →
-        ends_sending plan sync.message k w ≡ false → heard_at t samples k ≡ None
-    heard_nothing k q w there place over =
-        heard_is k q w there place
-        ∙ ap (λ b. if b
-        then with_message (sync_capsule plan.cell.check30 (message_of plan.cell sync.message q))
-        (Some (message_of plan.cell sync.message q)) else None) over
-
-    pub heard_sending : (k q w : ℕ) → in_file t k ≡ true →
-        IsSentAt plan sync.message (first_sync_frame plan) k q w →
-        ends_sending plan sync.message k w ≡ true → heard_at t samples k ≡
-        with_message (sync_capsule plan.cell.check30 (message_of plan.cell sync.message q))
-        (Some (message_of plan.cell sync.message q))
-    heard_sending k q w there place last =
-        heard_is k q w there place
-        ∙ ap (λ b. if b
-        then with_message (sync_capsule plan.cell.check30 (message_of plan.cell sync.message q))
-        (Some (message_of plan.cell sync.message q)) else None) last
+        ∙ ap (λ b. heard_in plan.cell.check30
+        (if b then Some (sync_capsule plan.cell.check30 (message_of plan.cell m q)) else None)) is_end
+        ∙ heard_choice plan.cell.check30 ends (message_of plan.cell m q) (message_is plan m q sendable early)
 
 -- ---- the frame of a transmission that ends it
 abbrev pub last_frame : CellPlan → SyncFields → ℕ
@@ -436,7 +412,7 @@ module _ {width : Width} {plan : CellPlan} {samples : List Sample} {t : Tuning}
   tells_sending sync sends k q inside =
       let m = sync.message in
       let heard =
-      heard_sending is tuned sync sends k q (last_frame plan m) inside.there
+      heard_is is tuned sync sends k q (last_frame plan m) true inside.there
       inside.last (ends_there plan m k (last_frame plan m) refl inside.begun) in
       let ends : end_of_frame t k ≡ sending_ends plan m q - plan.link.start =
       omega (arith, ends_where width plan m t k q is.receivable.lawful tuned inside.last) in
@@ -458,7 +434,7 @@ module _ {width : Width} {plan : CellPlan} {samples : List Sample} {t : Tuning}
   by_frames (Some sync) sends =
       whole_give is.receivable.lawful tuned sync.message (frame_events t samples) (sending_event plan sync.message)
       (λ k q w there place over.
-      ap (events_of (known t k)) (heard_nothing is tuned sync sends k q w there place over))
+      ap (events_of (known t k)) (heard_is is tuned sync sends k q w false there place over))
       (tells_sending sync sends)
 
   pub sendings_in : flat_map (sync_events_at t samples) (places (plan.link.samples + 1)) ≡ sync_sent plan

@@ -46,9 +46,6 @@ ends_none a c = simp append-nil refl
 ends_less : (a y : List ℕ) → (a ++ y) ++ [] ≡ (a ++ []) ++ y
 ends_less a y = simp append-nil refl
 
-none_there : (f g h : ℕ → Bool) → filter f (places 0) ≡ filter g (places 0) ++ filter h (places 0)
-none_there f g h = rw (filter_zero f, filter_zero g, filter_zero h) refl
-
 -- Numbers with a key of at most n are those with a lesser one, followed by those whose key is n. By
 -- induction over the bound: keys never fall, so where the last number's key is below n no earlier
 -- one has the key n, and it is put after the lesser ones alone.
@@ -56,7 +53,7 @@ split_key : (P : ℕ → Bool) (key : ℕ → ℕ) (n b : ℕ) → IsRising P ke
     filter (below_key P key (suc n)) (places b) ≡
     filter (below_key P key n) (places b) ++ filter (at_key P key n) (places b)
 split_key P key n zero rising =
-    none_there (below_key P key (suc n)) (below_key P key n) (at_key P key n)
+    rw (filter_zero (below_key P key (suc n)), filter_zero (below_key P key n), filter_zero (at_key P key n)) refl
 split_key P key n (suc b) rising =
     let a = filter (below_key P key n) (places b) in
     let c = filter (at_key P key n) (places b) in

@@ -9,7 +9,7 @@ use Rattle.clean_link.proofs.Common.{IsReceivable, frames_of_channel, frames_sen
 use Rattle.clean_link.proofs.Common.{messages_sent, signaling_sent, told_by_first, told_followed, told_with_sync, MarkIsAt, traffic_sent}
 use Rattle.clean_link.proofs.Common.{FollowsSent, HearsSentTraffic, IsUndirected, Sample, ShowsSync, FollowsOne, OpensBehind}
 use Rattle.clean_link.proofs.traffic.Steady.{frames_from_mark, messages_from_mark, undirected_behind}
-use Rattle.clean_link.proofs.marks.MarksTrue.{first_in, unset_in, marks_in, rate_in, time_of, unmarked_in}
+use Rattle.clean_link.proofs.marks.MarksTrue.{first_in, unset_in, marks_in, message_tells, rate_in, unmarked_in}
 use Rattle.clean_link.proofs.frames.ChannelFrames.{clean_sync}
 use Rattle.clean_link.proofs.traffic.Frames.{sent_frames_back, sent_messages_back}
 use Rattle.clean_link.proofs.traffic.Signs.{clean_sent}
@@ -73,7 +73,7 @@ module _ {width : Width} {plan : CellPlan} {t : Tuning} {samples : List Sample}
       let first = first_in is tuned sync sends m set in
       let first_time = ap (λ (x : Mark). x.time) (sym first.same) in
       let told : told_superframes plan.cell sync.message first.sending ≡ superframes =
-      omega (arith, time, first_time, time_of plan sync.message first.sending) in
+      omega (arith, time, first_time, (message_tells plan sync.message first.sending).1) in
       ap (told_by_first plan sync.message) first.first ∙ ap (λ (n : ℕ). Some n) told
 
   -- where no mark is set none is told

@@ -1,22 +1,23 @@
 -- A cell with a distinct frame of each rate.
 use Rattle.clean_link.proofs.Common.{length, TrafficFrame, IsTrafficFrame, ◌≡◌, ◌≢◌, ℕ, ◌+◌, ◌*◌, ◌^◌, ◌<◌, ◌≤◌, Bool, true, List, [], ◌∷◌}
-use Rattle.clean_link.proofs.Common.{map, refl, sym, ap, ◌∙◌, channel_on, arith, subst, nat_le, Some, All, flat_map, and_parts, leb-true}
-use Rattle.clean_link.proofs.Common.{All-cons, All-nil, binary, places, norm, Sixteen, after, traffic_mask, after-after, IsState-before}
-use Rattle.clean_link.proofs.Common.{capsule, check_bits, traffic_codeword, Rate, R9600, R4800, R2400, R1200, codeword_bits, power_places}
-use Rattle.clean_link.proofs.Common.{Rate2, R14400, R7200, R3600, R1800, on_again, sync_body, sync_capsule, IsSyncMessage, split_9600}
-use Rattle.clean_link.proofs.Common.{loudness, AreLawfulBeside, IsFreeOf, IsLawfulPlan, IsPagingPlan, IsTrafficPlan, sent_paging_rate}
-use Rattle.clean_link.proofs.Common.{IsStatedPaging, IsReceivable, frames_of, cycled_frame, PagingPlan, TrafficPlan, SetOneFrame}
-use Rattle.clean_link.proofs.Common.{SetTwoFrame, lost_symbols, distinct_bits_of, bits_of2, distinct_plan, rules, first_channel, frame2_at}
-use Rattle.clean_link.proofs.Common.{frame_at, on_row, second_channel, told_message, HasMark, HasSetOne, HasSetTwo, frame_chip, is_received}
-use Rattle.clean_link.proofs.Common.{received_frames, replaced_of, AreDistinct, IsDistinctFrame, end_chip, messages_sent, cycled_frame2}
-use Rattle.clean_link.proofs.Common.{IsDistinctFrame2, signaling_sent, told_with_sync, lost_symbols2, sharing, sharing2, codewords_giving}
-use Rattle.clean_link.proofs.Common.{zero, suc, false, get_or, common_parity, digit, get_or-map-places, flat_map_ext_places, long_chip}
-use Rattle.clean_link.proofs.Common.{after_lt, after_none, after_one, stepped, after-before, before_lt, after-injective, group_scrambling}
-use Rattle.clean_link.proofs.Common.{power_place, frames_in_turn, power_start, ◌-◌}
+use Rattle.clean_link.proofs.Common.{map, refl, sym, ap, ◌∙◌, channel_on, arith, subst, Some, All, flat_map, All-cons, All-nil, binary}
+use Rattle.clean_link.proofs.Common.{places, norm, Sixteen, after, traffic_mask, after-after, IsState-before, capsule, check_bits}
+use Rattle.clean_link.proofs.Common.{traffic_codeword, Rate, R9600, R4800, R2400, R1200, codeword_bits, power_places, Rate2, R14400, R7200}
+use Rattle.clean_link.proofs.Common.{R3600, R1800, on_again, sync_body, sync_capsule, IsSyncMessage, split_9600, loudness, AreLawfulBeside}
+use Rattle.clean_link.proofs.Common.{IsFreeOf, IsLawfulPlan, IsPagingPlan, IsTrafficPlan, sent_paging_rate, IsStatedPaging, IsReceivable}
+use Rattle.clean_link.proofs.Common.{frames_of, cycled_frame, PagingPlan, TrafficPlan, SetOneFrame, SetTwoFrame, lost_symbols}
+use Rattle.clean_link.proofs.Common.{distinct_bits_of, bits_of2, distinct_plan, rules, first_channel, frame2_at, frame_at, on_row}
+use Rattle.clean_link.proofs.Common.{second_channel, told_message, HasMark, HasSetOne, HasSetTwo, frame_chip, is_received, received_frames}
+use Rattle.clean_link.proofs.Common.{replaced_of, AreDistinct, IsDistinctFrame, messages_sent, cycled_frame2, IsDistinctFrame2}
+use Rattle.clean_link.proofs.Common.{signaling_sent, told_with_sync, lost_symbols2, sharing, sharing2, codewords_giving, zero, suc, false}
+use Rattle.clean_link.proofs.Common.{get_or, common_parity, digit, get_or-map-places, flat_map_ext_places, long_chip, after_lt, after_none}
+use Rattle.clean_link.proofs.Common.{after_one, stepped, after-before, before_lt, after-injective, group_scrambling, power_place}
+use Rattle.clean_link.proofs.Common.{frames_in_turn, power_start, ◌-◌}
 use Rattle.long_code.specs.LongCode.{before}
 use Rattle.sync_message.proofs.Bodies.{admitted}
 use Rattle.message_layout.specs.Spelling.{spelling}
 use Rattle.traffic_message.specs.Multiplex.{split}
+use Rattle.clean_link.proofs.traffic.Frames.{received_lies}
 use Rattle.clean_link.proofs.traffic.SharedFrames.{distinct_by_sharing, distinct_by_sharing2}
 use Rattle.symbol_path.specs.Scrambling.{scrambling_chips}
 
@@ -75,25 +76,14 @@ group_start_is : (mask v : ℕ) → v < 2 ^ 42 →
     group_start mask v ≡ power_start (group_scrambling v mask)
 group_start_is mask v low =
     let a : walked 1280 v ≡ after v 1280 = walked_is 1280 v low in
-    let b : walked 64 (walked 1280 v) ≡ after v 1344 = ap (walked 64) a ∙ walked_on v 1280 64 in
-    let c : walked 64 (walked 64 (walked 1280 v)) ≡ after v 1408 =
-    ap (walked 64) b ∙ walked_on v 1344 64 in
-    let d : walked 64 (walked 64 (walked 64 (walked 1280 v))) ≡ after v 1472 =
-    ap (walked 64) c ∙ walked_on v 1408 64 in
-    let bit : ℕ → Bool = λ i. get_or (group_scrambling v mask) i false in
-    let chip = chip_of mask in
-    ap (λ (x : Bool). start_by x (chip (walked 64 (walked 1280 v)))
-    (chip (walked 64 (walked 64 (walked 1280 v))))
-    (chip (walked 64 (walked 64 (walked 64 (walked 1280 v))))))
-    (ap chip a ∙ bit_is mask v 20 (omega arith))
-    ∙ ap (λ (x : Bool). start_by (bit 20) x (chip (walked 64 (walked 64 (walked 1280 v))))
-    (chip (walked 64 (walked 64 (walked 64 (walked 1280 v))))))
-    (ap chip b ∙ bit_is mask v 21 (omega arith))
-    ∙ ap (λ (x : Bool). start_by (bit 20) (bit 21) x
-    (chip (walked 64 (walked 64 (walked 64 (walked 1280 v))))))
-    (ap chip c ∙ bit_is mask v 22 (omega arith))
-    ∙ ap (λ (x : Bool). start_by (bit 20) (bit 21) (bit 22) x)
-    (ap chip d ∙ bit_is mask v 23 (omega arith))
+    let b : walked 64 (after v 1280) ≡ after v 1344 = walked_on v 1280 64 in
+    let c : walked 64 (after v 1344) ≡ after v 1408 = walked_on v 1344 64 in
+    let d : walked 64 (after v 1408) ≡ after v 1472 = walked_on v 1408 64 in
+    let p : chip_of mask (after v 1280) ≡ get_or (group_scrambling v mask) 20 false = bit_is mask v 20 (omega arith) in
+    let q : chip_of mask (after v 1344) ≡ get_or (group_scrambling v mask) 21 false = bit_is mask v 21 (omega arith) in
+    let r : chip_of mask (after v 1408) ≡ get_or (group_scrambling v mask) 22 false = bit_is mask v 22 (omega arith) in
+    let s : chip_of mask (after v 1472) ≡ get_or (group_scrambling v mask) 23 false = bit_is mask v 23 (omega arith) in
+    rw (a, b, c, d, p, q, r, s) refl
 
 starts_at : (mask n v g : ℕ) → v < 2 ^ 42 → g < n →
     get_or (starts mask n v) g 0 ≡ power_start (group_scrambling (after v (1536 * g)) mask)
@@ -307,11 +297,9 @@ received_four : (row : ℕ) (frames : List TrafficFrame) (P : ℕ → Type 0) �
 received_four row frames P a b c d n received =
     let p = channel_on row frames in
     let offset : p.offset ≡ 0 = refl in
-    let both = and_parts (nat_le 688128 (frame_chip p n))
-    (nat_le (frame_chip p (n + 1)) (end_chip distinct_plan)) received in
-    let begun : 688128 ≤ frame_chip p n = leb-true 688128 (frame_chip p n) both.0 in
-    let ends : frame_chip p (n + 1) ≤ 786432 =
-    leb-true (frame_chip p (n + 1)) (end_chip distinct_plan) both.1 in
+    let lies = received_lies distinct_plan p 688128 n received in
+    let begun : 688128 ≤ frame_chip p n = lies.0 in
+    let ends : frame_chip p (n + 1) ≤ 786432 = lies.1 in
     let place : 28 + (n - 28) ≡ n = omega (arith, begun, offset) in
     subst P place (by_four P a b c d (n - 28) (omega (arith, begun, ends, offset)))
 
@@ -401,12 +389,6 @@ channels_lawful = record {
       (λ (p : PagingPlan). IsFreeOf (first_channel ∷ second_channel ∷ []) p.number);
 }
 
-loud_is : loudness distinct_plan ≡ 510
-loud_is = refl
-
-norm_is : norm distinct_plan.link.factor ≡ 9
-norm_is = refl
-
 plan_lawful : IsLawfulPlan Sixteen distinct_plan
 plan_lawful = record {
   pn = omega arith;
@@ -420,13 +402,13 @@ plan_lawful = record {
   paging = All-nil (IsPagingPlan (sent_paging_rate distinct_plan.sync));
   apart = tt;
   traffic = channels_lawful;
-  loud = omega (arith, loud_is);
+  loud = let loud : loudness distinct_plan ≡ 510 = refl in omega (arith, loud);
 }
 
 receivable : IsReceivable Sixteen distinct_plan
 receivable = record {
   lawful = plan_lawful;
-  link = omega (arith, norm_is);
+  link = let size : norm distinct_plan.link.factor ≡ 9 = refl in omega (arith, size);
   pages = All-nil (IsStatedPaging (sent_paging_rate distinct_plan.sync));
 }
 

@@ -16,13 +16,14 @@ use Rattle.clean_link.proofs.Common.{Option, option_to_list, append-nil, CheckFo
 use Rattle.clean_link.proofs.Common.{message_events, message_heard, messages_by, signal_at, signal_in, signal_of, signals_before, has_frame}
 use Rattle.clean_link.proofs.Common.{filter_ext_places, message_told, messages_of_channel, signal_sent, signals_in, signals_received}
 use Rattle.clean_link.proofs.Common.{SentMessagesComeBack, HasSign, TrafficFrameHasSigns, IsNotDirected, NoneIsDirected}
-use Rattle.clean_link.proofs.traffic.Signs.{traffic_related, traffic_strong, heard_related, power_pairs, lawful_traffic, same_state}
+use Rattle.clean_link.proofs.traffic.Signs.{traffic_clean, traffic_strong, heard_related, power_pairs, lawful_traffic, same_state}
 use Rattle.clean_link.proofs.traffic.Signs.{signed_power_bits}
 use Rattle.clean_link.proofs.sendings.Order.{flat_map-filter, given_in_order, given_where, moved_up, one_each, IsBound}
 use Rattle.clean_link.specs.TrafficLaws.{IsDecodedAs}
-use Rattle.clean_signal.proofs.noise.Near.{signs_turn}
+use Rattle.clean_signal.proofs.noise.Near.{IsSigned, signed_turn, signs_turn}
+use Rattle.clean_signal.proofs.frames.Times.{timed_alone}
 use Rattle.clean_link.proofs.traffic.Steady.{one_now, one_stream, one_stream_is, traffic_file_from, traffic_file_to, traffic_known_is}
-use Rattle.clean_link.proofs.traffic.Steady.{traffic_timed, one_pilot_heard, first_legs, first_pilot, frames_of_one, each_of_all}
+use Rattle.clean_link.proofs.traffic.Steady.{traffic_alone, one_pilot_heard, first_legs, first_pilot, frames_of_one, each_of_all}
 use Rattle.clean_link.proofs.traffic.Steady.{one_pilot_before, messages_of_one}
 
 -- ---- one of a list
@@ -61,7 +62,9 @@ pub frame_back : TrafficFramesComeBack
 unfolding decoded_at
 frame_back width plan p t traffic m legs superframes k f is heard distinct =
     let few = (power_pairs (frame_state traffic m k) (traffic_mask traffic.esn)).long in
-    let signs = traffic_related is heard in
+    let strength = soft_strength plan Data p.gain in
+    let signs = heard_related is heard (IsSigned strength) (signed_turn strength) (made_samples plan)
+    (traffic_clean is (4 * superframes + k)) in
     sent_frame (soft_strength plan Data p.gain) (replaced_in traffic m k) f.rate f.information
     (frame_softs (made_samples plan) (stream_of t traffic m legs k) k) (traffic_strong is)
     (omega (arith, few)) signs.0 (sized is heard) signs.1 distinct
@@ -81,6 +84,13 @@ heard_as n f score frame power_bits is sent =
     }) bits) sent
 
 -- ---- in a file
+
+-- a frame that is received begins at the mark or later, and ends in the file
+pub received_lies : (plan : CellPlan) (p : TrafficPlan) (chip frame : ℕ) → is_received plan p chip frame ≡ true →
+    (chip ≤ frame_chip p frame) × (frame_chip p (frame + 1) ≤ end_chip plan)
+received_lies plan p chip frame kept =
+    let both = and_parts (nat_le chip (frame_chip p frame)) (nat_le (frame_chip p (frame + 1)) (end_chip plan)) kept in
+    (leb-true chip (frame_chip p frame) both.0, leb-true (frame_chip p (frame + 1)) (end_chip plan) both.1)
 
 -- frames that end within so many samples are few enough
 pub bound_enough : (t : Tuning) (traffic : Traffic) (m : Mark) →
@@ -123,9 +133,7 @@ module _ {width : Width} {plan : CellPlan} {p : TrafficPlan} {t : Tuning} {traff
       (λ (gone : inside k ≡ false).
       false_from_ne_true (received frame)
       (λ kept.
-      let both = and_parts (nat_le mark_chip (frame_chip p frame))
-      (nat_le (frame_chip p (frame + 1)) (end_chip plan)) kept in
-      let ends = leb-true (frame_chip p (frame + 1)) (end_chip plan) both.1 in
+      let ends = (received_lies plan p mark_chip frame kept).1 in
       let there = traffic_file_from t traffic m is.tuned.alone k
       (omega (arith, place, count, offset, ends)) in
       absurd (cc))
@@ -138,9 +146,7 @@ module _ {width : Width} {plan : CellPlan} {p : TrafficPlan} {t : Tuning} {traff
       let place = is.marked.place in
       false_from_ne_true (received i)
       (λ kept.
-      let both = and_parts (nat_le mark_chip (frame_chip p i))
-      (nat_le (frame_chip p (i + 1)) (end_chip plan)) kept in
-      let begun = leb-true mark_chip (frame_chip p i) both.0 in
+      let begun = (received_lies plan p mark_chip i kept).0 in
       omega (arith, low, begun, place, latest))
 
   -- so one that is received is so many frames after the mark, in the file
@@ -160,9 +166,7 @@ module _ {width : Width} {plan : CellPlan} {p : TrafficPlan} {t : Tuning} {traff
   past_end i high =
       false_from_ne_true (received i)
       (λ kept.
-      let both = and_parts (nat_le mark_chip (frame_chip p i))
-      (nat_le (frame_chip p (i + 1)) (end_chip plan)) kept in
-      let ends = leb-true (frame_chip p (i + 1)) (end_chip plan) both.1 in
+      let ends = (received_lies plan p mark_chip i kept).1 in
       omega (arith, high, ends))
 
   past_bound : (i : ℕ) → 4 * superframes + frames_bound t.count ≤ i → received i ≡ false
@@ -212,7 +216,7 @@ module _ {width : Width} {plan : CellPlan} {p : TrafficPlan} {t : Tuning} {traff
       ap (λ (n : ℕ). flat_map f (places (n + 1))) (sym is.tuned.count)
       ∙ flat_map_ext_places f (λ n. flat_map (g n) (known_now t.count stream n (frames_bound n)))
       (t.count + 1) given
-      ∙ given_in_order stream (traffic_timed t traffic m is.tuned.alone) frames_bound
+      ∙ given_in_order stream (timed_alone t.count stream (traffic_alone t traffic m is.tuned.alone)) frames_bound
       (bound_enough t traffic m) g
       ∙ flat_map_ext_filter_places inside (λ k. g (known_at t.count stream k) k)
       (λ k. told (4 * superframes + k)) (frames_bound t.count) (λ k below there. each k there)

@@ -9,8 +9,7 @@ use Rattle.clean_link.proofs.Common.{get_or-sent_by, address, data_shape, place,
 use Rattle.clean_link.proofs.Common.{is_replaced, lost_symbols, map, subst, length-append, code_symbols, symbols_at, quality_indicator}
 use Rattle.clean_link.proofs.Common.{quality_of, traffic_codeword, R9600, R4800, R2400, R1200, codeword_fills, codewords_same}
 use Rattle.clean_link.proofs.Common.{frame_codeword, shows_full_rate, tells_all_bits, full_rate_symbols, FullRateFramesAreDistinct, binary}
-use Rattle.clean_link.proofs.Common.{check_bits, IsAllowed, Zero, IsUnshared, frame_bits, frame_symbols, replaced_places, some_information}
-use Rattle.clean_link.proofs.Common.{AFullRateFrameIsDistinct, ZerosAreShared}
+use Rattle.clean_link.proofs.Common.{check_bits, frame_symbols, replaced_places, some_information, AFullRateFrameIsDistinct, ZerosAreShared}
 use Rattle.symbol_path.specs.declared.kinds.Kind.TheVariants.{Data}
 use Rattle.conv_code.proofs.Pairs.{AreAt}
 
@@ -142,18 +141,12 @@ either_bit on false h k = h
 -- four bits may be added up in either order
 crossed : (a b p q : Bool) → xor (xor a b) (xor p q) ≡ xor (xor a p) (xor b q)
 crossed true true true true = refl
-crossed true true true false = refl
 crossed true true false true = refl
-crossed true true false false = refl
 crossed true false true true = refl
-crossed true false true false = refl
 crossed true false false true = refl
-crossed true false false false = refl
 crossed false true true true = refl
-crossed false true true false = refl
 crossed false true false true = refl
-crossed false true false false = refl
-crossed false false p q = refl
+crossed a b p q = refl
 
 -- a symbol of a sum is the sum of the symbols
 pub symbol_add : (generator : List ℕ) (x y : List Bool) (j : ℕ) → length x ≡ length y →
@@ -419,10 +412,7 @@ codeword_ends information size =
 
 -- bits whose sum is 1 aren't equal
 differ : (a b : Bool) → xor a b ≡ true → a ≡ b → ⊥
-differ true true h same = cc
-differ true false h same = cc
-differ false true h same = cc
-differ false false h same = cc
+differ a b h same = let none = same_is_none a b same in absurd (cc)
 
 -- two code symbols that differ aren't sent as one
 not_one : (replaced : List ℕ) (xs ys : List Bool) (r j : ℕ) → 2 * j / r ≡ (2 * j + 1) / r →
@@ -524,31 +514,19 @@ zeros_same : frame_symbols R2400 (frame_codeword R2400 (replicate 40 false))
 unfolding binary places sent_by
 zeros_same = refl
 
--- both are codewords that a decoder tries
-zeros_2400 : IsAllowed Zero (frame_bits R2400) (frame_codeword R2400 (replicate 40 false))
-zeros_2400 = record { start_long = refl; bits_long = refl; begins = refl; closes = refl }
-
--- at the other rate too
-zeros_1200 : IsAllowed Zero (frame_bits R1200) (frame_codeword R1200 (replicate 16 false))
-zeros_1200 = record { start_long = refl; bits_long = refl; begins = refl; closes = refl }
-
--- so each rate's has the other's symbols
-not_2400 : (replaced : List ℕ) →
-    IsUnshared replaced R2400 (frame_codeword R2400 (replicate 40 false)) → ⊥
-not_2400 replaced unshared =
-    let found = unshared R1200 (frame_codeword R1200 (replicate 16 false)) zeros_1200
-    (λ i below out. ap (λ (r : List Bool). get_or r i false) zeros_same) in
-    let same = found.0 in
-    cc
-
--- and the other way round
-not_1200 : (replaced : List ℕ) →
-    IsUnshared replaced R1200 (frame_codeword R1200 (replicate 16 false)) → ⊥
-not_1200 replaced unshared =
-    let found = unshared R2400 (frame_codeword R2400 (replicate 40 false)) zeros_2400
-    (λ i below out. ap (λ (r : List Bool). get_or r i false) (sym zeros_same)) in
-    let same = found.0 in
-    cc
-
+-- and both are codewords that a decoder tries, so each has the other's symbols
 pub zeros_shared : ZerosAreShared
-zeros_shared replaced = (not_2400 replaced, not_1200 replaced)
+zeros_shared replaced = (
+  λ unshared.
+      let found = unshared R1200 (frame_codeword R1200 (replicate 16 false))
+      (record { start_long = refl; bits_long = refl; begins = refl; closes = refl })
+      (λ i below out. ap (λ (r : List Bool). get_or r i false) zeros_same) in
+      let same = found.0 in
+      cc,
+  λ unshared.
+      let found = unshared R2400 (frame_codeword R2400 (replicate 40 false))
+      (record { start_long = refl; bits_long = refl; begins = refl; closes = refl })
+      (λ i below out. ap (λ (r : List Bool). get_or r i false) (sym zeros_same)) in
+      let same = found.0 in
+      cc,
+)

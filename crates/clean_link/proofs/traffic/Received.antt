@@ -9,8 +9,8 @@ use Rattle.clean_link.proofs.Common.{replaced_in, Tuning, Mark, Traffic, PowerCo
 use Rattle.clean_link.proofs.Common.{is_received, received_frames, replaced_of, sent_bits, IsAssigned, SendsSetTwo, SendsSymbols, ShowFrame}
 use Rattle.clean_link.proofs.Common.{ShowPowerBits, cycled_frame2, codeword_symbols2, EachFrameIsReceived, FramesBehindMark}
 use Rattle.clean_link.proofs.Common.{FramesShowPowerBits, FramesShowSymbols, SetTwoBehindMark, HearsSentTraffic, SetTwoFramesComeBack}
-use Rattle.clean_link.proofs.Common.{IsReceivedBySigns, AreReceivedFrom, MarkIsAt, TrafficFrameHasSigns, HavePowerSigns, NoisyFrame}
-use Rattle.clean_link.proofs.Common.{IsReceived, ◌<ℤ◌, correlation, AgreeElsewhere, unreplaced, frame_softs, stream_of, HeardAreTheOnlyBest}
+use Rattle.clean_link.proofs.Common.{AreReceivedFrom, MarkIsAt, TrafficFrameHasSigns, HavePowerSigns, NoisyFrame, IsReceived, ◌<ℤ◌}
+use Rattle.clean_link.proofs.Common.{correlation, AgreeElsewhere, unreplaced, frame_softs, stream_of, HeardAreTheOnlyBest}
 use Rattle.clean_link.proofs.Common.{ReceivedAreTheOnlyBest, SetTwoAreTheOnlyBest, by_lt_z, KeepSigns, agree_left}
 use Rattle.clean_link.proofs.traffic.Signs.{clean_sent, traffic_shows, heard_power_bits, power_pairs, frame_powered, frame_shown}
 use Rattle.clean_link.proofs.traffic.Signs.{lawful_traffic, signed_powered, signed_shown, set_two_sends}
@@ -284,17 +284,6 @@ module _ {width : Width} {plan : CellPlan} {p : TrafficPlan} {t : Tuning} {traff
             (ap (λ (c : ℕ). is_received plan p c frame) chip ∙ received);
       }
 
-  -- so each that has the sent signs is received by them
-  pub signed_behind_mark : AreReceivedFrom plan p at
-      (λ frame soft. TrafficFrameHasSigns plan p samples frame → (symbols power_bits : List Bool) →
-      SendsSymbols plan p frame symbols power_bits →
-      IsReceivedBySigns plan p frame symbols power_bits soft)
-      (soft_frames t (traffic_channel traffic) m samples)
-  signed_behind_mark =
-      behind_mark _ (λ superframes hears frame received has symbols power_bits sends.
-      (signed_received width plan p t traffic m superframes frame samples symbols power_bits hears has
-      received sends).0)
-
 -- one of the frames of rate set 2 is sent at each number
 frame2_there : (width : Width) (plan : CellPlan) (p : TrafficPlan) → IsReceivable width plan →
     Contains plan.traffic p → SendsSetTwo p → (frame : ℕ) → (f : SetTwoFrame)
@@ -312,7 +301,9 @@ frame2_there width plan p is sent some frame =
 
 pub frames_behind_mark : FramesBehindMark
 frames_behind_mark width plan p t traffic m at samples is long tuned sent assigned set =
-    signed_behind_mark samples is tuned sent assigned long m set
+    behind_mark samples is tuned sent assigned long m set _
+    (λ superframes hears frame received has symbols power_bits sends.
+    (signed_received width plan p t traffic m superframes frame samples symbols power_bits hears has received sends).0)
 
 -- One of rate set 2 comes back by what it sends.
 pub set_two_behind_mark : SetTwoBehindMark

@@ -179,25 +179,6 @@ closed n v enough allowed =
     let long = allowed.bits_long in
     ended_zeros v.bits (omega (arith, long, enough)) allowed.closes
 
--- Of the rates of a set: where only a frame's own codeword gives what it shows, no other allowed codeword
--- does.
-one_codeword : {R : Type 0} (shown : R → ℕ → List Bool) (size : R → ℕ) (rate r : R) (bits : List Bool)
-    (v own : Codeword) → (r ≡ rate) ⊎ (r ≢ rate) → 8 ≤ size r → IsAllowed Zero (size r) v →
-    AreGiving (shown r) 0 (replicate 8 false) v.bits →
-    codewords_giving (shown rate) (size rate) 0 (replicate 8 false) ≡ bits ∷ [] →
-    ((q : R) → q ≢ rate → codewords_giving (shown q) (size q) 0 (replicate 8 false) ≡ []) →
-    (bits ≡ v.bits → v ≡ own) → (r ≡ rate) × (v ≡ own)
-one_codeword {R} shown size rate r bits v own (inl same) enough allowed giving alone others is =
-    let here = subst (λ (q : R). codewords_giving (shown q) (size q) 0 (replicate 8 false) ≡ bits ∷ [])
-    (sym same) alone in (
-      same,
-      is (given_one (shown r) (size r) 0 (replicate 8 false) v.bits bits refl allowed.bits_long
-          (closed (size r) v enough allowed) giving here),
-    )
-one_codeword shown size rate r bits v own (inr other) enough allowed giving alone others is =
-    absurd (given_none (shown r) (size r) 0 (replicate 8 false) v.bits refl allowed.bits_long
-    (closed (size r) v enough allowed) giving (others r other))
-
 -- ---- frames of any rate set
 
 -- Rates whose frames repeat each code symbol so often, and have so many bits. All repeated symbols
@@ -215,6 +196,7 @@ module _ {R : Type 0} (repeats size : R → ℕ) (all : ℕ)
   shown_to rate bits r =
       symbols_known_of known (code_symbols (replicate 8 false) bits) (repeats rate) (repeats r)
 
+  -- Where only a frame's own codeword gives what it shows, no other allowed codeword shares its symbols.
   one_shares : (rate r : R) (bits : List Bool) (v own : Codeword) →
       codewords_giving (shown_to rate bits rate) (size rate) 0 (replicate 8 false) ≡ bits ∷ [] →
       ((q : R) → q ≢ rate →
@@ -229,11 +211,23 @@ module _ {R : Type 0} (repeats size : R → ℕ) (all : ℕ)
       (sent_at r (code_symbols (replicate 8 false) v.bits)) =
       subst (λ (s : List Bool). AgreeElsewhere replaced (sent_at rate xs)
       (sent_at r (code_symbols s v.bits))) allowed.begins agree in
-      one_codeword (shown_to rate bits) size rate r bits v own (same r rate) (enough r) allowed
-      (agreeing_give known xs (repeats rate) (repeats r) (size r) all v.bits allowed.bits_long
+      let zeros = replicate 8 false in
+      let giving = agreeing_give known xs (repeats rate) (repeats r) (size r) all v.bits allowed.bits_long
       (copies r)
-      (λ k low kept. known_agree repeated replaced xs (code_symbols (replicate 8 false) v.bits)
-      (repeats rate) (repeats r) k (there k low kept) from_zeros)) alone others is
+      (λ k low kept. known_agree repeated replaced xs (code_symbols zeros v.bits)
+      (repeats rate) (repeats r) k (there k low kept) from_zeros) in
+      let ends = closed (size r) v (enough r) allowed in
+      elim (same r rate) [
+        | inl one ↦ (
+            one,
+            is (given_one (shown_to rate bits r) (size r) 0 zeros v.bits bits refl allowed.bits_long ends giving
+                (subst (λ (q : R). codewords_giving (shown_to rate bits q) (size q) 0 zeros ≡ bits ∷ []) (sym one)
+                alone)),
+          )
+        | inr other ↦
+            absurd (given_none (shown_to rate bits r) (size r) 0 zeros v.bits refl allowed.bits_long ends giving
+            (others r other))
+      ]
 
 -- ---- rate set 1
 

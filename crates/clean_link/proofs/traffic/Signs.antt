@@ -15,9 +15,8 @@ use Rattle.clean_link.proofs.Common.{◌+ℤ◌, ◌&&◌, int_lt, range_with_le
 use Rattle.clean_link.proofs.Common.{power_place_in_groups, pairs_below, pairs_in_groups, pairs_neighbours, ArePairs, power_bit, group_sum}
 use Rattle.clean_link.proofs.Common.{group_sums, map_ext_places, power_bits_at, sent_bits, TrafficFrameHasSigns, sent_power_bits}
 use Rattle.clean_link.proofs.Common.{PowerBitsComeBack, SixteenPowerBitsAreSent, le_false, lt_true}
-use Rattle.frame_decoder.specs.Laws.{ShowSymbols}
 use Rattle.chip_core.proofs.Finds.{nat_eq-flipped}
-use Rattle.clean_signal.proofs.signal.CarriersApart.{plan_apart, traffic_sent}
+use Rattle.clean_signal.proofs.signal.CarriersApart.{traffic_sent}
 use Rattle.clean_signal.proofs.frames.ChannelSigns.{strength_some}
 use Rattle.clean_link.proofs.frames.ChannelFrames.{length-scrambling, fingers_are, near_frame}
 use Rattle.clean_signal.proofs.signal.Frames.{clean_relates}
@@ -205,11 +204,10 @@ module _ {width : Width} {plan : CellPlan} {p : TrafficPlan} {t : Tuning} {traff
   traffic_strong = strength_some width plan Data p.gain is.receivable gain_some
 
   -- what they are to its symbols on a clean link, and through noise that it bears
-  traffic_clean : (frame : ℕ) → FrameRelates (IsSigned (soft_strength plan Data p.gain)) plan
+  pub traffic_clean : (frame : ℕ) → FrameRelates (IsSigned (soft_strength plan Data p.gain)) plan
       (traffic_carrier plan p) Data (made_samples plan) frame
   traffic_clean =
-      clean_relates plan (traffic_carrier plan p) Data is.receivable.lawful.pn
-      (plan_apart width plan is.receivable.lawful) (traffic_sent plan p is.sent)
+      clean_relates is.receivable (traffic_carrier plan p) Data (traffic_sent plan p is.sent)
 
 module _ {width : Width} {plan : CellPlan} {p : TrafficPlan} {t : Tuning} {traffic : Traffic}
     {m : Mark} {superframes : ℕ} (is : HearsSentTraffic width plan p t traffic m superframes) (k : ℕ)
@@ -367,23 +365,12 @@ module _ {width : Width} {plan : CellPlan} {p : TrafficPlan} {t : Tuning} {traff
 -- ---- the laws
 
 -- of a clean link they are one positive number times the sent signs
-pub traffic_related : {width : Width} {plan : CellPlan} {p : TrafficPlan} {t : Tuning}
-    {traffic : Traffic} {m : Mark} {legs : ℕ → List Leg} {superframes k : ℕ} {f : SetOneFrame}
-    (is : HearsSentTraffic width plan p t traffic m superframes)
-    (heard : IsHeardAs plan p t traffic m legs superframes k f) →
-    (length (frame_softs (made_samples plan) (stream_of t traffic m legs k) k) ≡ 384)
-    × ShowSymbols (replaced_in traffic m k) (soft_strength plan Data p.gain) (codeword_symbols f)
-    (frame_softs (made_samples plan) (stream_of t traffic m legs k) k)
-    × ShowPowerBits (replaced_in traffic m k) (soft_strength plan Data p.gain) f.power_bits
-    (raw_softs t traffic m legs (made_samples plan) k)
-traffic_related {plan = plan} {p} {superframes = superframes} {k} is heard =
-    let strength = soft_strength plan Data p.gain in
-    heard_related is heard (IsSigned strength) (signed_turn strength) (made_samples plan)
-    (traffic_clean is (4 * superframes + k))
-
 pub traffic_signs : TrafficHaveSentSigns
 traffic_signs width plan p t traffic m legs superframes k f is heard =
-    (traffic_strong is, (traffic_related is heard).1, (traffic_related is heard).2)
+    let strength = soft_strength plan Data p.gain in
+    let related = heard_related is heard (IsSigned strength) (signed_turn strength) (made_samples plan)
+    (traffic_clean is (4 * superframes + k)) in
+    (traffic_strong is, related.1, related.2)
 
 pub traffic_shows : TrafficShowsSigns
 traffic_shows width plan p t traffic m legs superframes k f samples is heard signs =

@@ -4,25 +4,24 @@ use Rattle.clean_link.proofs.Common.{ap, ◌∙◌, arith, subst, inl, inr, Opti
 use Rattle.clean_link.proofs.Common.{range_with_len, cases_lt, eq-eqb, take-take, All-append, All-cons, All-head, All-map, All-nil}
 use Rattle.clean_link.proofs.Common.{All-same, All-tail, places, Sample, PagingMessage, TrafficBody, active_timed, energy_in, Standing}
 use Rattle.clean_link.proofs.Common.{due_at, due_for, new_standing, shown, shown_active, with_neighbors, with_thresholds, Active, Accepted}
-use Rattle.clean_link.proofs.Common.{ActivePilot, Strength, Thresholds, legs_of, leg_of, pilot_finger, heard_from, kept_to, legs_at}
-use Rattle.clean_link.proofs.Common.{legs_by, messages_at, moment_of, moment_place, moments_before, passed, told_by, all_noted, body_noted}
-use Rattle.clean_link.proofs.Common.{in_traffic_thresholds, noted, noted_with, page_noted, system_thresholds, page_event, pages_behind}
-use Rattle.clean_link.proofs.Common.{messages_by, frame_heard, frames_by, frames_now, Tuning, Event, Leg, Mark, Traffic, kept_new, kept_old}
-use Rattle.clean_link.proofs.Common.{IsNoDirection, IsNotDirected, IsOnePilot, ReadPage, OnePilotIsHeard, length, drop, length-take-le}
-use Rattle.clean_link.proofs.Common.{take-append-drop, events, events_at, heard_within, message_events_at, frame_events_at}
-use Rattle.clean_link.proofs.Common.{paging_events_at, sets_events_at, mark, frames_at, AreNear, sync_events_at, if_followed, sync_stream}
-use Rattle.clean_link.proofs.Common.{Pilot, frames_sooner, by_one_mark, messages_sooner, IsUndirected, append_assoc, append-nil, sets_at}
-use Rattle.clean_link.proofs.Common.{frames_later, messages_later, opens_followed, OpensBehind, told_behind, option_map, ◌&&◌, ℤ}
-use Rattle.clean_link.proofs.Common.{option_to_list, power_bit, decoded, group_sums, Decoded, softs, Finger, Data, AreClose, all_fingers}
-use Rattle.clean_link.proofs.Common.{subchannels, capsule_with, signaling_message_at, message_events, message_heard, signal_at, signal_in}
-use Rattle.clean_link.proofs.Common.{signal_of, signals_before, frame_softs, is_in_file, known_at, known_now, Stream, all_sums}
-use Rattle.clean_link.proofs.Common.{power_bits_at, decoded_at, frame_event, subchannel_sums, raw_by, raw_softs, ends_now, frames_bound}
-use Rattle.clean_link.proofs.Common.{has_frame, replaced_in, stream_of, traffic_start, traffic_stream, fingers_of, AreCloseAll, map_same}
-use Rattle.clean_link.proofs.Common.{pilot_alone, filter_ext_places, flat_map_ext_filter, flat_map_ext_filter_places, ◌*◌, ◌+ℤ◌, IsTimed}
-use Rattle.clean_link.proofs.Common.{modulo_code}
+use Rattle.clean_link.proofs.Common.{ActivePilot, Strength, legs_of, leg_of, pilot_finger, heard_from, kept_to, legs_at, legs_by}
+use Rattle.clean_link.proofs.Common.{messages_at, moment_of, moment_place, moments_before, passed, told_by, all_noted, body_noted, noted}
+use Rattle.clean_link.proofs.Common.{noted_with, page_noted, system_thresholds, page_event, pages_behind, messages_by, frame_heard}
+use Rattle.clean_link.proofs.Common.{frames_by, frames_now, Tuning, Event, Leg, Mark, Traffic, kept_new, kept_old, IsNoDirection}
+use Rattle.clean_link.proofs.Common.{IsNotDirected, IsOnePilot, OnePilotIsHeard, length, drop, length-take-le, take-append-drop, events}
+use Rattle.clean_link.proofs.Common.{events_at, heard_within, message_events_at, frame_events_at, paging_events_at, sets_events_at, mark}
+use Rattle.clean_link.proofs.Common.{frames_at, AreNear, sync_events_at, if_followed, sync_stream, Pilot, frames_sooner, by_one_mark}
+use Rattle.clean_link.proofs.Common.{messages_sooner, IsUndirected, append_assoc, append-nil, sets_at, frames_later, messages_later}
+use Rattle.clean_link.proofs.Common.{opens_followed, OpensBehind, told_behind, option_map, ◌&&◌, ℤ, option_to_list, power_bit, decoded}
+use Rattle.clean_link.proofs.Common.{group_sums, Decoded, softs, Finger, Data, AreClose, all_fingers, subchannels, capsule_with}
+use Rattle.clean_link.proofs.Common.{signaling_message_at, message_events, message_heard, signal_at, signal_in, signal_of, signals_before}
+use Rattle.clean_link.proofs.Common.{frame_softs, is_in_file, known_at, known_now, Stream, all_sums, power_bits_at, decoded_at, frame_event}
+use Rattle.clean_link.proofs.Common.{subchannel_sums, raw_by, raw_softs, ends_now, frames_bound, has_frame, replaced_in, stream_of}
+use Rattle.clean_link.proofs.Common.{traffic_start, traffic_stream, fingers_of, AreCloseAll, map_same, pilot_alone, filter_ext_places}
+use Rattle.clean_link.proofs.Common.{flat_map_ext_filter, flat_map_ext_filter_places, ◌*◌, ◌+ℤ◌, modulo_code}
 use Rattle.pilot_sets.specs.Standing.{stepped}
 use Rattle.clean_link.proofs.frames.Times.{one_path, known_at_once}
-use Rattle.clean_signal.proofs.frames.Times.{IsAlone, inside_alone, room_alone, timed_alone}
+use Rattle.clean_signal.proofs.frames.Times.{IsAlone, inside_alone, room_alone}
 use Rattle.heard_events.specs.declared.channel.Channel.TheVariants.{Paging, Traffic as OnTraffic}
 use Rattle.paging_message.specs.declared.message.PagingMessage.TheVariants as pages
 use Rattle.traffic_message.specs.declared.body.TrafficBody.TheVariants as bodies
@@ -69,112 +68,6 @@ module _ (t : Tuning) (traffic : Traffic) (m : Mark) (legs : ℕ → List Leg) (
       (ap (λ (some : List Leg). group_sums replaced (raw_by t traffic m samples k some) ∷ [])
       is.alone)
 
--- ---- pilots that are the reference's alone are heard alike
-
-module _ (t : Tuning) (traffic : Traffic) (m : Mark) (legs legs' : ℕ → List Leg)
-    (one : (k : ℕ) → IsOnePilot traffic (legs k))
-    (one' : (k : ℕ) → IsOnePilot traffic (legs' k)) where
-  same_fingers : (k : ℕ) →
-      all_fingers t.phase t.deltas (legs k) ≡ all_fingers t.phase t.deltas (legs' k)
-  same_fingers k =
-      one_fingers traffic t.phase t.deltas (legs k) (one k)
-      ∙ sym (one_fingers traffic t.phase t.deltas (legs' k) (one' k))
-
-  same_decoded : (samples : List Sample) (k : ℕ) →
-      decoded_at t traffic m legs samples k ≡ decoded_at t traffic m legs' samples k
-  unfolding decoded_at
-  same_decoded samples k =
-      ap (λ (fingers : List Finger).
-      decoded (replaced_in traffic m k)
-      (frame_softs samples (traffic_stream traffic m fingers) k))
-      (same_fingers k)
-
-  same_raw : (samples : List Sample) (k : ℕ) →
-      raw_softs t traffic m legs samples k ≡ raw_softs t traffic m legs' samples k
-  same_raw samples k =
-      ap (λ (fingers : List Finger). softs samples fingers Data (traffic_start traffic m k))
-      (same_fingers k)
-
-  same_power_bits : (samples : List Sample) (k : ℕ) →
-      power_bits_at t traffic m legs samples k ≡ power_bits_at t traffic m legs' samples k
-  unfolding power_bits_at
-  same_power_bits samples k =
-      let replaced = replaced_in traffic m k in
-      ap (λ (sums : List (List ℤ)). map (power_bit sums) (places 16))
-      (one_sums t traffic m legs k (one k) samples
-      ∙ ap (λ (values : List ℤ). group_sums replaced values ∷ []) (same_raw samples k)
-      ∙ sym (one_sums t traffic m legs' k (one' k) samples))
-
-  same_heard : (samples : List Sample) (n k : ℕ) →
-      frame_heard t traffic m legs samples n k ≡ frame_heard t traffic m legs' samples n k
-  same_heard samples n k =
-      ap (λ (d : Decoded). frame_event n d (power_bits_at t traffic m legs samples k))
-      (same_decoded samples k)
-      ∙ ap (frame_event n (decoded_at t traffic m legs' samples k)) (same_power_bits samples k)
-
-  same_has : (k : ℕ) → has_frame t traffic m legs k ≡ has_frame t traffic m legs' k
-  same_has k =
-      ap (λ (fingers : List Finger). is_in_file t.count (traffic_stream traffic m fingers) k)
-      (same_fingers k)
-
-  same_now : (n : ℕ) → frames_now t traffic m legs n ≡ frames_now t traffic m legs' n
-  same_now n =
-      filter_ext_places (ends_now t traffic m legs n) (ends_now t traffic m legs' n)
-      (frames_bound n)
-      (λ k below.
-      ap (λ (fingers : List Finger).
-      is_in_file t.count (traffic_stream traffic m fingers) k
-      && known_at t.count (traffic_stream traffic m fingers) k == n)
-      (same_fingers k))
-
-  -- so their frames are the same,
-  pub same_frames : (samples : List Sample) (n : ℕ) →
-      frames_by t traffic m legs samples n ≡ frames_by t traffic m legs' samples n
-  unfolding frames_by
-  same_frames samples n =
-      ap (map (frame_heard t traffic m legs samples n)) (same_now n)
-      ∙ map_same (frame_heard t traffic m legs samples n)
-      (frame_heard t traffic m legs' samples n) (frames_now t traffic m legs' n)
-      (same_heard samples n)
-
-  same_signal : (samples : List Sample) (k : ℕ) →
-      signal_at t traffic m legs samples k ≡ signal_at t traffic m legs' samples k
-  unfolding signal_at
-  same_signal samples k = ap signal_of (same_decoded samples k)
-
-  same_before : (samples : List Sample) (k : ℕ) →
-      signals_before t traffic m legs samples k ≡ signals_before t traffic m legs' samples k
-  unfolding signals_before
-  same_before samples k =
-      let own : (ℕ → List Leg) → ℕ → List (List Bool) =
-      λ some j. option_to_list (signal_at t traffic m some samples j) in
-      ap (flat_map (own legs))
-      (filter_ext_places (has_frame t traffic m legs) (has_frame t traffic m legs') k
-      (λ j below. same_has j))
-      ∙ flat_map_ext_filter_places (has_frame t traffic m legs') (own legs) (own legs') k
-      (λ j below inside.
-      ap (λ (signal : Option (List Bool)). option_to_list signal) (same_signal samples j))
-
-  same_message : (samples : List Sample) (n k : ℕ) →
-      message_heard t traffic m legs samples n k ≡ message_heard t traffic m legs' samples n k
-  unfolding signaling_message_at
-  same_message samples n k =
-      let of : List (List Bool) → Option (List Bool) → List Event =
-      λ before signal. message_events n (signal_in t.check16 (capsule_with before signal)) in
-      ap (λ (before : List (List Bool)). of before (signal_at t traffic m legs samples k))
-      (same_before samples k)
-      ∙ ap (of (signals_before t traffic m legs' samples k)) (same_signal samples k)
-
-  -- and so are the messages that these complete
-  pub same_messages : (samples : List Sample) (n : ℕ) →
-      messages_by t traffic m legs samples n ≡ messages_by t traffic m legs' samples n
-  unfolding messages_by
-  same_messages samples n =
-      ap (flat_map (message_heard t traffic m legs samples n)) (same_now n)
-      ∙ flat_map_ext_filter (ends_now t traffic m legs' n)
-      (message_heard t traffic m legs samples n) (message_heard t traffic m legs' samples n)
-      (places (frames_bound n)) (λ k both. same_message samples n k)
-
 -- ---- by the one stream
 
 module _ (t : Tuning) (traffic : Traffic) (m : Mark) (legs : ℕ → List Leg)
@@ -197,6 +90,93 @@ module _ (t : Tuning) (traffic : Traffic) (m : Mark) (legs : ℕ → List Leg)
       (subst (λ (deltas : List ℤ). AreClose (fingers_of traffic.row t.phase deltas)) (sym alone)
       (record { some = omega arith; close = refl }))
 
+-- ---- pilots that are the reference's alone are heard alike
+
+module _ (t : Tuning) (traffic : Traffic) (m : Mark) (legs legs' : ℕ → List Leg)
+    (one : (k : ℕ) → IsOnePilot traffic (legs k))
+    (one' : (k : ℕ) → IsOnePilot traffic (legs' k)) where
+  same_fingers : (k : ℕ) →
+      all_fingers t.phase t.deltas (legs k) ≡ all_fingers t.phase t.deltas (legs' k)
+  same_fingers k =
+      one_fingers traffic t.phase t.deltas (legs k) (one k)
+      ∙ sym (one_fingers traffic t.phase t.deltas (legs' k) (one' k))
+
+  same_decoded : (samples : List Sample) (k : ℕ) →
+      decoded_at t traffic m legs samples k ≡ decoded_at t traffic m legs' samples k
+  unfolding decoded_at
+  same_decoded samples k =
+      ap (λ (fingers : List Finger).
+      decoded (replaced_in traffic m k)
+      (frame_softs samples (traffic_stream traffic m fingers) k))
+      (same_fingers k)
+
+  same_power_bits : (samples : List Sample) (k : ℕ) →
+      power_bits_at t traffic m legs samples k ≡ power_bits_at t traffic m legs' samples k
+  unfolding power_bits_at
+  same_power_bits samples k =
+      let replaced = replaced_in traffic m k in
+      ap (λ (sums : List (List ℤ)). map (power_bit sums) (places 16))
+      (one_sums t traffic m legs k (one k) samples
+      ∙ ap (λ (fingers : List Finger).
+      group_sums replaced (softs samples fingers Data (traffic_start traffic m k)) ∷ []) (same_fingers k)
+      ∙ sym (one_sums t traffic m legs' k (one' k) samples))
+
+  same_heard : (samples : List Sample) (n k : ℕ) →
+      frame_heard t traffic m legs samples n k ≡ frame_heard t traffic m legs' samples n k
+  same_heard samples n k =
+      ap (λ (d : Decoded). frame_event n d (power_bits_at t traffic m legs samples k))
+      (same_decoded samples k)
+      ∙ ap (frame_event n (decoded_at t traffic m legs' samples k)) (same_power_bits samples k)
+
+  same_now : (n : ℕ) → frames_now t traffic m legs n ≡ frames_now t traffic m legs' n
+  same_now n = one_now t traffic m legs one n ∙ sym (one_now t traffic m legs' one' n)
+
+  -- so their frames are the same,
+  pub same_frames : (samples : List Sample) (n : ℕ) →
+      frames_by t traffic m legs samples n ≡ frames_by t traffic m legs' samples n
+  unfolding frames_by
+  same_frames samples n =
+      ap (map (frame_heard t traffic m legs samples n)) (same_now n)
+      ∙ map_same (frame_heard t traffic m legs samples n)
+      (frame_heard t traffic m legs' samples n) (frames_now t traffic m legs' n)
+      (same_heard samples n)
+
+  same_before : (samples : List Sample) (k : ℕ) →
+      signals_before t traffic m legs samples k ≡ signals_before t traffic m legs' samples k
+  unfolding signals_before signal_at
+  same_before samples k =
+      let own : (ℕ → List Leg) → ℕ → List (List Bool) =
+      λ some j. option_to_list (signal_at t traffic m some samples j) in
+      ap (flat_map (own legs))
+      (filter_ext_places (has_frame t traffic m legs) (has_frame t traffic m legs') k
+      (λ j below.
+      ap (λ (fingers : List Finger). is_in_file t.count (traffic_stream traffic m fingers) j)
+      (same_fingers j)))
+      ∙ flat_map_ext_filter_places (has_frame t traffic m legs') (own legs) (own legs') k
+      (λ j below inside.
+      ap (λ (d : Decoded). option_to_list (signal_of d)) (same_decoded samples j))
+
+  same_message : (samples : List Sample) (n k : ℕ) →
+      message_heard t traffic m legs samples n k ≡ message_heard t traffic m legs' samples n k
+  unfolding signaling_message_at signal_at
+  same_message samples n k =
+      let of : List (List Bool) → Option (List Bool) → List Event =
+      λ before signal. message_events n (signal_in t.check16 (capsule_with before signal)) in
+      ap (λ (before : List (List Bool)). of before (signal_at t traffic m legs samples k))
+      (same_before samples k)
+      ∙ ap (λ (d : Decoded). of (signals_before t traffic m legs' samples k) (signal_of d))
+      (same_decoded samples k)
+
+  -- and so are the messages that these complete
+  pub same_messages : (samples : List Sample) (n : ℕ) →
+      messages_by t traffic m legs samples n ≡ messages_by t traffic m legs' samples n
+  unfolding messages_by
+  same_messages samples n =
+      ap (flat_map (message_heard t traffic m legs samples n)) (same_now n)
+      ∙ flat_map_ext_filter (ends_now t traffic m legs' n)
+      (message_heard t traffic m legs samples n) (message_heard t traffic m legs' samples n)
+      (places (frames_bound n)) (λ k both. same_message samples n k)
+
 -- ---- when frames end and are known
 
 -- the number of samples at which frame k ends
@@ -210,9 +190,6 @@ module _ (t : Tuning) (traffic : Traffic) (m : Mark) (alone : t.deltas ≡ one_p
     row = traffic.row;
     fingers = ap (fingers_of traffic.row t.phase) alone;
   }
-
-  pub traffic_timed : IsTimed t.count (one_stream t traffic m) 0
-  traffic_timed = timed_alone t.count (one_stream t traffic m) traffic_alone
 
   pub traffic_file_from : (k : ℕ) → end_behind traffic m k ≤ t.count →
       is_in_file t.count (one_stream t traffic m) k ≡ true
@@ -298,29 +275,20 @@ module _ (m : Mark) (row : ℕ) where
   either_steady true s s' one other = one
   either_steady false s s' one other = other
 
-  thresholds_steady : (s : Standing) → IsSteady m row s →
-      (f : Thresholds) →
-      IsSteady m row (with_thresholds f s)
-  thresholds_steady s st f = record { waiting = st.waiting; pilot = st.pilot }
-
-  neighbors_steady : (s : Standing) → IsSteady m row s → (heard : List ℕ) →
-      IsSteady m row (with_neighbors heard s)
-  neighbors_steady s st heard = record { waiting = st.waiting; pilot = st.pilot }
-
   page_steady : (pn : ℕ) (message : PagingMessage) (s : Standing) → IsSteady m row s →
       IsSteady m row (page_noted pn message s)
   page_steady pn (pages.System f) s st =
       either_steady (f.pn == pn) (with_thresholds (system_thresholds f) s) s
-      (thresholds_steady s st (system_thresholds f)) st
+      (record { waiting = st.waiting; pilot = st.pilot }) st
   page_steady pn (pages.Neighbors f) s st =
-      either_steady (f.pn == pn) (with_neighbors f.pns s) s (neighbors_steady s st f.pns) st
+      either_steady (f.pn == pn) (with_neighbors f.pns s) s
+      (record { waiting = st.waiting; pilot = st.pilot }) st
   page_steady pn message s st = st
 
   body_steady : (first : ℕ) (body : TrafficBody) (s : Standing) → IsNoDirection body →
       IsSteady m row s → IsSteady m row (body_noted first body s)
-  body_steady first (bodies.System f) s none st =
-      thresholds_steady s st (in_traffic_thresholds f)
-  body_steady first (bodies.Neighbors f) s none st = neighbors_steady s st f.pns
+  body_steady first (bodies.System f) s none st = record { waiting = st.waiting; pilot = st.pilot }
+  body_steady first (bodies.Neighbors f) s none st = record { waiting = st.waiting; pilot = st.pilot }
   body_steady first (bodies.Handoff f) s none st = absurd none
   body_steady first (bodies.Other kind bits) s none st = st
 
@@ -369,17 +337,6 @@ passed_steady m row samples j s st =
 
 -- ---- from moment to moment
 
-pub pages_undirected : (n : ℕ) (pages : List ReadPage) →
-    All IsNotDirected (map (page_event n) pages)
-pages_undirected n pages = All-map IsNotDirected (page_event n) pages (λ k d below. tt)
-
-pub frames_undirected : (t : Tuning) (traffic : Traffic) (m : Mark) (legs : ℕ → List Leg)
-    (samples : List Sample) (n : ℕ) → All IsNotDirected (frames_by t traffic m legs samples n)
-unfolding frames_by
-frames_undirected t traffic m legs samples n =
-    All-map IsNotDirected (frame_heard t traffic m legs samples n) (frames_now t traffic m legs n)
-    (λ k d below. tt)
-
 module _ (t : Tuning) (traffic : Traffic) (m : Mark) (samples : List Sample) (n : ℕ)
     (undirected : (i : ℕ) → i < n → All IsNotDirected (messages_at t traffic m samples i)) where
   -- the messages between two moments are those that are heard there
@@ -403,7 +360,7 @@ module _ (t : Tuning) (traffic : Traffic) (m : Mark) (samples : List Sample) (n 
       All IsNotDirected
       (told_by t traffic m (legs_by traffic m (kept_to t traffic m samples j))
       (take (moment_place m (j + 1)) samples) (moment_place m j + i + 1))
-  unfolding told_by
+  unfolding told_by frames_by
   told_undirected j i below most =
       let place : ℕ = moment_place m j + i + 1 in
       let legs = legs_by traffic m (kept_to t traffic m samples j) in
@@ -411,10 +368,11 @@ module _ (t : Tuning) (traffic : Traffic) (m : Mark) (samples : List Sample) (n 
       let heard = pages_behind t t.paging (Some m) cut place in
       All-append IsNotDirected (map (page_event place) heard)
       (frames_by t traffic m legs cut place ++ messages_by t traffic m legs cut place)
-      (pages_undirected place heard)
+      (All-map IsNotDirected (page_event place) heard (λ k d below. tt))
       (All-append IsNotDirected (frames_by t traffic m legs cut place)
       (messages_by t traffic m legs cut place)
-      (frames_undirected t traffic m legs cut place)
+      (All-map IsNotDirected (frame_heard t traffic m legs cut place) (frames_now t traffic m legs place)
+      (λ k d below. tt))
       (All-same IsNotDirected (messages_by t traffic m legs cut place)
       (messages_at t traffic m samples place) (messages_between j i below)
       (undirected place (omega (arith, below, most)))))

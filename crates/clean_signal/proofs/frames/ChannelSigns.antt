@@ -29,23 +29,21 @@ pub channel_signs : laws.ChannelsHaveSentSigns
 channel_signs width plan c form u frame is has at long =
     signed_is (soft_strength plan form c.gain) (c.symbols frame)
     (softs (made_samples plan) (path_finger plan c.row ∷ []) form u)
-    (clean_relates plan c form is.lawful.pn (plan_apart width plan is.lawful) has frame u at long)
+    (clean_relates is c form has frame u at long)
 
 pub noisy_signs : NoisyChannelsHaveSentSigns
 noisy_signs width plan c form u frame e samples is has at long near bears =
-    noisy_relates plan c form e samples is.lawful.pn (plan_apart width plan is.lawful) has near bears
-    frame u at long
+    noisy_relates is c form e samples has near bears frame u at long
 
 pub silent_rows : laws.SilentRowsAreZero
 silent_rows width plan row form u is below none at =
-    silent_softs plan row form u is.lawful.pn (plan_apart width plan is.lawful) below at
-    (λ chip from to. level_at-none row chip (carriers plan) none)
+    silent_softs is row form u below at (λ chip from to. level_at-none row chip (carriers plan) none)
 
 pub early_frames : laws.EarlyFramesAreZero
 early_frames width plan c form u is has at before =
     let apart = plan_apart width plan is.lawful in
     let own = All-contains IsAligned (carriers plan) c apart.aligned has in
-    silent_softs plan c.row form u is.lawful.pn apart own.row at
+    silent_softs is c.row form u own.row at
     (λ chip from to.
     level_at-alone chip (carriers plan) c apart.own_rows has ∙
     (let e = lt-ltb chip c.first (omega (arith, to, before)) in rw e refl))
@@ -55,7 +53,7 @@ stream_symbols width plan c s bits_of base k is has heard read here =
     let strength = soft_strength plan s.form c.gain in
     signed_is strength (order_of s bits_of (base + k)) (frame_softs (made_samples plan) s k)
     (stream_related (IsSigned strength) (signed_turn strength) (made_samples plan) heard read k
-    (clean_relates plan c s.form is.lawful.pn (plan_apart width plan is.lawful) has (base + k)) here)
+    (clean_relates is c s.form has (base + k)) here)
 
 -- ---- a stream of near samples
 
@@ -65,10 +63,7 @@ pub noisy_shown : {width : Width} {plan : CellPlan} {c : Carrier} {s : StreamOf 
     IsNear e samples (made_samples plan) → Bears plan c.gain e →
     IsShown plan.link.samples samples s bits_of base
 noisy_shown {width} {plan} {c} {s} {base = base} e samples is has heard read near bears =
-    heard_shown samples
-    (λ k. noisy_relates plan c s.form e samples is.lawful.pn (plan_apart width plan is.lawful) has
-    near bears (base + k))
-    heard read
+    heard_shown samples (λ k. noisy_relates is c s.form e samples has near bears (base + k)) heard read
 
 pub noisy_streams : NoisyStreamsShowSymbols
 noisy_streams width plan c s bits_of base k e samples is has heard read here near bears =

@@ -1,21 +1,22 @@
 -- A cell's samples without one of its channels: how near they are, and that the channel is gone.
 use Rattle.clean_signal.proofs.Common.{◌≡◌, ◌≢◌, ℕ, zero, suc, ◌+◌, ◌-◌, ◌*◌, ◌/◌, ◌%◌, ◌<◌, ◌≤◌, Bool, true, false, List, [], ◌∷◌, length}
 use Rattle.clean_signal.proofs.Common.{refl, sym, ap, ◌∙◌, arith, ints, ⊎_elim, ℤ, pos, unsigned_abs, ◌+ℤ◌, ◌-ℤ◌, ◌*ℤ◌, ◌<ℤ◌, All, All-cons}
-use Rattle.clean_signal.proofs.Common.{All-nil, All-contains, Contains, get_or, of_sample, map, replicate, sign, times, point, Pair, Sample}
-use Rattle.clean_signal.proofs.Common.{sum_below, sum_same, distrib_right, unsigned_abs-mul, mul-le-mul_right, cases_lt, subst, no_sample}
-use Rattle.clean_signal.proofs.Common.{sample_with, pilot_chip, scaled, places, CellPlan, Carrier, amplitude, amplitudes, carriers}
-use Rattle.clean_signal.proofs.Common.{sample_of, samples_of, made_samples, signal_of_carriers, walsh, Form, Sync, Data, soft, soft_is}
-use Rattle.clean_signal.proofs.Common.{symbol_chips, window_chips, symbols, pilot_sum, turned_part, turned_part-is, get_or-map-places}
-use Rattle.clean_signal.proofs.Common.{length-map-places, IsNear, IsCloseSample, HaveSigns, IsFrameOf, IsAligned, level_at, path_finger}
-use Rattle.clean_signal.proofs.Common.{CarriersAreApart}
+use Rattle.clean_signal.proofs.Common.{All-nil, Contains, get_or, of_sample, map, replicate, sign, times, point, Pair, Sample, sum_below}
+use Rattle.clean_signal.proofs.Common.{sum_same, distrib_right, unsigned_abs-mul, mul-le-mul_right, cases_lt, subst, no_sample, sample_with}
+use Rattle.clean_signal.proofs.Common.{pilot_chip, scaled, places, CellPlan, Carrier, amplitude, amplitudes, carriers, sample_of}
+use Rattle.clean_signal.proofs.Common.{samples_of, made_samples, signal_of_carriers, walsh, Form, Sync, Data, soft, soft_is, symbol_chips}
+use Rattle.clean_signal.proofs.Common.{window_chips, symbols, pilot_sum, turned_part, turned_part-is, get_or-map-places, length-map-places}
+use Rattle.clean_signal.proofs.Common.{IsNear, IsCloseSample, HaveSigns, IsFrameOf, IsAligned, level_at, path_finger, IsReceivable, Width}
+use Rattle.clean_signal.proofs.Common.{neg_ℤ}
 use Rattle.cell_plan.proofs.Amplitudes.{amplitude_most}
 use Rattle.rake_finger.proofs.Sooner.{symbol_inside}
 use Rattle.clean_signal.proofs.frames.ChannelSigns.{noisy_signs}
 use Rattle.clean_signal.proofs.noise.Axes.{below_amplitude, times_none}
 use Rattle.clean_signal.proofs.noise.Near.{near-near, near-self}
 use Rattle.clean_signal.proofs.signal.CarriersApart.{plan_apart}
-use Rattle.clean_signal.proofs.signal.Frames.{Finds, channel_level, frame_aligned, row_total, softs_none, symbol_blocks}
-use Rattle.clean_signal.proofs.signal.Rows.{chips_sum, level_at-alone}
+use Rattle.clean_signal.proofs.signal.Frames.{Finds, block_begins, channel_level, first_block, own, row_total, softs_none, symbol_blocks}
+use Rattle.chip_core.proofs.IndexSums.{sum_turned}
+use Rattle.clean_signal.proofs.signal.Rows.{chips_sum, level_at-alone, sum_plus}
 use Rattle.clean_signal.proofs.signal.Samples.{AreSentAs}
 use Rattle.clean_signal.specs.BoundedNoise.{channel_loudness, sample_without}
 unfoldable use Rattle.clean_signal.specs.BoundedNoise.{samples_without}
@@ -99,9 +100,7 @@ without_sent plan c = record {
 
 difference : (n : ℕ) (f g : ℕ → ℤ) →
     sum_below n (λ k. f k -ℤ g k) ≡ sum_below n f -ℤ sum_below n g
-unfolding sum_below
-difference zero f g = omega (arith, ints)
-difference (suc n) f g = let rest = difference n f g in rw rest (omega (arith, ints))
+difference n f g = sum_plus n f (λ k. neg_ℤ (g k)) ∙ ap (λ (z : ℤ). sum_below n f +ℤ z) (sum_turned n g)
 
 signed_difference : (b : Bool) (x y : ℤ) →
     sign b *ℤ (x -ℤ y) ≡ (sign b *ℤ x) -ℤ (sign b *ℤ (y +ℤ pos 0))
@@ -142,29 +141,27 @@ no_product p h n =
     let b = times_none p.q _ q in
     sym (turned_part-is p (scaled (pos 2 *ℤ (pos n *ℤ pos 0)) h)) ∙ omega (arith, ints, a, b)
 
-no_soft : (plan : CellPlan) (c : Carrier) (form : Form) (u frame j : ℕ) → plan.cell.pn < 512 →
-    CarriersAreApart plan.pilot.gain (carriers plan) → Contains (carriers plan) c →
-    IsFrameOf plan c form u frame → j < symbols form →
+no_soft : {width : Width} {plan : CellPlan} {c : Carrier} {form : Form} {u frame : ℕ} →
+    (is : IsReceivable width plan) → (has : Contains (carriers plan) c) →
+    (sent : IsFrameOf plan c form u frame) → (j : ℕ) → j < symbols form →
     soft (samples_without plan c) (path_finger plan c.row) form u j ≡ pos 0
-no_soft plan c form u frame j low apart has is few =
-    let own = All-contains IsAligned (carriers plan) c apart.aligned has in
-    let start = plan.link.start + u in
-    let whole = frame_aligned form start c.first frame is.begins own.first in
-    let b = start / 64 in
-    let at : start ≡ 64 * b = omega (arith, whole) in
-    let block = b + symbol_blocks form * j in
+no_soft {width} {plan} {c} {form} {u} {frame} is has sent j few =
+    let apart = plan_apart width plan is.lawful in
+    let row = own is has sent in
+    let block = first_block is has sent + symbol_blocks form * j in
     let l = pos c.gain *ℤ sign (get_or (c.symbols frame) j false) in
     let symbol = symbol_inside form j few in
-    let room = is.room in
-    let each = channel_level plan c form u frame j b apart has is few at in
+    let room = sent.room in
+    let each = channel_level is has sent j few in
     let xs = samples_without plan c in
     let p = pilot_sum xs (path_finger plan c.row) form u (symbol_chips form * j / window_chips form) in
     sym (soft_is xs (path_finger plan c.row) form u j)
     ∙ ap (turned_part p)
-    (row_total plan (λ chip. amplitudes chip (carriers plan) -ℤ amplitude chip c) xs form c.row u b j
-    (pos 0) (without_sent plan c) low at (omega (arith, room, symbol))
-    (nothing_left c.row block (symbol_blocks form) c (carriers plan) l own.row apart.aligned
-    (All-cons IsAligned c [] own (All-nil IsAligned)) each
+    (row_total plan (λ chip. amplitudes chip (carriers plan) -ℤ amplitude chip c) xs form c.row u
+    (first_block is has sent) j (pos 0) (without_sent plan c) is.lawful.pn (block_begins is has sent)
+    (omega (arith, room, symbol))
+    (nothing_left c.row block (symbol_blocks form) c (carriers plan) l row.row apart.aligned
+    (All-cons IsAligned c [] row (All-nil IsAligned)) each
     (λ i lt.
     level_at-alone (64 * (block + i)) (c ∷ []) c (All-nil (λ (d : Carrier). d.row ≢ c.row), tt)
     (0, omega arith, refl)
@@ -180,8 +177,7 @@ taken_away width plan c is has = (
   near_places plan c (places plan.link.samples),
   λ form u frame at.
       softs_none (samples_without plan c) (path_finger plan c.row) form u
-      (λ j few. no_soft plan c form u frame j is.lawful.pn (plan_apart width plan is.lawful) has at
-      few),
+      (no_soft is has at),
 )
 
 symbols_some : (form : Form) → 0 < symbols form

@@ -9,7 +9,7 @@ use Rattle.clean_signal.proofs.Common.{mod-mul-add, HaveOwnRows}
 
 -- ---- sums by index
 
-sum_plus : (n : ℕ) (f g : ℕ → ℤ) → sum_below n (λ k. f k +ℤ g k) ≡ sum_below n f +ℤ sum_below n g
+pub sum_plus : (n : ℕ) (f g : ℕ → ℤ) → sum_below n (λ k. f k +ℤ g k) ≡ sum_below n f +ℤ sum_below n g
 unfolding sum_below
 sum_plus zero f g = refl
 sum_plus (suc n) f g =
