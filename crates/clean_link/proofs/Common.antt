@@ -36,9 +36,9 @@ pub use Rattle.std.proofs.Common.{suc, sym, take, true, unsigned_abs, zero, ℕ,
 pub use Rattle.std.proofs.Common.{◌^◌, ◌||◌, ◌∙◌, ◌∷◌, ◌≡◌, ◌≢◌, ◌≤◌, ◌⊎◌}
 pub use Rattle.std.proofs.Math.Bool.{beq}
 pub use Rattle.std.proofs.Math.Nat.{mul-div-le, mul-le-mul_left}
-pub use Rattle.std.proofs.lemmas.Bool.{and_from, and_parts, and_right, cases_Bool, cases_lt, cases_order, eq-eqb, eqb-false, eqb-true}
-pub use Rattle.std.proofs.lemmas.Bool.{false_from_ne_true, le-leb, le-ltb, leb-true, lt-leb, lt-ltb, ltb-true, ne_eqb, not-true, or_cases}
-pub use Rattle.std.proofs.lemmas.Bool.{or_left, or_right}
+pub use Rattle.std.proofs.lemmas.Bool.{and_from, and_parts, and_right, cases_Bool, cases_eq, cases_lt, cases_order, eq-eqb, eqb-false}
+pub use Rattle.std.proofs.lemmas.Bool.{eqb-true, false_from_ne_true, le-leb, le-ltb, leb-true, lt-leb, lt-ltb, ltb-true, ne_eqb, not-true}
+pub use Rattle.std.proofs.lemmas.Bool.{or_cases, or_left, or_right}
 pub use Rattle.std.proofs.lemmas.Grind.{flat_map-append}
 pub use Rattle.std.proofs.lemmas.Int.{by_lt_z, int_rem_euclid_is, ints}
 pub use Rattle.std.proofs.lemmas.List.{length-take-le, take-append-drop, append-nil, length-map, map-append, drop-drop, drop_at, take-take}
@@ -80,8 +80,8 @@ pub use Rattle.conv_code.specs.ConvCode.{code_symbols, g0, g1, state_after, symb
 pub use Rattle.frame_decoder.proofs.RateCodewords.{bits_least}
 pub use Rattle.frame_decoder.proofs.SentFrames.{sent_frame, signs_frame}
 pub use Rattle.frame_decoder.proofs.ShownSymbols.{le_false, lt_true}
-pub use Rattle.frame_decoder.proofs.SignedScores.{agree_left}
-pub use Rattle.frame_decoder.specs.Laws.{AgreeElsewhere, frame_codeword}
+pub use Rattle.frame_decoder.proofs.SignedScores.{agree_left, shown_keep}
+pub use Rattle.frame_decoder.specs.Laws.{AgreeElsewhere, IsUnshared, frame_codeword}
 pub use Rattle.frame_decoder.specs.Signs.{AreKept, KeepSigns}
 pub use Rattle.frame_decoder.specs.TrafficFrames.{decoded, frame_symbols, group_sum, group_sums, power_bit}
 pub use Rattle.heard_events.proofs.EventPlaces.{AreAt, IsAt, all_at, all_each}
@@ -138,7 +138,7 @@ pub use Rattle.symbol_path.specs.Scrambling.{group_scrambling, power_place, powe
 unfoldable pub use Rattle.symbol_path.specs.Scrambling.{power_places, with_power_bits}
 pub use Rattle.symbol_path.specs.SentOrder.{address, data_shape, place, sync_shape, sent}
 unfoldable pub use Rattle.symbol_path.specs.SentOrder.{sent_by}
-pub use Rattle.symbol_path.specs.SentOrderTwo.{is_dropped, repeated_symbol}
+pub use Rattle.symbol_path.specs.SentOrderTwo.{is_dropped, repeated_symbol, sent2}
 pub use Rattle.sync_message.specs.Framing.{superframes_of}
 pub use Rattle.sync_message.specs.SyncMessage.{IsSyncMessage}
 pub use Rattle.viterbi.proofs.Zipped.{zipped_at}
@@ -146,14 +146,14 @@ pub use Rattle.viterbi.specs.Codewords.{Codeword, correlation}
 pub use Rattle.walsh.specs.Walsh.{walsh}
 pub use Rattle.clean_link.specs.BySigns.{AllComesBackBySigns, AreEventsBySigns, AreFramesBySigns, ChannelsComeBackBySigns, HearsBySigns}
 pub use Rattle.clean_link.specs.BySigns.{SyncTellsTheMark}
-pub use Rattle.clean_link.specs.SentSigns.{FrameHasSigns, FromMark, HasSyncSigns, IsCellMark, MarkIsAt, PagingFrameHasSigns}
-pub use Rattle.clean_link.specs.SentSigns.{TrafficFrameHasSigns}
+pub use Rattle.clean_link.specs.SentSigns.{FrameHasSigns, FromMark, HasSyncSigns, IsCellMark, MarkIsAt, MarksAreAt, PagingFrameHasSigns}
+pub use Rattle.clean_link.specs.SentSigns.{SyncHasSigns, TrafficFrameHasSigns}
 pub use Rattle.clean_link.specs.CleanLaws.{ChannelFramesComeBack, PagingCodewordsAreTheOnlyBest, SentCodewordsAreTheOnlyBest}
 pub use Rattle.clean_link.specs.CleanLaws.{SilentPagingFramesAreZeros, WholeSendingsComeBack, AreZeroWithoutSync, MarksAreTrue}
 pub use Rattle.clean_link.specs.CleanLaws.{PagingFramesComeBack, PagingHaveSentSigns, UnmarkedWithoutSync, IsMarkedWhereHeard}
 pub use Rattle.clean_link.specs.CleanLaws.{MarksTellTheRate, SilentPagingIsZero, FramesAreZeros, FramesComeBack, HaveSentSigns}
 pub use Rattle.clean_link.specs.CleanLaws.{HearsSentSync, ShowsSync, ordered_symbols, NearChannelsHaveSigns, NearSyncHasSigns}
-pub use Rattle.clean_link.specs.CleanLaws.{SignedPagesComeBack}
+pub use Rattle.clean_link.specs.CleanLaws.{CleanSyncHasSigns, SignedPagesComeBack}
 pub use Rattle.clean_link.specs.CleanLink.{IsNoDirection, IsNotDirected, IsOnPath, IsTrueMark, IsTunedToPlan, events_of_channel}
 pub use Rattle.clean_link.specs.CleanLink.{sending_event, tuning_to}
 pub use Rattle.clean_frames.specs.WholeSendings.{first_sync_frame, heard_behind, is_whole, sending_begins, sending_ends, whole_sendings}
@@ -166,8 +166,8 @@ pub use Rattle.clean_link.specs.DistinctFrames.{symbols_known_of, shows_full_rat
 unfoldable pub use Rattle.clean_link.specs.DistinctFrames.{codewords_giving, stays_apart}
 pub use Rattle.clean_link.specs.DistinctPlan.{HasMark, HasSetOne, HasSetTwo, distinct_bits_of, bits_of2, channel_on, distinct_plan}
 pub use Rattle.clean_link.specs.DistinctPlan.{first_channel, frame2_at, frame_at, on_row, second_channel, told_message}
-pub use Rattle.clean_link.specs.HeardEach.{AreFramesBehind, AreMessagesBehind, EachChannelComesBack, FollowsOne, IsEventOf, is_frame}
-pub use Rattle.clean_link.specs.HeardEach.{is_message, is_page, is_sync}
+pub use Rattle.clean_link.specs.HeardEach.{AreEventsOf, AreFramesBehind, AreMessagesBehind, EachChannelComesBack, FollowsOne, IsEventOf}
+pub use Rattle.clean_link.specs.HeardEach.{is_frame, is_message, is_page, is_sync}
 pub use Rattle.clean_frames.specs.SentFrames.{codeword_symbols, signals_received, IsDistinctFrame, SendsSymbols, ShowPowerBits}
 pub use Rattle.clean_frames.specs.SentFrames.{received_frames, sent_power_bits, AreDistinct, IsAssigned, SendsSetOne, SendsSetTwo}
 pub use Rattle.clean_frames.specs.SentFrames.{is_received, replaced_of, signal_sent, ShowFrame, frame_chip, frame_ends, signals_in}
@@ -179,10 +179,12 @@ pub use Rattle.clean_frames.specs.WholePages.{KnownPage, end_chip, message_in, p
 pub use Rattle.clean_frames.specs.WholePages.{round_sent}
 pub use Rattle.clean_link.specs.HeardPages.{PagesComeBack, ReadPage, known_page, pages_within, type_within}
 unfoldable pub use Rattle.clean_frames.specs.WholePages.{pages_sent}
-pub use Rattle.clean_link.specs.ReceivedFrames.{AreReceivedFrom, IsDistinctFrame2, IsReceived, codeword_symbols2, cycled_frame2}
-pub use Rattle.clean_link.specs.ReceivedLaws.{EachFrameIsReceived, FramesBehindMark, FramesShowPowerBits, FramesShowSymbols, SetOneSends}
-pub use Rattle.clean_link.specs.ReceivedLaws.{SetTwoBehindMark, SetTwoFramesComeBack, SetTwoSends, ReceivedAreTheOnlyBest}
-pub use Rattle.clean_link.specs.ReceivedLaws.{SetTwoAreTheOnlyBest, SignedFramesAreReceived, SignedSetTwoFramesComeBack}
+pub use Rattle.clean_link.specs.ReceivedFrames.{AreReceivedFrom, IsDistinctFrame2, IsReceived, IsReceivedAs, IsSentFrame2}
+pub use Rattle.clean_link.specs.ReceivedFrames.{codeword_symbols2, cycled_frame2}
+pub use Rattle.clean_link.specs.ReceivedLaws.{EachFrameIsReceived, FramesBehindMark, FramesShowPowerBits, FramesShowSymbols}
+pub use Rattle.clean_link.specs.ReceivedLaws.{IsReceivedBySigns, IsSentFrame2BySigns, SetOneSends, SetTwoBehindMark, SetTwoFramesComeBack}
+pub use Rattle.clean_link.specs.ReceivedLaws.{SetTwoSends, ReceivedAreTheOnlyBest, SetTwoAreTheOnlyBest, SignedFramesAreReceived}
+pub use Rattle.clean_link.specs.ReceivedLaws.{SignedSetTwoFramesComeBack}
 pub use Rattle.clean_link.specs.SentEvents.{FollowedHaveSigns, FollowsSent, NoEventIsDirected, WholeMessagesComeBack, by_places, is_at}
 pub use Rattle.clean_link.specs.SentEvents.{known_event, pages_after, pages_behind_mark, told_followed}
 unfoldable pub use Rattle.clean_link.specs.SentEvents.{frame_events_at, message_events_at, paging_events_at, paging_sent, sent_events}
