@@ -4,18 +4,18 @@ use Rattle.cdma_replay.proofs.Common.{length-append, Option, None, Some, Ok, fla
 use Rattle.cdma_replay.proofs.Common.{IsLawfulHeader, header_spelling, opening, sample_len, sample_spelling, width_of, All-append}
 use Rattle.cdma_replay.proofs.Common.{length-header_spelling, length-samples, KeptTap, front_begins, HasWritten, HearsFirst, WritesAll}
 use Rattle.cdma_replay.proofs.Common.{WritesFirst, Listening, Listens, ListenerTells, listening, Listener, Reception}
-use Rattle.cdma_replay.proofs.Hearings.{more_behind}
+use Rattle.cdma_replay.proofs.Hearings.{more_after}
 use Rattle.cdma_replay.proofs.Lines.{HasBegun, writes_whole}
 use Rattle.owed_replies.proofs.CutFiles.{no_fewer, lost, same_header}
 
 -- the first samples were read and told of, and those after them so far as they were heard
 pub has_written : {taps : List KeptTap} {r : Reception} {header : Header} {samples : List Sample}
-    {one other : Listener} {kept behind : List KeptTap} {counted : ℕ → Type 0} {most : ℕ}
+    {one other : Listener} {kept following : List KeptTap} {counted : ℕ → Type 0} {most : ℕ}
     (bytes more : List ℕ) (left : Option (List ℕ)) {old between later new : Option (List ℕ)}
     (number : ℕ → Type 0) →
     HasBegun taps r header samples one kept (Some bytes) (Some more) old between →
     ((l : Listening) (heard : List Sample) → Listens l one kept heard →
-    ListenerTells l other behind heard (heard ++ samples) between later) →
+    ListenerTells l other following heard (heard ++ samples) between later) →
     (heard : HearsFirst (listening taps r.purpose header samples) (width_of header) counted most
     samples (Some more) left later new) →
     number (length (samples ++ heard.samples)) → length (samples ++ heard.samples) ≤ header.count →
@@ -27,7 +27,7 @@ has_written {taps} {r} {header} {samples} bytes more (Some after) number begun t
     let front = header_spelling header in
     let spelled = flat_map (sample_spelling (width_of header)) in
     let others = heard.samples in
-    let behind = heard.more ++ after in
+    let following = heard.more ++ after in
     record {
       samples = samples ++ others;
       lawful = begun.lawful;
@@ -36,28 +36,28 @@ has_written {taps} {r} {header} {samples} bytes more (Some after) number begun t
       number = fits;
       in_range =
           All-append (HasBits (width_of header)) samples others begun.in_range heard.in_range;
-      first = front_begins bytes (front ++ spelled (samples ++ others)) behind
+      first = front_begins bytes (front ++ spelled (samples ++ others)) following
           (begun.consumed
           ∙ ap (λ (bs : List ℕ). (front ++ spelled samples) ++ bs)
           (heard.consumed ∙ append_assoc (spelled others) heard.more after)
-          ∙ append_assoc front (spelled samples) (spelled others ++ behind)
+          ∙ append_assoc front (spelled samples) (spelled others ++ following)
           ∙ ap (λ (bs : List ℕ). front ++ bs)
-          (sym (append_assoc (spelled samples) (spelled others) behind)
-          ∙ ap (λ (bs : List ℕ). bs ++ behind)
+          (sym (append_assoc (spelled samples) (spelled others) following)
+          ∙ ap (λ (bs : List ℕ). bs ++ following)
           (sym (flat_map-append (sample_spelling (width_of header)) samples others)))
-          ∙ sym (append_assoc front (spelled (samples ++ others)) behind));
-      written = writes_whole others begun (more_behind first.more heard.tells);
+          ∙ sym (append_assoc front (spelled (samples ++ others)) following));
+      written = writes_whole others begun (more_after first.more heard.tells);
     }
 
 -- where a file breaks off, or a read fails, fewer samples are missing than are read at once
 pub writes_first : {taps : List KeptTap} {r : Reception} {header : Header} {samples : List Sample}
-    {count : ℕ} {one other : Listener} {kept behind : List KeptTap}
+    {count : ℕ} {one other : Listener} {kept following : List KeptTap}
     (rest mid left old : Option (List ℕ)) {between later : Option (List ℕ)} (new : Option (List ℕ)) →
     IsLawfulHeader header → count + r.span ≡ header.count →
     HasBegun taps r header samples one kept rest mid old between →
     ((l : Listening) (heard : List Sample) → Listens l one kept heard →
-    ListenerTells l other behind heard (heard ++ samples) between later) →
-    ((l : Listening) (heard : List Sample) → Listens l other behind heard →
+    ListenerTells l other following heard (heard ++ samples) between later) →
+    ((l : Listening) (heard : List Sample) → Listens l other following heard →
     HearsFirst l (width_of header) (λ k. k ≤ count) (sample_len (width_of header) * 4096) heard mid left
     later new) →
     WritesFirst taps r rest left old new
@@ -118,13 +118,13 @@ writes_first {taps} {r} {header} {samples} {count} (Some bytes) (Some more) (Som
 
 -- where a file goes on after its samples, all of them were told of
 pub writes_all : {taps : List KeptTap} {r : Reception} {header : Header} {samples : List Sample}
-    {count : ℕ} {one other : Listener} {kept behind : List KeptTap} {most : ℕ}
+    {count : ℕ} {one other : Listener} {kept following : List KeptTap} {most : ℕ}
     (rest mid left old : Option (List ℕ)) {between later : Option (List ℕ)} (new : Option (List ℕ)) →
     IsLawfulHeader header → count + r.span ≡ header.count →
     HasBegun taps r header samples one kept rest mid old between →
     ((l : Listening) (heard : List Sample) → Listens l one kept heard →
-    ListenerTells l other behind heard (heard ++ samples) between later) →
-    ((l : Listening) (heard : List Sample) → Listens l other behind heard →
+    ListenerTells l other following heard (heard ++ samples) between later) →
+    ((l : Listening) (heard : List Sample) → Listens l other following heard →
     HearsFirst l (width_of header) (λ k. k ≡ count) most heard mid left later new) →
     WritesAll taps r rest old new
 writes_all None mid left old new lawful counted begun tells hears = tt

@@ -45,7 +45,7 @@ pub use Rattle.clean_signal.proofs.signal.Samples.{length-made}
 pub use Rattle.clean_link.specs.HeardEach.{is_frame, is_page, is_sync}
 pub use Rattle.event_tap.proofs.Runs.{run_taps-append, run_taps-more, run_text-append, run_text-more, run_text-none}
 unfoldable pub use Rattle.event_tap.specs.EventLines.{event_line}
-pub use Rattle.event_tap.specs.Taps.{IsKept, KeptTap, heard_text, taps_behind}
+pub use Rattle.event_tap.specs.Taps.{IsKept, KeptTap, heard_text, taps_after}
 unfoldable pub use Rattle.event_tap.specs.Taps.{run_taps, run_text}
 pub use Rattle.heard_events.proofs.EventsGrown.{events_sooner, heard_none}
 pub use Rattle.heard_events.proofs.Growth.{timed_of}
@@ -56,7 +56,7 @@ pub use Rattle.rake_finger.specs.Near.{AreNear}
 pub use Rattle.heard_events.specs.Near.{low_of}
 pub use Rattle.mobile_core.specs.Standing.{IsStep, StandsFor, Steps, events_left, has_room, steps_left}
 pub use Rattle.rake_finger.specs.Timing.{IsTimed}
-pub use Rattle.mobile_core.specs.BehindMark.{IsSoundAssignment}
+pub use Rattle.mobile_core.specs.AfterMark.{IsSoundAssignment}
 pub use Rattle.heard_events.specs.Tuning.{Tuning, sync_stream, tuning_by}
 pub use Rattle.heard_events.specs.declared.channel.Channel.{Channel}
 pub use Rattle.heard_events.specs.declared.event.Event.{Event}
@@ -74,7 +74,7 @@ pub use Rattle.pilot_survey.specs.Survey.{ranking}
 pub use Rattle.pilot_survey.specs.declared.rank.Rank.{Rank}
 pub use Rattle.trial_link.proofs.TrialPlans.{trial_named}
 unfoldable pub use Rattle.trial_link.specs.Trial.{trial_plan}
-pub use Rattle.event_tap.proofs.Prefixes.{begins_more, front_begins, on_err, on_ok, prefix_before, prefix_behind, prefix_of, taken_begins}
+pub use Rattle.event_tap.proofs.Prefixes.{begins_more, front_begins, on_err, on_ok, prefix_before, prefix_after, prefix_of, taken_begins}
 pub use Rattle.tuned_listener.proofs.TunedMarks.{stands_near}
 pub use Rattle.tuned_listener.proofs.TunedTexts.{text_of_nothing}
 pub use Rattle.tuned_listener.specs.TunedListening.{ListensTuned, TellsTuned, TellsTunedPart, tuned_room}
@@ -82,9 +82,9 @@ pub use Rattle.tuned_listener.specs.declared.tuned.TunedListener.{TunedListener}
 pub use Rattle.event_tap.specs.declared.tuned_text.TunedText.{TunedText}
 pub use Rattle.owed_replies.specs.Broken.{HasWritten, HearsFirst, IsCut, IsLong, WritesAll, WritesFirst}
 pub use Rattle.owed_replies.specs.Find.{IsEnd, IsFaultIn, IsOfFiles, IsRestFault, PassesSamples, TakesSpan, WritesNoMore, WritesText}
-pub use Rattle.owed_replies.specs.Hearing.{AreNearTo, AreReady, ByFrames, ByTaps, HearsPart, Listening, Nobody, TellsMore, TellsPart}
+pub use Rattle.owed_replies.specs.Hearing.{AreNearTo, AreReady, ByFrames, ByTaps, LosesSamples, Listening, Nobody, GainsText, GainsPrefix}
 pub use Rattle.owed_replies.specs.Hearing.{end_when, first_text, is_told, listening, tuning_for}
-pub use Rattle.cdma_replay.specs.Listeners.{BeginsBehind, GivesAll, HasRoom, HasRoomFor, HasTold, HearsRest, IsFreshListener, Listens}
+pub use Rattle.cdma_replay.specs.Listeners.{BeginsAfter, HandsetGave, HasRoom, HasRoomFor, HasTold, HearsRest, IsFreshListener, Listens}
 pub use Rattle.cdma_replay.specs.Listeners.{IsBest, ListenerTells}
 unfoldable pub use Rattle.owed_replies.specs.Hearing.{best_pilot, file_end_of, file_text, told}
 pub use Rattle.owed_replies.specs.Make.{WritesNoMoreMade, piece_bytes}

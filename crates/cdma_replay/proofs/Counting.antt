@@ -45,9 +45,9 @@ room_for_one counts left room some = record {
   good = omega (arith, room.good, some);
 }
 
-pub room_behind : (counts : Counts) (event : Event) (left before : ℕ) → LeavesRoom counts before →
+pub room_after_event : (counts : Counts) (event : Event) (left before : ℕ) → LeavesRoom counts before →
     left + 1 ≤ before → LeavesRoom (counts_with counts event) left
-room_behind counts event left before room fewer = record {
+room_after_event counts event left before room fewer = record {
   syncs = omega (arith, room.syncs, fewer, one_most (is_sync event));
   pagings = omega (arith, room.pagings, fewer, one_most (is_page event));
   frames = omega (arith, room.frames, fewer, one_most (is_frame event));
@@ -178,10 +178,10 @@ span_is cell number n out is long from =
     next_made (trial_plan number) 0 2048 out (rw (is, long) at from)
 
 -- after them
-pub behind_span : (cell now : CellState) (number n : ℕ) → cell ≡ fresh_cell number → n ≡ 2048 →
+pub after_span : (cell now : CellState) (number n : ℕ) → cell ≡ fresh_cell number → n ≡ 2048 →
     now ≡ record cell { given = cell.given + n } →
     (now.plan ≡ trial_plan number) × (take now.given (made_samples now.plan) ≡ trial_span number)
-behind_span cell now number n is long later = rw (later, is, long) (refl, refl)
+after_span cell now number n is long later = rw (later, is, long) (refl, refl)
 
 pub line_is : (number : ℕ) (line : List ℕ) (samples phase : ℕ) (counts : Counts) →
     line ≡ summary number samples phase counts →

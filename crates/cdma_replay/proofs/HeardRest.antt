@@ -2,19 +2,19 @@
 use Rattle.cdma_replay.proofs.Common.{◌≡◌, ℕ, ◌+◌, ◌-◌, ◌≤◌, ◌++◌, [], List, length, take, sym, subst, arith, append_assoc, append-nil}
 use Rattle.cdma_replay.proofs.Common.{length-append, length-take-le, All, Option, flat_map-append, flat_map, Consumes, Keeps, Consumes-kept}
 use Rattle.cdma_replay.proofs.Common.{Consumes-nil, Consumes-trans, All-append, Width, ConsumesAtMost, HasBits, sample_spelling, Sample}
-use Rattle.cdma_replay.proofs.Common.{KeptTap, HearsFirst, PassesSamples, HearsPart, HearsRest, Listening, Listens, ListenerTells}
-use Rattle.cdma_replay.proofs.Common.{TellsPart}
+use Rattle.cdma_replay.proofs.Common.{KeptTap, HearsFirst, PassesSamples, LosesSamples, HearsRest, Listening, Listens, ListenerTells}
+use Rattle.cdma_replay.proofs.Common.{GainsPrefix}
 use Rattle.cdma_replay.proofs.Common.{Listener}
-use Rattle.cdma_replay.proofs.Hearings.{all_part, more_behind, more_none, part_behind}
+use Rattle.cdma_replay.proofs.Hearings.{all_part, more_after, more_none, part_after}
 
 -- a source lost the spellings of so many samples, and one listener became the other by hearing them,
 -- as the taps that are kept did. The samples are known also where the listener stands for nothing
 -- that is known
 pub record Hears (width : Width) (count : ℕ) (one other : Listener)
-    (kept behind : List KeptTap) (rest left old new : Option (List ℕ)) : Type 0 where
+    (kept following : List KeptTap) (rest left old new : Option (List ℕ)) : Type 0 where
   pub passed : PassesSamples width count rest left
   pub tells : (l : Listening) (heard : List Sample) → Listens l one kept heard →
-      ListenerTells l other behind heard (heard ++ passed.samples) old new
+      ListenerTells l other following heard (heard ++ passed.samples) old new
 
 pub hears_nothing : {width : Width} {listener : Listener} {kept : List KeptTap}
     {rest old : Option (List ℕ)} (n : ℕ) →
@@ -43,16 +43,16 @@ consumes_more width same rest mid left samples more is consumed next =
 
 -- the next samples, of those that are left now
 pub hears_more : {width same : Width} {first one other : Listener}
-    {begun kept behind : List KeptTap} {rest mid left old between new : Option (List ℕ)}
+    {begun kept following : List KeptTap} {rest mid left old between new : Option (List ℕ)}
     (all now n later : ℕ) (out : List Sample) →
     same ≡ width → later ≡ now - n →
     Hears width (all - now) first one begun kept rest mid old between → now ≤ all → n ≤ now →
     n ≤ length out → All (HasBits same) (take n out) →
     Consumes mid left (flat_map (sample_spelling same) (take n out)) →
     ((l : Listening) (heard : List Sample) → Listens l one kept heard →
-    ListenerTells l other behind heard (heard ++ take n out) between new) →
-    Hears width (all - later) first other begun behind rest left old new
-hears_more {width} {same} {first} {one} {other} {begun} {kept} {behind} {rest} {mid} {left} {old}
+    ListenerTells l other following heard (heard ++ take n out) between new) →
+    Hears width (all - later) first other begun following rest left old new
+hears_more {width} {same} {first} {one} {other} {begun} {kept} {following} {rest} {mid} {left} {old}
     {between} {new} all now n later out is fewer h low fits room range consumed tells = record {
       passed = record {
         samples = h.passed.samples ++ take n out;
@@ -78,18 +78,18 @@ hears_more {width} {same} {first} {one} {other} {begun} {kept} {behind} {rest} {
           let samples = h.passed.samples in
           let before = h.tells l heard is in
           let next = tells l (heard ++ samples) before.listens in
-          subst (λ (xs : List Sample). ListenerTells l other behind heard xs old new)
+          subst (λ (xs : List Sample). ListenerTells l other following heard xs old new)
           (append_assoc heard samples (take n out))
-          (record { more = more_behind before.more next.more; listens = next.listens });
+          (record { more = more_after before.more next.more; listens = next.listens });
     }
 
 -- the end was reached: no sample is left
-pub hears_all : {width : Width} {one other : Listener} {kept behind : List KeptTap}
+pub hears_all : {width : Width} {one other : Listener} {kept following : List KeptTap}
     {rest mid left old new : Option (List ℕ)} (all now : ℕ) →
-    Hears width (all - now) one other kept behind rest mid old new → now ≤ 0 → Keeps mid left →
+    Hears width (all - now) one other kept following rest mid old new → now ≤ 0 → Keeps mid left →
     (l : Listening) (heard : List Sample) → Listens l one kept heard →
-    HearsRest l width all other behind heard rest left old new
-hears_all {width} {one} {other} {kept} {behind} {rest} {mid} {left} all now h done keeps l heard
+    HearsRest l width all other following heard rest left old new
+hears_all {width} {one} {other} {kept} {following} {rest} {mid} {left} all now h done keeps l heard
     is = record {
       samples = h.passed.samples;
       counted = omega (arith, h.passed.counted, done);
@@ -102,12 +102,12 @@ hears_all {width} {one} {other} {kept} {behind} {rest} {mid} {left} all now h do
 
 -- what was told so far is a part of it, whatever few bytes were taken after it
 pub hears_part : {width : Width} {count limit : ℕ} {one other : Listener}
-    {kept behind : List KeptTap} {rest mid left old new : Option (List ℕ)} (most : ℕ) →
-    Hears width count one other kept behind rest mid old new → count ≤ most →
+    {kept following : List KeptTap} {rest mid left old new : Option (List ℕ)} (most : ℕ) →
+    Hears width count one other kept following rest mid old new → count ≤ most →
     ConsumesAtMost limit mid left →
     (l : Listening) (heard : List Sample) → Listens l one kept heard →
-    HearsPart l width most heard rest left old new
-hears_part {width} {count} {limit} {one} {other} {kept} {behind} {rest} {mid} {left} most h few part l
+    LosesSamples l width most heard rest left old new
+hears_part {width} {count} {limit} {one} {other} {kept} {following} {rest} {mid} {left} most h few part l
     heard is = record {
       samples = h.passed.samples;
       more = part.bytes;
@@ -121,15 +121,15 @@ hears_part {width} {count} {limit} {one} {other} {kept} {behind} {rest} {mid} {l
 
 -- a write failed after what was told so far
 pub hears_stopped : {width same : Width} {count : ℕ} {one other : Listener}
-    {kept behind : List KeptTap} {rest mid old between new : Option (List ℕ)}
+    {kept following : List KeptTap} {rest mid old between new : Option (List ℕ)}
     (left : Option (List ℕ)) (more : List Sample) (most : ℕ) → same ≡ width →
-    Hears width count one other kept behind rest mid old between → count + length more ≤ most →
+    Hears width count one other kept following rest mid old between → count + length more ≤ most →
     All (HasBits same) more → Consumes mid left (flat_map (sample_spelling same) more) →
-    ((l : Listening) (heard : List Sample) → Listens l other behind heard →
-    TellsPart l heard (heard ++ more) between new) →
+    ((l : Listening) (heard : List Sample) → Listens l other following heard →
+    GainsPrefix l heard (heard ++ more) between new) →
     (l : Listening) (heard : List Sample) → Listens l one kept heard →
-    HearsPart l width most heard rest left old new
-hears_stopped {width} {same} {count} {one} {other} {kept} {behind} {rest} {mid} {old} {between}
+    LosesSamples l width most heard rest left old new
+hears_stopped {width} {same} {count} {one} {other} {kept} {following} {rest} {mid} {old} {between}
     {new} left more most same_is h fits range consumed part l heard is =
     let samples = h.passed.samples in
     let first = h.tells l heard is in
@@ -143,20 +143,20 @@ hears_stopped {width} {same} {count} {one} {other} {kept} {behind} {rest} {mid} 
       consumed = subst (Consumes rest left)
           (sym (append-nil (flat_map (sample_spelling width) (samples ++ more))))
           (consumes_more width same rest mid left samples more same_is h.passed.consumed consumed);
-      tells = subst (λ (xs : List Sample). TellsPart l heard xs old new)
+      tells = subst (λ (xs : List Sample). GainsPrefix l heard xs old new)
           (append_assoc heard samples more)
-          (part_behind first.more (part l (heard ++ samples) first.listens));
+          (part_after first.more (part l (heard ++ samples) first.listens));
     }
 
 -- a read failed, or what it read wasn't wanted: what was told is of the samples before
 pub hears_first : {width : Width} {count limit : ℕ} {one other : Listener}
-    {kept behind : List KeptTap} {rest mid left old new : Option (List ℕ)}
+    {kept following : List KeptTap} {rest mid left old new : Option (List ℕ)}
     (counted : ℕ → Type 0) (most : ℕ) →
-    Hears width count one other kept behind rest mid old new → counted count →
+    Hears width count one other kept following rest mid old new → counted count →
     ConsumesAtMost limit mid left → limit ≤ most →
     (l : Listening) (heard : List Sample) → Listens l one kept heard →
     HearsFirst l width counted most heard rest left old new
-hears_first {width} {count} {limit} {one} {other} {kept} {behind} {rest} {mid} {left} counted most h
+hears_first {width} {count} {limit} {one} {other} {kept} {following} {rest} {mid} {left} counted most h
     number part few l heard is = record {
       samples = h.passed.samples;
       more = part.bytes;

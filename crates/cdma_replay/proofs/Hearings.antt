@@ -7,14 +7,14 @@ use Rattle.cdma_replay.proofs.Common.{flat_map_ext_places, Sample, AppendsPrefix
 use Rattle.cdma_replay.proofs.Common.{Traffic}
 use Rattle.cdma_replay.proofs.Common.{IsLawfulTraffic, IsSoundAssignment, AreNear, low_of, IsStep, StandsFor, Steps, events_left, has_room}
 use Rattle.cdma_replay.proofs.Common.{IsTimed, Tuning, sync_stream, tuning_by, Channel, Event, Pilot, Mobile, Step, KeptTap}
-use Rattle.cdma_replay.proofs.Common.{heard_text, run_taps, run_text, taps_behind, run_taps-append, run_taps-more, run_text-append}
-use Rattle.cdma_replay.proofs.Common.{run_text-more, run_text-none, begins_more, front_begins, prefix_before, prefix_behind, taken_begins}
+use Rattle.cdma_replay.proofs.Common.{heard_text, run_taps, run_text, taps_after, run_taps-append, run_taps-more, run_text-append}
+use Rattle.cdma_replay.proofs.Common.{run_text-more, run_text-none, begins_more, front_begins, prefix_before, prefix_after, taken_begins}
 use Rattle.cdma_replay.proofs.Common.{ListensTuned, TellsTuned, TellsTunedPart, tuned_room, stands_near, text_of_nothing, TunedListener}
 use Rattle.cdma_replay.proofs.Common.{TunedText, events_sooner, timed_of, IsBestIn, near_deltas, Near, Best}
-use Rattle.cdma_replay.proofs.Common.{best_energy-only, best_phase-only, Settings, AreNearTo, AreReady, BeginsBehind, ByFrames, ByTaps}
-use Rattle.cdma_replay.proofs.Common.{HasRoom, HasRoomFor, HasTold, IsFreshListener, Listening, Listens, Nobody, GivesAll, ListenerTells}
-use Rattle.cdma_replay.proofs.Common.{IfOk, TellsMore, Rank, event_line, ranks_text}
-use Rattle.cdma_replay.proofs.Common.{TellsPart, told, tuning_for, Listener, heard_none}
+use Rattle.cdma_replay.proofs.Common.{best_energy-only, best_phase-only, Settings, AreNearTo, AreReady, BeginsAfter, ByFrames, ByTaps}
+use Rattle.cdma_replay.proofs.Common.{HasRoom, HasRoomFor, HasTold, IsFreshListener, Listening, Listens, Nobody, HandsetGave, ListenerTells}
+use Rattle.cdma_replay.proofs.Common.{IfOk, GainsText, Rank, event_line, ranks_text}
+use Rattle.cdma_replay.proofs.Common.{GainsPrefix, told, tuning_for, Listener, heard_none}
 use Rattle.std.proofs.Common.{Box, Global}
 use Rattle.std.proofs.lemmas.List.{take-append-drop}
 use Rattle.pilot_search.specs.Search.{best_phase, energy as energy_at}
@@ -51,11 +51,11 @@ pub told_none : (t : Tuning) (taps : List KeptTap) (mobile : Mobile) (kept : Lis
     (given : List Event) (heard : List Sample) (old : Option (List ℕ)) →
     StandsFor t mobile heard given → kept ≡ run_taps taps given →
     HasTold t taps mobile kept given heard old old
-told_none t taps mobile kept given heard old stands behind = record {
+told_none t taps mobile kept given heard old stands following = record {
   more = [];
   written = subst (Appends old old) (sym (run_text-none (run_taps taps given))) (Appends-nil old);
   stands = rw (append-nil given) stands;
-  behind = behind ∙ ap (run_taps taps) (sym (append-nil given));
+  following = following ∙ ap (run_taps taps) (sym (append-nil given));
 }
 
 -- the samples of a step after those taken before
@@ -81,19 +81,19 @@ step_stands {one} {other} {step} t heard samples taken found is steps before sta
 
 -- the next event was given, and its text written
 pub told_more : (t : Tuning) (taps : List KeptTap) (one other : Mobile)
-    (kept behind : List KeptTap) (given : List Event) (heard samples : List Sample)
+    (kept following : List KeptTap) (given : List Event) (heard samples : List Sample)
     (taken n : ℕ) (event : Event) (old mid new : Option (List ℕ)) →
     HasTold t taps one kept given (heard ++ take taken samples) old mid →
     ((before : List Event) → StandsFor t one (heard ++ take taken samples) before →
     StandsFor t other ((heard ++ take taken samples) ++ take n (drop taken samples))
     (before ++ event ∷ [])) →
-    Appends mid new (heard_text kept event) → behind ≡ taps_behind kept event →
-    HasTold t taps other behind given (heard ++ take (taken + n) samples) old new
-told_more t taps one other kept behind given heard samples taken n event old mid new so_far stepped
+    Appends mid new (heard_text kept event) → following ≡ taps_after kept event →
+    HasTold t taps other following given (heard ++ take (taken + n) samples) old new
+told_more t taps one other kept following given heard samples taken n event old mid new so_far stepped
     written next =
     let more = so_far.more in
     let first = run_taps taps given in
-    let now : kept ≡ run_taps first more = so_far.behind ∙ run_taps-append taps given more in
+    let now : kept ≡ run_taps first more = so_far.following ∙ run_taps-append taps given more in
     let text : run_text first (more ++ event ∷ []) ≡ run_text first more ++ heard_text kept event =
     run_text-more first more event ∙
     ap (λ (k : List KeptTap). run_text first more ++ heard_text k event) (sym now) in
@@ -110,7 +110,7 @@ told_more t taps one other kept behind given heard samples taken n event old mid
           ((heard ++ take taken samples) ++ take n (drop taken samples)) es)
           (append_assoc given more (event ∷ []))
           (stepped (given ++ more) so_far.stands));
-      behind = next ∙ ap (λ (k : List KeptTap). taps_behind k event) so_far.behind
+      following = next ∙ ap (λ (k : List KeptTap). taps_after k event) so_far.following
           ∙ sym (run_taps-more taps (given ++ more) event)
           ∙ ap (run_taps taps) (append_assoc given more (event ∷ []));
     }
@@ -144,8 +144,8 @@ pub told_all : (t : Tuning) (taps : List KeptTap) (one other : Mobile) (kept : L
     (before ++ [])) →
     ((before : List Event) → StandsFor t one (heard ++ take taken samples) before →
     before ≡ events t ((heard ++ take taken samples) ++ drop taken samples)) →
-    TellsMore (ByTaps t taps) heard (heard ++ samples) old new
-    × GivesAll t taps other kept (heard ++ samples)
+    GainsText (ByTaps t taps) heard (heard ++ samples) old new
+    × HandsetGave t taps other kept (heard ++ samples)
 unfolding told
 told_all t taps one other kept heard samples taken n old new so_far all stepped last =
     let given = events t heard in
@@ -157,7 +157,7 @@ told_all t taps one other kept heard samples taken n old new so_far all stepped 
         written = so_far.written;
         all = sym (run_text-append taps given more) ∙ ap (run_text taps) given_all;
       },
-      (stands, so_far.behind ∙ ap (run_taps taps) given_all),
+      (stands, so_far.following ∙ ap (run_taps taps) given_all),
     )
 
 -- ---- what is heard in the first samples stays so
@@ -215,7 +215,7 @@ pub told_part : (t : Tuning) (taps : List KeptTap) (one other : Mobile) (kept : 
     StandsFor t other ((heard ++ take taken samples) ++ take n (drop taken samples))
     (before ++ event ∷ [])) →
     AppendsPrefix mid new (heard_text kept event) →
-    TellsPart (ByTaps t taps) heard (heard ++ samples) old new
+    GainsPrefix (ByTaps t taps) heard (heard ++ samples) old new
 unfolding told
 told_part t taps one other kept heard samples taken n event old mid new so_far stepped part =
     let given = events t heard in
@@ -244,9 +244,9 @@ told_part t taps one other kept heard samples taken n event old mid new so_far s
     let text : run_text taps (events t (heard ++ samples)) ≡ run_text taps given ++ all =
     ap (run_text taps) whole ∙ text_begins taps given more event others ∙
     ap (λ (k : List KeptTap). run_text taps given ++ (first ++ (heard_text k event ++ ends)))
-    (sym so_far.behind) in
+    (sym so_far.following) in
     let cut : AppendsPrefix old new all =
-    prefix_behind old mid new first (line ++ ends) so_far.written
+    prefix_after old mid new first (line ++ ends) so_far.written
     (prefix_before mid new line ends part) in
     record {
       text = take cut.count all;
@@ -271,8 +271,8 @@ same_head x y xs ys e = cc
 module _ (t : Tuning) (one other : Mobile) (step : Step) (event : Event)
     (does : IsStep one other [] step) (gave : step.event ≡ Some event)
     (stands : StandsFor t one [] []) where
-  stands_behind : StandsFor t other [] (event ∷ [])
-  stands_behind =
+  stands_after : StandsFor t other [] (event ∷ [])
+  stands_after =
       subst (λ (e : Option Event). StandsFor t other [] (event_list e)) gave
       (subst (λ (xs : List Sample). StandsFor t other xs (event_list step.event)) (nil_taken step.taken)
       (does.steps.stands t [] [] stands))
@@ -280,23 +280,23 @@ module _ (t : Tuning) (one other : Mobile) (step : Step) (event : Event)
   event_is : event ≡ Pilot t.phase t.energy
   event_is =
       same_head event (Pilot t.phase t.energy) (events_left t other [])
-      (heard_within t [] 0) stands_behind.told
+      (heard_within t [] 0) stands_after.told
 
   none_more : events t [] ≡ event ∷ []
   none_more =
-      events_none t (stands_near t other [] (event ∷ []) stands_behind)
+      events_none t (stands_near t other [] (event ∷ []) stands_after)
       ∙ ap (λ (e : Event). e ∷ []) (sym event_is)
 
   -- so where the taps have heard it, all is told that is before any sample
-  pub pilot_begins : (kept behind : List KeptTap) (old new : Option (List ℕ)) →
-      Appends old new (heard_text kept event) → behind ≡ taps_behind kept event →
-      Appends old new (told (ByTaps t kept) []) × GivesAll t kept other behind []
+  pub pilot_begins : (kept following : List KeptTap) (old new : Option (List ℕ)) →
+      Appends old new (heard_text kept event) → following ≡ taps_after kept event →
+      Appends old new (told (ByTaps t kept) []) × HandsetGave t kept other following []
   unfolding told run_text run_taps
-  pilot_begins kept behind old new written next = (
+  pilot_begins kept following old new written next = (
     subst (Appends old new)
         (sym (ap (run_text kept) none_more ∙ append-nil (heard_text kept event))) written,
     (
-      subst (StandsFor t other []) (sym none_more) stands_behind,
+      subst (StandsFor t other []) (sym none_more) stands_after,
       next ∙ ap (run_taps kept) (sym none_more),
     ),
   )
@@ -309,7 +309,7 @@ module _ (t : Tuning) (one other : Mobile) (step : Step) (event : Event)
   pilot_part kept samples old new part =
       let pilot = Pilot t.phase t.energy in
       prefix_before old new (heard_text kept pilot)
-      (run_text (taps_behind kept pilot) (heard_within t samples (length samples)))
+      (run_text (taps_after kept pilot) (heard_within t samples (length samples)))
       (subst (λ (e : Event). AppendsPrefix old new (heard_text kept e)) event_is part)
 
 -- it has one
@@ -324,24 +324,24 @@ pilot_there t one other step does stands none =
 -- ---- what is told of more samples
 
 pub more_none : (l : Listening) (heard : List Sample) (old : Option (List ℕ)) →
-    TellsMore l heard heard old old
+    GainsText l heard heard old old
 more_none l heard old =
     record { text = []; written = Appends-nil old; all = append-nil (told l heard) }
 
-pub more_behind : {l : Listening} {before between heard : List Sample}
-    {old mid new : Option (List ℕ)} → TellsMore l before between old mid →
-    TellsMore l between heard mid new → TellsMore l before heard old new
-more_behind {l} {before} {between} {heard} {old} {mid} {new} first next = record {
+pub more_after : {l : Listening} {before between heard : List Sample}
+    {old mid new : Option (List ℕ)} → GainsText l before between old mid →
+    GainsText l between heard mid new → GainsText l before heard old new
+more_after {l} {before} {between} {heard} {old} {mid} {new} first next = record {
   text = first.text ++ next.text;
   written = Appends-trans old mid new first.text next.text first.written next.written;
   all = sym (append_assoc (told l before) first.text next.text)
       ∙ ap (λ (xs : List ℕ). xs ++ next.text) first.all ∙ next.all;
 }
 
-pub part_behind : {l : Listening} {before between heard : List Sample}
-    {old mid new : Option (List ℕ)} → TellsMore l before between old mid →
-    TellsPart l between heard mid new → TellsPart l before heard old new
-part_behind {l} {before} {between} {heard} {old} {mid} {new} first next = record {
+pub part_after : {l : Listening} {before between heard : List Sample}
+    {old mid new : Option (List ℕ)} → GainsText l before between old mid →
+    GainsPrefix l between heard mid new → GainsPrefix l before heard old new
+part_after {l} {before} {between} {heard} {old} {mid} {new} first next = record {
   text = first.text ++ next.text;
   written = Appends-trans old mid new first.text next.text first.written next.written;
   begins =
@@ -351,7 +351,7 @@ part_behind {l} {before} {between} {heard} {old} {mid} {new} first next = record
 }
 
 pub all_part : {l : Listening} {before heard : List Sample} {old new : Option (List ℕ)} →
-    TellsMore l before heard old new → TellsPart l before heard old new
+    GainsText l before heard old new → GainsPrefix l before heard old new
 all_part {l} {before} {heard} more = record {
   text = more.text;
   written = more.written;
@@ -410,7 +410,7 @@ tuned_tells tells = record {
 
 pub tuned_part : {t : Tuning} {channel : Channel} {text : TunedText} {before heard : List Sample}
     {old new : Option (List ℕ)} → TellsTunedPart t channel text before heard old new →
-    TellsPart (ByFrames t channel text) before heard old new
+    GainsPrefix (ByFrames t channel text) before heard old new
 unfolding told
 tuned_part part = record { text = part.text; written = part.written; begins = part.begins }
 
@@ -443,7 +443,7 @@ on_fresh P text l mobile kept fresh holds = absurd fresh
 -- who hears the frames of one channel tells nothing
 pub tuned_begins : (text : List ℕ) (l : Listening) (tuned : Box TunedListener Global)
     (kept : List KeptTap) (old : Option (List ℕ)) →
-    IsFreshListener text l (by.Tuned tuned) kept → BeginsBehind text l (by.Tuned tuned) kept old old
+    IsFreshListener text l (by.Tuned tuned) kept → BeginsAfter text l (by.Tuned tuned) kept old old
 unfolding told
 tuned_begins text (ByFrames t channel form) tuned kept old fresh = record {
   written = subst (λ (xs : List ℕ). Appends old old (xs ++ told (ByFrames t channel form) []))

@@ -6,11 +6,11 @@ use Rattle.cdma_replay.proofs.Common.{Consumes-nil, Consumes-trans, Sample, Head
 use Rattle.cdma_replay.proofs.Common.{sample_spelling, width_of, IsBestIn, best_phase, best_phase-only, best_energy-only, Pilot, event_line}
 use Rattle.cdma_replay.proofs.Common.{KeptTap, Rank, begins_more, prefix_of, taken_begins, Listener, Best}
 use Rattle.cdma_replay.proofs.Common.{Purpose, Find, Survey, Reception, Status, TakesSpan, WritesNoMore, WritesText}
-use Rattle.cdma_replay.proofs.Common.{BeginsBehind, HearsPart, HearsRest, IsFreshListener, Listening, Listens, Nobody, ListenerTells}
-use Rattle.cdma_replay.proofs.Common.{TellsMore, TellsPart}
+use Rattle.cdma_replay.proofs.Common.{BeginsAfter, LosesSamples, HearsRest, IsFreshListener, Listening, Listens, Nobody, ListenerTells}
+use Rattle.cdma_replay.proofs.Common.{GainsText, GainsPrefix}
 use Rattle.cdma_replay.proofs.Common.{best_pilot, end_when, file_end_of, file_text, first_text, is_told, listening, told, IsBest}
 use Rattle.cdma_replay.proofs.Common.{ranking, ranks_text, survey_text}
-use Rattle.cdma_replay.proofs.Hearings.{more_behind, part_behind}
+use Rattle.cdma_replay.proofs.Hearings.{more_after, part_after}
 use Rattle.cdma_replay.specs.declared.listener.Listener.TheVariants as by
 use Rattle.owed_replies.proofs.Files.{none_within}
 use Rattle.owed_replies.specs.Replies.{IsPurposeEnd}
@@ -49,7 +49,7 @@ survey_is first ranks base width top is = sym (ap (λ (rs : List Rank). ranks_te
 -- nothing is told beyond what was found where nobody hears the file
 pub alone_begins : (text : List ℕ) (listener : Listener) (kept : List KeptTap)
     (old new : Option (List ℕ)) → Appends old new text → Listens Nobody listener kept [] →
-    BeginsBehind text Nobody listener kept old new
+    BeginsAfter text Nobody listener kept old new
 unfolding told
 alone_begins text listener kept old new written listens = record {
   written = subst (Appends old new) (sym (append-nil text)) written;
@@ -65,12 +65,12 @@ alone_part text samples old new part =
 -- ---- the text of a file
 
 -- that of one whose first samples are these
-text_behind : (taps : List KeptTap) (r : Reception) (header : Header)
+text_of_first : (taps : List KeptTap) (r : Reception) (header : Header)
     (samples others : List Sample) → length samples ≡ r.span →
     file_text taps r header (samples ++ others) ≡
     told_first r samples ++ told (listening taps r.purpose header samples) (samples ++ others)
 unfolding file_text
-text_behind taps r header samples others counted =
+text_of_first taps r header samples others counted =
     ap (λ (xs : List Sample). told_first r xs
     ++ told (listening taps r.purpose header xs) (samples ++ others))
     (take_at samples others r.span counted)
@@ -83,12 +83,12 @@ told_alike : (taps : List KeptTap) (purpose : Purpose) (header : Header)
 told_alike taps Find header first samples = refl
 told_alike taps purpose header first samples = refl
 
-end_behind : (taps : List KeptTap) (r : Reception) (header : Header)
+end_after : (taps : List KeptTap) (r : Reception) (header : Header)
     (samples others : List Sample) → length samples ≡ r.span →
     file_end_of r header (samples ++ others)
     ≡ end_when (is_told (listening taps r.purpose header samples) (samples ++ others))
 unfolding file_end_of
-end_behind taps r header samples others counted =
+end_after taps r header samples others counted =
     ap (λ (xs : List Sample). end_when (is_told (listening [] r.purpose header xs) (samples ++ others)))
     (take_at samples others r.span counted)
     ∙ ap end_when (sym (told_alike taps r.purpose header samples (samples ++ others)))
@@ -116,7 +116,7 @@ begins_text : {taps : List KeptTap} {r : Reception} {rest left old new : Option 
     (told_first r samples ++ told (listening taps r.purpose header samples) (samples ++ others)) →
     WritesNoMore taps r rest left old new
 begins_text {taps} {r} {rest} {left} mid header samples others more counted lawful range fits consumed
-    also behind part =
+    also following part =
     let spelled = flat_map (sample_spelling (width_of header)) in
     let front = header_spelling header in
     let text =
@@ -137,9 +137,9 @@ begins_text {taps} {r} {rest} {left} mid header samples others more counted lawf
             ∙ ap (λ (xs : List ℕ). (front ++ xs) ++ more)
             (sym (flat_map-append (sample_spelling (width_of header)) samples others)))
             (Consumes-trans rest mid left (front ++ spelled samples) (spelled others ++ more) consumed
-            behind);
+            following);
         begins = subst (λ (xs : List ℕ). StartsWith xs (take part.count text))
-            (sym (text_behind taps r header samples others counted))
+            (sym (text_of_first taps r header samples others counted))
             (taken_begins text part.count part.fits);
       });
     }
@@ -194,7 +194,7 @@ pub has_begun : (taps : List KeptTap) (r : Reception) {header same : Header}
     ((taps : List KeptTap) →
     IsFreshListener (told_first r samples) (listening taps r.purpose same samples) one taps) →
     ((text : List ℕ) (l : Listening) → IsFreshListener text l one taps →
-    BeginsBehind text l other kept old new) →
+    BeginsAfter text l other kept old new) →
     HasBegun taps r header samples other kept rest mid old new
 has_begun taps r {header} {same} {samples} one alike t is fresh begins =
     let begun =
@@ -214,7 +214,7 @@ has_begun taps r {header} {same} {samples} one alike t is fresh begins =
 -- of it
 more_text : (front : List ℕ) (l : Listening) {heard : List Sample} (old : Option (List ℕ))
     {between new : Option (List ℕ)} → Appends old between (front ++ told l []) →
-    TellsMore l [] heard between new → Appends old new (front ++ told l heard)
+    GainsText l [] heard between new → Appends old new (front ++ told l heard)
 more_text front l {heard} old {between} {new} line more =
     subst (Appends old new)
     (append_assoc front (told l []) more.text ∙ ap (λ (xs : List ℕ). front ++ xs) more.all)
@@ -222,7 +222,7 @@ more_text front l {heard} old {between} {new} line more =
 
 part_text : (front : List ℕ) (l : Listening) {heard : List Sample} (old : Option (List ℕ))
     {between new : Option (List ℕ)} → Appends old between (front ++ told l []) →
-    TellsPart l [] heard between new → AppendsPrefix old new (front ++ told l heard)
+    GainsPrefix l [] heard between new → AppendsPrefix old new (front ++ told l heard)
 part_text front l {heard} old {between} {new} line part =
     prefix_of old new (front ++ told l heard) ((front ++ told l []) ++ part.text)
     (Appends-trans old between new (front ++ told l []) part.text line part.written)
@@ -235,7 +235,7 @@ pub writes_first_part : {taps : List KeptTap} {r : Reception} {header : Header}
     {rest mid old between new : Option (List ℕ)} →
     HasBegun taps r header samples listener kept rest mid old between →
     ((l : Listening) (heard : List Sample) → Listens l listener kept heard →
-    TellsPart l heard (heard ++ samples) between new) →
+    GainsPrefix l heard (heard ++ samples) between new) →
     WritesNoMore taps r rest mid old new
 writes_first_part {taps} {r} {header} {samples} {listener} {kept} {rest} {mid} {old} {between} {new}
     begun tells =
@@ -249,22 +249,22 @@ writes_first_part {taps} {r} {header} {samples} {listener} {kept} {rest} {mid} {
 
 -- that text and what is told of the first samples, and a beginning of what is told after them
 pub writes_rest_part : {taps : List KeptTap} {r : Reception} {header : Header}
-    {samples : List Sample} {count : ℕ} {one other : Listener} {kept behind : List KeptTap}
+    {samples : List Sample} {count : ℕ} {one other : Listener} {kept following : List KeptTap}
     {rest mid left old between later new : Option (List ℕ)} → count + r.span ≡ header.count →
     HasBegun taps r header samples one kept rest mid old between →
     ((l : Listening) (heard : List Sample) → Listens l one kept heard →
-    ListenerTells l other behind heard (heard ++ samples) between later) →
-    ((l : Listening) (heard : List Sample) → Listens l other behind heard →
-    HearsPart l (width_of header) count heard mid left later new) →
+    ListenerTells l other following heard (heard ++ samples) between later) →
+    ((l : Listening) (heard : List Sample) → Listens l other following heard →
+    LosesSamples l (width_of header) count heard mid left later new) →
     WritesNoMore taps r rest left old new
-writes_rest_part {taps} {r} {header} {samples} {count} {one} {other} {kept} {behind} {rest} {mid}
+writes_rest_part {taps} {r} {header} {samples} {count} {one} {other} {kept} {following} {rest} {mid}
     {left} {old} {between} {later} {new} counts begun tells hears =
     let l = listening taps r.purpose header samples in
     let first = tells l [] begun.listens in
     let part = hears l samples first.listens in
     begins_text mid header samples part.samples part.more begun.counted begun.lawful begun.in_range
     (omega (arith, begun.counted, counts, part.number)) begun.consumed part.in_range part.consumed
-    (part_text (told_first r samples) l old begun.line (part_behind first.more part.tells))
+    (part_text (told_first r samples) l old begun.line (part_after first.more part.tells))
 
 -- ---- the whole text
 
@@ -272,24 +272,24 @@ writes_rest_part {taps} {r} {header} {samples} {count} {one} {other} {kept} {beh
 pub writes_whole : {taps : List KeptTap} {r : Reception} {header : Header} {samples : List Sample}
     {listener : Listener} {kept : List KeptTap} {rest mid old between new : Option (List ℕ)}
     (others : List Sample) → HasBegun taps r header samples listener kept rest mid old between →
-    TellsMore (listening taps r.purpose header samples) [] (samples ++ others) between new →
+    GainsText (listening taps r.purpose header samples) [] (samples ++ others) between new →
     Appends old new (file_text taps r header (samples ++ others))
 writes_whole {taps} {r} {header} {samples} {listener} {kept} {rest} {mid} {old} {between} {new}
     others begun more =
     let l = listening taps r.purpose header samples in
-    subst (Appends old new) (sym (text_behind taps r header samples others begun.counted))
+    subst (Appends old new) (sym (text_of_first taps r header samples others begun.counted))
     (more_text (told_first r samples) l old begun.line more)
 
 -- the file was read to its end, and its text written
 pub writes_text : {taps : List KeptTap} {r : Reception} {status : Status} {header : Header}
     {samples : List Sample} {left : ℕ} {one other last : Listener}
-    {kept behind end_taps : List KeptTap} (rest mid end : Option (List ℕ))
+    {kept following end_taps : List KeptTap} (rest mid end : Option (List ℕ))
     {old between later new : Option (List ℕ)} →
     IsLawfulHeader header → left + r.span ≡ header.count → All (HasBits (width_of header)) samples →
     HasBegun taps r header samples one kept rest mid old between →
     ((l : Listening) (heard : List Sample) → Listens l one kept heard →
-    ListenerTells l other behind heard (heard ++ samples) between later) →
-    ((l : Listening) (heard : List Sample) → Listens l other behind heard →
+    ListenerTells l other following heard (heard ++ samples) between later) →
+    ((l : Listening) (heard : List Sample) → Listens l other following heard →
     HearsRest l (width_of header) left last end_taps heard mid end later new) →
     IsAtEnd end →
     ((l : Listening) (heard : List Sample) → Listens l last end_taps heard →
@@ -332,7 +332,7 @@ writes_text {taps} {r} {status} {header} {samples} (Some bytes) (Some more) (Som
         };
         enough = omega (arith, length-append samples others, begun.counted);
       };
-      written = writes_whole others begun (more_behind first.more heard.tells.more);
+      written = writes_whole others begun (more_after first.more heard.tells.more);
       ends = told l (samples ++ others) heard.tells.listens ∙
-          sym (end_behind taps r header samples others begun.counted);
+          sym (end_after taps r header samples others begun.counted);
     }

@@ -4,7 +4,7 @@ use Rattle.cdma_replay.proofs.Common.{append_assoc, Header, arith, inl, inr, app
 use Rattle.cdma_replay.proofs.Common.{Ok, flat_map, Appends, Consumes, IsAtEnd, Appends-trans, cases_lt, take-append-le, take_all}
 use Rattle.cdma_replay.proofs.Common.{flat_map-append, take-add, of_sample, Sample, Width, AppendsPrefix, header_spelling, sample_spelling}
 use Rattle.cdma_replay.proofs.Common.{CellPlan, ScriptFault, OutOfMemory, named, plan_named, samples_of, header_of, prefix_before}
-use Rattle.cdma_replay.proofs.Common.{prefix_behind, prefix_of, taken_begins, script_status, length-made, made_samples, WritesNoMoreMade}
+use Rattle.cdma_replay.proofs.Common.{prefix_after, prefix_of, taken_begins, script_status, length-made, made_samples, WritesNoMoreMade}
 use Rattle.cdma_replay.proofs.Common.{made_file, piece_bytes}
 use Rattle.std.proofs.lemmas.List.{length-take-le, take-append-drop}
 use Rattle.owed_replies.specs.Make.{sample_bytes}
@@ -200,7 +200,7 @@ piece_cut width plan now given n bytes old mid new same spelled before cut =
     (spelled ∙ ap (λ (p : CellPlan). piece_bytes width p given n) same) cut in
     let written : AppendsPrefix old new (file_front width plan (given + n)) =
     subst (AppendsPrefix old new) (sym (front_more width plan given n))
-    (prefix_behind old mid new (file_front width plan given) (piece_bytes width plan given n)
+    (prefix_after old mid new (file_front width plan given) (piece_bytes width plan given n)
     before part) in
     subst (AppendsPrefix old new) (front_and_rest width plan (given + n))
     (prefix_before old new (file_front width plan (given + n))

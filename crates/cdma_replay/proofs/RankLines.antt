@@ -1,7 +1,7 @@
 -- Lemmas on the lines of ranks that are written one after the other.
 use Rattle.cdma_replay.proofs.Common.{◌≡◌, ℕ, ◌+◌, ◌-◌, ◌<◌, ◌++◌, ◌∷◌, [], List, take, drop, sym, ap, ◌∙◌, subst, arith, append-nil}
 use Rattle.cdma_replay.proofs.Common.{slice_get, Option, Some, take_more, flat_map-append, get_or_from_slice_get, slice_get_within}
-use Rattle.cdma_replay.proofs.Common.{Appends-nil, Appends-trans, Appends, AppendsPrefix, Rank, prefix_before, prefix_behind, rank_line}
+use Rattle.cdma_replay.proofs.Common.{Appends-nil, Appends-trans, Appends, AppendsPrefix, Rank, prefix_before, prefix_after, rank_line}
 use Rattle.cdma_replay.proofs.Common.{ranks_text}
 use Rattle.cdma_replay.proofs.Hearings.{taken_joined}
 
@@ -61,4 +61,4 @@ lines_cut ranks place top rank old mid new is below lines part =
     let rest = ranks_text (take (top - (place + 1)) (drop (place + 1) ranks)) in
     subst (AppendsPrefix old new) (sym (ranks_parted ranks place top rank is below))
     (prefix_before old new (ranks_text (take place ranks) ++ rank_line rank) rest
-    (prefix_behind old mid new (ranks_text (take place ranks)) (rank_line rank) lines part))
+    (prefix_after old mid new (ranks_text (take place ranks)) (rank_line rank) lines part))

@@ -19,7 +19,7 @@ use Rattle.event_tap.specs.Taps.{KeptTap, run_taps, run_text}
 use Rattle.tuned_listener.specs.TunedListening.{ListensTuned, tuned_room}
 use Rattle.cdma_replay.specs.declared.listener.Listener.{Listener}
 use Rattle.cdma_replay.specs.declared.listener.Listener.TheVariants as by
-use Rattle.owed_replies.specs.Hearing.{ByFrames, ByTaps, Listening, Nobody, TellsMore, first_text}
+use Rattle.owed_replies.specs.Hearing.{ByFrames, ByTaps, Listening, Nobody, GainsText, first_text}
 use Rattle.owed_replies.specs.Hearing.{listening, told}
 use Rattle.owed_replies.specs.Ranks.{ranks_text}
 use Rattle.owed_replies.specs.declared.purpose.Purpose.{Purpose}
@@ -47,15 +47,15 @@ IsFreshListener text l listener kept = ⊥
 
 -- a handset has taken these samples and given all that is heard in them, and these taps are kept
 -- after that
-abbrev pub GivesAll : Tuning → List KeptTap → Mobile → List KeptTap → List Sample → Type 0
-GivesAll t taps mobile kept heard =
+abbrev pub HandsetGave : Tuning → List KeptTap → Mobile → List KeptTap → List Sample → Type 0
+HandsetGave t taps mobile kept heard =
     StandsFor t mobile heard (events t heard) × (kept ≡ run_taps taps (events t heard))
 
 -- it has taken these samples and told all of them, and these taps are kept after them
 abbrev pub Listens : Listening → Listener → List KeptTap → List Sample → Type 0
 Listens Nobody (by.Pilot best) kept heard = Unit {0}
 Listens Nobody (by.Ranks ranks top) kept heard = Unit {0}
-Listens (ByTaps t taps) (by.Handset mobile) kept heard = GivesAll t taps mobile.value kept heard
+Listens (ByTaps t taps) (by.Handset mobile) kept heard = HandsetGave t taps mobile.value kept heard
 Listens (ByFrames t channel text) (by.Tuned tuned) kept heard =
     ListensTuned t channel text tuned.value heard
 Listens l listener kept heard = ⊥
@@ -85,7 +85,7 @@ pub record IsListenerFor (purpose : Purpose) (header : Header) (first : List Sam
 
 -- it has taken no sample, and a sink got a text and what is told before any sample: the pilot,
 -- where taps hear a handset
-pub record BeginsBehind (text : List ℕ) (l : Listening) (listener : Listener)
+pub record BeginsAfter (text : List ℕ) (l : Listening) (listener : Listener)
     (kept : List KeptTap) (old new : Option (List ℕ)) : Type 0 where
   pub written : Appends old new (text ++ told l [])
   pub listens : Listens l listener kept []
@@ -93,7 +93,7 @@ pub record BeginsBehind (text : List ℕ) (l : Listening) (listener : Listener)
 -- a listener has taken these samples, and a sink got what is told of them beyond those before
 pub record ListenerTells (l : Listening) (listener : Listener) (kept : List KeptTap)
     (before heard : List Sample) (old new : Option (List ℕ)) : Type 0 where
-  pub more : TellsMore l before heard old new
+  pub more : GainsText l before heard old new
   pub listens : Listens l listener kept heard
 
 -- a handset has given these events after others, and a sink got their text
@@ -102,7 +102,7 @@ pub record HasTold (t : Tuning) (taps : List KeptTap) (mobile : Mobile) (kept : 
   pub more : List Event
   pub written : Appends old new (run_text (run_taps taps given) more)
   pub stands : StandsFor t mobile heard (given ++ more)
-  pub behind : kept ≡ run_taps taps (given ++ more)
+  pub following : kept ≡ run_taps taps (given ++ more)
 
 -- a source lost the spellings of so many samples, and the listener heard them
 pub record HearsRest (l : Listening) (width : Width) (count : ℕ) (listener : Listener)

@@ -5,11 +5,11 @@ use Rattle.heard_events.specs.Tuning.{Tuning}
 use Rattle.mobile_core.specs.declared.mobile.Mobile.{Mobile}
 use Rattle.event_tap.specs.Taps.{KeptTap}
 use Rattle.owed_replies.specs.Hearing.{ByTaps, told}
-use Rattle.cdma_replay.specs.Listeners.{GivesAll}
+use Rattle.cdma_replay.specs.Listeners.{HandsetGave}
 
 -- a handset gave its pilot to taps, a sink got what is told before any sample, and these taps are
 -- kept after that
 pub record TellsPilot (t : Tuning) (taps : List KeptTap) (mobile : Mobile) (kept : List KeptTap)
     (old new : Option (List ℕ)) : Type 0 where
   pub written : Appends old new (told (ByTaps t taps) [])
-  pub gives : GivesAll t taps mobile kept []
+  pub gives : HandsetGave t taps mobile kept []

@@ -7,8 +7,8 @@ ghost use Rattle.heard_events.specs.Events.{events};
 ghost use Rattle.mobile_core.specs.Standing.{StandsFor, has_room};
 ghost use Rattle.heard_events.specs.Tuning.{Tuning};
 ghost use Rattle.event_tap.specs.Taps.{IsKept, KeptTap, run_taps};
-ghost use Rattle.owed_replies.specs.Hearing.{ByTaps, TellsMore, TellsPart, told};
-ghost use Rattle.cdma_replay.specs.Listeners.{GivesAll};
+ghost use Rattle.owed_replies.specs.Hearing.{ByTaps, GainsText, GainsPrefix, told};
+ghost use Rattle.cdma_replay.specs.Listeners.{HandsetGave};
 ghost use Rattle.cdma_replay.specs.Pilots.{TellsPilot};
 
 use crate::ranks::write_ranks;
@@ -44,9 +44,9 @@ impl Listener {
     ghost use Rattle.chip_core.specs.declared.sample.Sample.{Sample as TheSample};
     ghost use Rattle.cdma_io.specs.Outside.{AppendsPrefix, HasCause};
     ghost use Rattle.event_tap.specs.Taps.{IsKept, KeptTap};
-    ghost use Rattle.cdma_replay.specs.Listeners.{BeginsBehind, HasRoom, HasRoomFor};
+    ghost use Rattle.cdma_replay.specs.Listeners.{BeginsAfter, HasRoom, HasRoomFor};
     ghost use Rattle.cdma_replay.specs.Listeners.{IsFreshListener, IsTellable};
-    ghost use Rattle.owed_replies.specs.Hearing.{Listening, TellsPart, is_told};
+    ghost use Rattle.owed_replies.specs.Hearing.{Listening, GainsPrefix, is_told};
     ghost use Rattle.cdma_replay.specs.Listeners.{Listens, ListenerTells};
     ghost use Rattle.owed_replies.specs.Hearing.{told};
 
@@ -62,7 +62,7 @@ impl Listener {
         ensures kept { All IsKept (T.kept taps.new) }
         ensures ok { OnOk result ((text : List ℕ) (l : Listening) →
             IsFreshListener text l self.old (T.kept taps.old) →
-            BeginsBehind text l self.new (T.kept taps.new)
+            BeginsAfter text l self.new (T.kept taps.new)
             (K.written sink.old) (K.written sink.new)) }
         ensures err { OnErr result ((text : List ℕ) (l : Listening) (samples : List TheSample) →
             IsFreshListener text l self.old (T.kept taps.old) →
@@ -99,7 +99,7 @@ impl Listener {
             (K.written sink.old) (K.written sink.new)) }
         ensures err { OnErr result ((l : Listening) (heard : List TheSample) →
             Listens l self.old (T.kept taps.old) heard →
-            TellsPart l heard (heard ++ samples.now) (K.written sink.old) (K.written sink.new)) }
+            GainsPrefix l heard (heard ++ samples.now) (K.written sink.old) (K.written sink.new)) }
         ensures cause { HasCause (K.faults sink.old) (K.faults sink.new) result }
     {
         match self {
@@ -162,13 +162,13 @@ fn tell<T: KeepsTaps, K: Sink>(
     ensures ok { OnOk result ((t : Tuning) (first : List KeptTap) (heard : List TheSample) →
         StandsFor t mobile.old heard (events t heard) →
         T.kept taps.old ≡ run_taps first (events t heard) →
-        TellsMore (ByTaps t first) heard (heard ++ samples.now)
+        GainsText (ByTaps t first) heard (heard ++ samples.now)
         (K.written sink.old) (K.written sink.new)
-        × GivesAll t first mobile.new (T.kept taps.new) (heard ++ samples.now)) }
+        × HandsetGave t first mobile.new (T.kept taps.new) (heard ++ samples.now)) }
     ensures err { OnErr result ((t : Tuning) (first : List KeptTap) (heard : List TheSample) →
         StandsFor t mobile.old heard (events t heard) →
         T.kept taps.old ≡ run_taps first (events t heard) →
-        TellsPart (ByTaps t first) heard (heard ++ samples.now) (K.written sink.old)
+        GainsPrefix (ByTaps t first) heard (heard ++ samples.now) (K.written sink.old)
         (K.written sink.new)) }
     ensures cause { HasCause (K.faults sink.old) (K.faults sink.new) result }
 {

@@ -165,11 +165,11 @@ fn without_taps(alloc: Global, args: &[String]) -> Status
 }
 
 /// The arguments after the first, which is the program's own name.
-fn args_behind_name(args: &[String]) -> &[String]
+fn args_after_name(args: &[String]) -> &[String]
     ensures { result.now ≡ drop 1 args.now }
 {
     match args.split_first() {
-        Some((_name, behind)) => behind,
+        Some((_name, following)) => following,
         None => args,
     }
 }
@@ -194,10 +194,10 @@ fn run_given<R: AllocGlobal + Threads + Sync, S: Source, K: Output>(
 {
     match args {
         Ok(args) => {
-            let behind = args_behind_name(args.as_slice());
-            match run_args(rt, behind, source, sink) {
+            let following = args_after_name(args.as_slice());
+            match run_args(rt, following, source, sink) {
                 Ok(status) => status,
-                Err(_) => without_taps(rt.alloc(), behind),
+                Err(_) => without_taps(rt.alloc(), following),
             }
         }
         Err(status) => status,

@@ -10,7 +10,7 @@ ghost use Rattle.event_tap.specs.Taps.{IsKept};
 ghost use Rattle.command_line.specs.Args.{IsWorkers};
 ghost use Rattle.chip_core.specs.declared.sample.Sample.{Sample};
 ghost use Rattle.cdma_replay.specs.Listeners.{HasRoom, HearsRest, Listens};
-ghost use Rattle.owed_replies.specs.Hearing.{HearsPart, Listening};
+ghost use Rattle.owed_replies.specs.Hearing.{LosesSamples, Listening};
 ghost use Rattle.owed_replies.specs.Hearing.{end_when};
 ghost use Rattle.owed_replies.specs.Tasks.{IsLawfulPurpose};
 ghost use Rattle.owed_replies.specs.Broken.{HearsFirst, IsCut, IsLong, IsUnopened, TakesFew};
@@ -83,7 +83,7 @@ fn hear_rest<S: Source, T: KeepsTaps, K: Sink>(
         (K.written sink.old) (K.written sink.new)) }
     ensures written { (l : Listening) (heard : List Sample) →
         Listens l listener.old (T.kept taps.old) heard →
-        HearsPart l (width_of reader.old.header) reader.old.left heard (S.rest source.old)
+        LosesSamples l (width_of reader.old.header) reader.old.left heard (S.rest source.old)
         (S.rest source.new) (K.written sink.old) (K.written sink.new) }
     ensures cut { IsCut (ended result) → (l : Listening) (heard : List Sample) →
         Listens l listener.old (T.kept taps.old) heard →

@@ -1,7 +1,7 @@
 -- The pages of a paging channel whose pages are messages: what they lay carries just their capsules.
 use Rattle.cell_plan.proofs.Common.{◌≡◌, ℕ, ◌+◌, ◌≤◌, List, [], ◌∷◌, length, map, refl, sym, ap, subst, ◌∙◌, arith, Bool, All, All-cons}
 use Rattle.cell_plan.proofs.Common.{All-nil, CheckForm, capsule, M30, length-capsule, whole-capsule, Rate, HasMessage, bits_left}
-use Rattle.cell_plan.proofs.Common.{half_frame_body, laid_is_carried, rate_large, Page, PagingPlan, laid_behind, page_cycle, put_of}
+use Rattle.cell_plan.proofs.Common.{half_frame_body, laid_is_carried, rate_large, Page, PagingPlan, laid_after, page_cycle, put_of}
 use Rattle.cell_plan.proofs.Common.{AreSendable, AreHeard, IsCarried, IsStatedPaging}
 use Rattle.cell_plan.proofs.LaidPages.{length-on}
 use Rattle.paging_message.specs.Laying as laying
@@ -17,14 +17,14 @@ puts_lawful size form l (page ∷ pages) count laid are heard =
     let long : length c ≡ 38 + length page.body =
     omega (arith, length-capsule M30 form page.body) in
     let next : length (laying.laid_on size l page.follows c).body
-    ≡ laid_behind size count page.follows (38 + length page.body) =
+    ≡ laid_after size count page.follows (38 + length page.body) =
     length-on size l page.follows c
-    ∙ ap (λ (n : ℕ). laid_behind size n page.follows (length c)) laid
-    ∙ ap (laid_behind size count page.follows) long in (
+    ∙ ap (λ (n : ℕ). laid_after size n page.follows (length c)) laid
+    ∙ ap (laid_after size count page.follows) long in (
       whole-capsule M30 form page.body are.0,
       λ follows. subst (λ (n : ℕ). 8 ≤ bits_left size n) (sym laid) (heard.1 follows),
       puts_lawful size form (laying.laid_on size l page.follows c) pages
-          (laid_behind size count page.follows (38 + length page.body)) next are.2 heard.2,
+          (laid_after size count page.follows (38 + length page.body)) next are.2 heard.2,
     )
 
 capsules_of : (form : CheckForm) (pages : List Page) →
@@ -47,5 +47,5 @@ pub heard_messages : (size count : ℕ) (pages : List Page) → AreHeard size co
 heard_messages size count [] heard = All-nil (λ (page : Page). HasMessage page.body)
 heard_messages size count (page ∷ pages) heard =
     All-cons (λ (page : Page). HasMessage page.body) page pages heard.0
-    (heard_messages size (laid_behind size count page.follows (38 + length page.body)) pages
+    (heard_messages size (laid_after size count page.follows (38 + length page.body)) pages
     heard.2)

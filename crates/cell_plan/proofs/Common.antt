@@ -49,7 +49,7 @@ pub use Rattle.sync_message.specs.SyncMessage.{IsSyncMessage, fixed_fields, sync
 unfoldable pub use Rattle.sync_message.specs.SyncMessage.{sync_capsule}
 pub use Rattle.sync_message.specs.declared.fields.SyncFields.{SyncFields}
 unfoldable pub use Rattle.walsh.specs.Walsh.{walsh}
-pub use Rattle.cell_plan.specs.Pages.{AreSendable, laid_behind, put_of}
+pub use Rattle.cell_plan.specs.Pages.{AreSendable, laid_after, put_of}
 unfoldable pub use Rattle.cell_plan.specs.Pages.{page_cycle}
 pub use Rattle.cell_plan.specs.Plan.{gain_sum, loudness, most_part, paging_gains, sync_gain, traffic_gains}
 pub use Rattle.cell_plan.specs.Sendings.{padded_sending, superframes_a_sending}

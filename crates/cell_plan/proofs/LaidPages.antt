@@ -36,7 +36,7 @@ laid_more size form pages k lt =
 
 pub length-on : (size : ℕ) (l : laying.Laid) (follow : Bool) (c : List Bool) →
     length (laying.laid_on size l follow c).body
-    ≡ specs.laid_behind size (length l.body) follow (length c)
+    ≡ specs.laid_after size (length l.body) follow (length c)
 unfolding laying.laid_on
 length-on size l true c = length-append l.body c
 length-on size l false c =
@@ -157,10 +157,10 @@ here size count k pages lt are =
     subst (specs.AreSendable size count)
     (at_drop_more (λ (ps : List Page). ps) pages k no_page lt) are
 
-behind_most : (size count : ℕ) (follows : Bool) (bits : ℕ) →
-    count + bits ≤ specs.laid_behind size count follows bits
-behind_most size count true bits = omega arith
-behind_most size count false bits = omega arith
+after_most : (size count : ℕ) (follows : Bool) (bits : ℕ) →
+    count + bits ≤ specs.laid_after size count follows bits
+after_most size count true bits = omega arith
+after_most size count false bits = omega arith
 
 -- One page more is laid as the definition lays it: its capsule comes after what was laid, the body
 -- is then as long as the count of the plan's check says, and so that check covers the pages that
@@ -187,10 +187,10 @@ laid_next size form pages k layout next bits more large lt is same put =
     (put before is.laid) in
     let sendable = here size (length before.body) k pages lt is.left in
     let count : length after.body
-    ≡ specs.laid_behind size (length before.body) page.follows (38 + length page.body) =
+    ≡ specs.laid_after size (length before.body) page.follows (38 + length page.body) =
     ap (λ (m : laying.Laid). length m.body) step
     ∙ length-on size before page.follows c
-    ∙ ap (specs.laid_behind size (length before.body) page.follows) long in
+    ∙ ap (specs.laid_after size (length before.body) page.follows) long in
     let size_is : next.size ≡ size = same ∙ is.same in
     let bits_are : length more ≡ specs.half_frame_bits size (length after.body) =
     ap length laid.spelled
@@ -204,7 +204,7 @@ laid_next size form pages k layout next bits more large lt is same put =
         arith,
         is.some,
         count,
-        behind_most size (length before.body) page.follows
+        after_most size (length before.body) page.follows
             (38 + length page.body),
       );
       most = omega (arith, bits_are, ap (specs.half_frame_bits size) count, sendable.1);

@@ -22,8 +22,8 @@ last_eight start bits eight enough =
 pub last_before : (bits : ℕ → List Bool) (k start last : ℕ) (frame : List Bool) → frame ≡ bits k →
     8 ≤ length frame → binary 8 last ≡ state_after (binary 8 start) frame →
     binary 8 last ≡ bits_before bits (k + 1)
-last_before bits k start last frame is enough behind =
-    behind ∙ last_eight (binary 8 start) frame (length-binary 8 start) enough
+last_before bits k start last frame is enough following =
+    following ∙ last_eight (binary 8 start) frame (length-binary 8 start) enough
     ∙ ap (λ (b : List Bool). drop (length b - 8) b) is ∙ sym (before-next bits k)
 
 pub continued_is : (bits : ℕ → List Bool) (k : ℕ) →

@@ -21,10 +21,10 @@ refilled_is m pn time lc is offset early below =
     let min = fit.1.1.0 in
     let sid = fit.1.1.1.0 in
     let nid = fit.1.1.1.1.0 in
-    let behind = fit.1.1.1.1.1.1.1.1 in
+    let following = fit.1.1.1.1.1.1.1.1 in
     let small : pn < 2 ^ 9 = omega (arith, offset) in
     let fits : FieldsFit (fixed_fields (refilled m pn time lc)) =
-    (type, (prev, (min, (sid, (nid, (small, (below, (early, behind)))))))) in
+    (type, (prev, (min, (sid, (nid, (small, (below, (early, following)))))))) in
     admitted (refilled m pn time lc) fits (tail_of m is)
 
 pub length-sync : (form : CheckForm) (m : SyncFields) →

@@ -33,8 +33,8 @@ page_cycle rate form pages =
 -- ---- how many bits they have
 
 -- the body bits after a capsule of so many bits that is laid after others
-abbrev pub laid_behind : ℕ → ℕ → Bool → ℕ → ℕ
-laid_behind size count follows bits =
+abbrev pub laid_after : ℕ → ℕ → Bool → ℕ → ℕ
+laid_after size count follows bits =
     if follows then count + bits else count + fill size count + bits
 
 -- the bits of half-frames up to the last of so many body bits, SCI bits among them
@@ -46,6 +46,6 @@ half_frame_bits size count = count + (count + size - 1) / size
 abbrev pub AreSendable : ℕ → ℕ → List Page → Type 0
 AreSendable size count [] = Unit {0}
 AreSendable size count (page ∷ pages) =
-    let behind = laid_behind size count page.follows (38 + length page.body) in
-    FillsCapsule M30 page.body × (half_frame_bits size behind ≤ 8192)
-    × AreSendable size behind pages
+    let following = laid_after size count page.follows (38 + length page.body) in
+    FillsCapsule M30 page.body × (half_frame_bits size following ≤ 8192)
+    × AreSendable size following pages

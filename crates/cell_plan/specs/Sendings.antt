@@ -38,8 +38,8 @@ padded_sending cell m sending =
 unfoldable pub sync_frame_bits : CellIdentity → SyncFields → ℕ → List Bool
 sync_frame_bits cell m frame =
     let frames = 3 * superframes_a_sending cell m in
-    let behind = drop (31 * (frame % frames)) (padded_sending cell m (frame / frames)) in
-    (frame % frames == 0) ∷ take 31 behind
+    let following = drop (31 * (frame % frames)) (padded_sending cell m (frame / frames)) in
+    (frame % frames == 0) ∷ take 31 following
 
 -- The eight bits before a frame of a channel whose encoder goes on from frame to frame, and starts
 -- in state zero: the last ones of the frame before it.

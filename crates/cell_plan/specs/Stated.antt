@@ -9,7 +9,7 @@ use Rattle.quality_bits.specs.declared.rate.Rate.{Rate}
 use Rattle.paging_message.specs.Admitted.{HasMessage}
 use Rattle.paging_message.specs.HalfFrames.{bits_left, capsules_in, half_frame_body}
 use Rattle.quality_bits.specs.declared.kind.Kind.TheVariants.{M30}
-use Rattle.cell_plan.specs.Pages.{laid_behind, page_cycle, sent_paging_rate, AreSendable}
+use Rattle.cell_plan.specs.Pages.{laid_after, page_cycle, sent_paging_rate, AreSendable}
 use Rattle.cell_plan.specs.declared.plan.CellPlan.{CellPlan}
 use Rattle.cell_plan.specs.declared.plan.Page.{Page}
 use Rattle.cell_plan.specs.declared.plan.PagingPlan.{PagingPlan}
@@ -42,7 +42,7 @@ abbrev pub AreHeard : ℕ → ℕ → List Page → Type 0
 AreHeard size count [] = Unit {0}
 AreHeard size count (page ∷ pages) =
     HasMessage page.body × (page.follows ≡ true → 8 ≤ bits_left size count)
-    × AreHeard size (laid_behind size count page.follows (38 + length page.body)) pages
+    × AreHeard size (laid_after size count page.follows (38 + length page.body)) pages
 
 -- each page of a channel is a message
 abbrev pub HasMessages : PagingPlan → Type 0

@@ -104,10 +104,10 @@ impl Channel {
         if chip < self.first {
             return 0;
         }
-        let behind = chip - self.first;
+        let following = chip - self.first;
         let form = self.source.form();
-        let frame = behind / form.frame_chips;
-        let place = behind % form.frame_chips / form.symbol_chips;
+        let frame = following / form.frame_chips;
+        let place = following % form.frame_chips / form.symbol_chips;
         signed(self.gain, self.symbol(frame, place as u16))
     }
 }

@@ -2,13 +2,13 @@
 use Rattle.cell_script.proofs.Common.{◌≡◌, ℕ, ◌+◌, ◌<◌, ◌≤◌, Bool, true, false, cond, List, [], ◌∷◌, ◌++◌, length, refl, sym, ap, subst}
 use Rattle.cell_script.proofs.Common.{◌∙◌, arith, None, Some, ◌==◌, All, and_parts, cond-true, cond-false, eqb-true, leb-true, All-nil}
 use Rattle.cell_script.proofs.Common.{All-push, cond_some, same_Some, norm, FillsCapsule, M30, Rate, R9600, R4800, HasMessage, bits_left}
-use Rattle.cell_script.proofs.Common.{half_frame_body, half_frame_bits, laid_behind, sent_paging_rate, AreSendable, CellPlan, Page}
+use Rattle.cell_script.proofs.Common.{half_frame_body, half_frame_bits, laid_after, sent_paging_rate, AreSendable, CellPlan, Page}
 use Rattle.cell_script.proofs.Common.{PagingPlan, SyncPlan, Stage, Cell, Link, Pilot, Sync, Paging, FirstPage, Pages, Traffic, FirstFrame}
 use Rattle.cell_script.proofs.Common.{Frames, TrafficPlan, TrafficFrame, PagingLine, TrafficLine, Statement, empty_plan}
 use Rattle.cell_script.proofs.Common.{opened_paging, on_last, opened_traffic, with_page, with_statement, with_frame, one_frame_more}
 use Rattle.cell_script.proofs.Common.{one_page_more, rate_set, FrameRate, SetOne, SetTwo, RateSet, One, Two, IsTrafficFrame, IsInOrder}
 use Rattle.cell_script.proofs.Common.{AreHeard, HasSaid, IsStatedCell, IsStatedLink, IsStatedPaging, IsStatedSync, IsStatedTraffic}
-use Rattle.cell_script.proofs.Common.{IsLawfulStatement, after_frame, after_page, after_paging, after_traffic, behind_sync, count_behind}
+use Rattle.cell_script.proofs.Common.{IsLawfulStatement, after_frame, after_page, after_paging, after_traffic, stage_after_sync, count_after}
 use Rattle.cell_script.proofs.Common.{is_cycle, may_follow, next_stage, page_stage, is_complete, statements_of}
 use Rattle.std.proofs.lemmas.List.{length-append}
 use Rattle.std.proofs.lemmas.Bool.{cond_both}
@@ -21,25 +21,25 @@ use Rattle.cell_script.specs.declared.statements.Statement.TheVariants as statem
 abbrev pub count_of : ℕ → ℕ → List Page → ℕ
 count_of size count [] = count
 count_of size count (page ∷ pages) =
-    count_of size (laid_behind size count page.follows (38 + length page.body)) pages
+    count_of size (laid_after size count page.follows (38 + length page.body)) pages
 
 count_of-append : (size count : ℕ) (pages : List Page) (page : Page) →
     count_of size count (pages ++ page ∷ [])
-    ≡ laid_behind size (count_of size count pages) page.follows (38 + length page.body)
+    ≡ laid_after size (count_of size count pages) page.follows (38 + length page.body)
 count_of-append size count [] page = refl
 count_of-append size count (p ∷ pages) page =
-    count_of-append size (laid_behind size count p.follows (38 + length p.body)) pages page
+    count_of-append size (laid_after size count p.follows (38 + length p.body)) pages page
 
 sendable-append : (size count : ℕ) (pages : List Page) (page : Page) →
     AreSendable size count pages → FillsCapsule M30 page.body →
     half_frame_bits size
-    (laid_behind size (count_of size count pages) page.follows (38 + length page.body)) ≤ 8192 →
+    (laid_after size (count_of size count pages) page.follows (38 + length page.body)) ≤ 8192 →
     AreSendable size count (pages ++ page ∷ [])
 sendable-append size count [] page are fills few = (fills, few, tt)
 sendable-append size count (p ∷ pages) page are fills few = (
   are.0,
   are.1,
-  sendable-append size (laid_behind size count p.follows (38 + length p.body)) pages page are.2
+  sendable-append size (laid_after size count p.follows (38 + length p.body)) pages page are.2
       fills few,
 )
 
@@ -50,7 +50,7 @@ heard-append size count [] page are is room = (is, room, tt)
 heard-append size count (p ∷ pages) page are is room = (
   are.0,
   are.1,
-  heard-append size (laid_behind size count p.follows (38 + length p.body)) pages page are.2 is
+  heard-append size (laid_after size count p.follows (38 + length p.body)) pages page are.2 is
       room,
 )
 
@@ -222,7 +222,7 @@ next_has stage next plan e has =
 
 -- PRAT tells the stage after a sync channel, and the rate of the paging channels
 sync_channels : (plan : CellPlan) (sync : SyncPlan) → IsBare plan →
-    HasChannels (behind_sync sync) (record plan { sync = Some sync })
+    HasChannels (stage_after_sync sync) (record plan { sync = Some sync })
 sync_channels plan sync none =
     let prat = sync.message.prat in
     let now = λ (s : Stage). HasChannels s (record plan { sync = Some sync }) in
@@ -235,10 +235,10 @@ abbrev pub with_channel : CellPlan → PagingLine → CellPlan
 with_channel plan line = record plan { paging = plan.paging ++ opened_paging line ∷ [] }
 
 -- a channel is opened after others
-opened_behind : (plan : CellPlan) (line : PagingLine) → (1 ≤ line.number) × (line.number ≤ 7) →
+opened_after : (plan : CellPlan) (line : PagingLine) → (1 ≤ line.number) × (line.number ≤ 7) →
     plan.traffic ≡ [] → All (IsStatedPaging (sent_paging_rate plan.sync)) plan.paging →
     IsOpen (sent_paging_rate plan.sync) 0 (with_channel plan line)
-opened_behind plan line number bare are = record {
+opened_after plan line number bare are = record {
   rate_is = refl;
   before = plan.paging;
   last = opened_paging line;
@@ -259,19 +259,19 @@ with_more plan page = record plan { paging = with_page plan.paging page }
 page_laid : (rate : Rate) (count : ℕ) (plan : CellPlan) (page : Page) →
     FillsCapsule M30 page.body × HasMessage page.body → IsOpen rate count plan →
     (page.follows ≡ true → 8 ≤ bits_left (half_frame_body rate) count) →
-    half_frame_bits (half_frame_body rate) (count_behind rate count page) ≤ 8192 →
-    HasPages rate (count_behind rate count page) (with_more plan page)
+    half_frame_bits (half_frame_body rate) (count_after rate count page) ≤ 8192 →
+    HasPages rate (count_after rate count page) (with_more plan page)
 page_laid rate count plan page is o room few =
     let size = half_frame_body rate in
     let pages = o.last.pages ++ page ∷ [] in
     let last : PagingPlan = record o.last { pages = pages } in
-    let behind : count_behind rate count page
-    ≡ laid_behind size (count_of size 0 o.last.pages) page.follows (38 + length page.body) =
-    ap (λ (n : ℕ). laid_behind size n page.follows (38 + length page.body)) o.laid in
+    let following : count_after rate count page
+    ≡ laid_after size (count_of size 0 o.last.pages) page.follows (38 + length page.body) =
+    ap (λ (n : ℕ). laid_after size n page.follows (38 + length page.body)) o.laid in
     let all : with_page plan.paging page ≡ o.before ++ last ∷ [] =
     ap (λ (ps : List PagingPlan). with_page ps page) o.channels
     ∙ on_last-last (one_page_more page) o.before o.last in
-    let open_now : IsOpen rate (count_behind rate count page) (with_more plan page) = record {
+    let open_now : IsOpen rate (count_after rate count page) (with_more plan page) = record {
       rate_is = o.rate_is;
       before = o.before;
       last = last;
@@ -280,10 +280,10 @@ page_laid rate count plan page is o room few =
       stated = o.stated;
       number = o.number;
       pages = sendable-append size 0 o.last.pages page o.pages is.0
-          (subst (λ (n : ℕ). half_frame_bits size n ≤ 8192) behind few);
+          (subst (λ (n : ℕ). half_frame_bits size n ≤ 8192) following few);
       heard = heard-append size 0 o.last.pages page o.heard is.1
           (λ follows. subst (λ (n : ℕ). 8 ≤ bits_left size n) o.laid (room follows));
-      laid = behind ∙ sym (count_of-append size 0 o.last.pages page);
+      laid = following ∙ sym (count_of-append size 0 o.last.pages page);
     } in
     (open_now, omega (arith, length-append o.last.pages (page ∷ [])))
 
@@ -300,12 +300,12 @@ page_taken : (rate : Rate) (count : ℕ) (next : Stage) (plan : CellPlan) (page 
     page_stage rate count page ≡ Some next → HasChannels next (with_more plan page)
 unfolding page_stage
 page_taken rate count next plan page is o e =
-    let behind = count_behind rate count page in
-    let told = cond_some _ (Pages rate behind) next e in
-    let both = and_parts (may_follow rate count page.follows) (is_cycle rate behind) told.0 in
+    let following = count_after rate count page in
+    let told = cond_some _ (Pages rate following) next e in
+    let both = and_parts (may_follow rate count page.follows) (is_cycle rate following) told.0 in
     subst (λ (s : Stage). HasChannels s (with_more plan page)) told.1
     (page_laid rate count plan page is o (follow_room rate count page.follows both.0)
-    (leb-true (half_frame_bits (half_frame_body rate) behind) 8192 both.1))
+    (leb-true (half_frame_bits (half_frame_body rate) following) 8192 both.1))
 
 abbrev pub with_traffic : CellPlan → TrafficLine → CellPlan
 with_traffic plan line = record plan { traffic = plan.traffic ++ opened_traffic line ∷ [] }
@@ -314,10 +314,10 @@ abbrev IsRowed : TrafficLine → Type 0
 IsRowed line = (line.row ≤ 63) × (line.offset ≤ 15)
 
 -- a traffic channel is opened after others
-traffic_behind : (plan : CellPlan) (line : TrafficLine) → IsRowed line →
+traffic_after : (plan : CellPlan) (line : TrafficLine) → IsRowed line →
     All (IsStatedPaging (sent_paging_rate plan.sync)) plan.paging → All IsStatedTraffic plan.traffic →
     IsOpenTraffic (with_traffic plan line)
-traffic_behind plan line bounds paging are = record {
+traffic_after plan line bounds paging are = record {
   paging = paging;
   before = plan.traffic;
   last = opened_traffic line;
@@ -357,12 +357,12 @@ channels_with (statements.Link link) Link next plan is has e =
 channels_with (statements.Pilot pilot) Pilot next plan is has e =
     next_has Sync next (record plan { pilot = pilot }) e has
 channels_with (statements.Sync sync) Sync next plan is has e =
-    next_has (behind_sync sync) next (record plan { sync = Some sync }) e
+    next_has (stage_after_sync sync) next (record plan { sync = Some sync }) e
     (sync_channels plan sync has.0)
 channels_with (statements.Paging line) stage next plan is has e =
     let told = paging_next stage next plan has e in
     next_has (FirstPage (sent_paging_rate plan.sync)) next (with_channel plan line) told.2
-    (opened_behind plan line is told.0 (whole_at stage plan has told.1).0)
+    (opened_after plan line is told.0 (whole_at stage plan has told.1).0)
 channels_with (statements.Page page) stage next plan is has e =
     let told = page_next stage next plan page has e in
     page_taken told.0 told.1 next plan page is told.2 told.3
@@ -370,7 +370,7 @@ channels_with (statements.Traffic line) stage next plan is has e =
     let told = traffic_next stage next e in
     let whole = whole_at stage plan has told.0 in
     next_has FirstFrame next (with_traffic plan line) told.1
-    (traffic_behind plan line is whole.0 whole.1)
+    (traffic_after plan line is whole.0 whole.1)
 channels_with (statements.Frame frame) stage next plan is has e =
     let told = frame_next stage next plan frame.rate has e in
     next_has (Frames told.0) next (with_sent plan frame) told.2 (frame_sent plan frame is told.1)

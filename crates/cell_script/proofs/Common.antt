@@ -24,7 +24,7 @@ pub use Rattle.std.specs.Str.{all_ascii_digits}
 pub use Rattle.cdma_io.specs.SampleFile.{most_samples}
 pub use Rattle.cell_plan.proofs.CarriedPages.{channel_carried, heard_messages}
 pub use Rattle.cell_plan.proofs.MachineInts.{read64}
-pub use Rattle.cell_plan.specs.Pages.{AreSendable, half_frame_bits, laid_behind, sent_paging_rate}
+pub use Rattle.cell_plan.specs.Pages.{AreSendable, half_frame_bits, laid_after, sent_paging_rate}
 pub use Rattle.cell_plan.specs.Plan.{AreLawfulBeside, HaveOwnNumbers, HaveOwnTrafficRows, IsFreeOf, IsLawfulPlan, IsPagingPlan, IsSyncPlan}
 pub use Rattle.cell_plan.specs.Plan.{IsTrafficPlan, loudness, most_part, paging_gains, sync_gain, traffic_gains}
 pub use Rattle.cell_plan.specs.Stated.{AreHeard, HasMessages, HasSaid, IsCarried, IsReceivable, IsStatedCell, IsStatedLink, IsStatedPaging}
@@ -70,7 +70,7 @@ pub use Rattle.sync_message.specs.SyncMessage.{IsSyncMessage, fixed_fields}
 pub use Rattle.sync_message.specs.Tails.{IsTail}
 pub use Rattle.sync_message.specs.declared.fields.SyncFields.{SyncFields}
 pub use Rattle.cell_script.specs.Script.{ChannelLine, channel, channel_lines, first_channels, gain_fault, is_used, long_fault, loud_fault}
-pub use Rattle.cell_script.specs.Script.{named, onto_first, paging_lines, plan_fault, repeated, repeated_behind, silent, sync_gain_fault}
+pub use Rattle.cell_script.specs.Script.{named, onto_first, paging_lines, plan_fault, repeated, repeated_after, silent, sync_gain_fault}
 pub use Rattle.cell_script.specs.Script.{traffic_lines, unless, walsh_fault}
 unfoldable pub use Rattle.cell_script.specs.Script.{draft_after, is_line, lines, plan_named, stated, stated_plan}
 pub use Rattle.cell_script.specs.ScriptDrafts.{Draft, draft_at, empty_draft, empty_plan, on_last, opened_paging, opened_traffic, plan_at}
@@ -88,15 +88,15 @@ pub use Rattle.cell_script.specs.ScriptLines.{cell_line, frame_rate, has_lawful_
 pub use Rattle.cell_script.specs.ScriptLines.{gain_row, sync_fields, cell_statement, form_bit, frame_statement, link_statement}
 pub use Rattle.cell_script.specs.ScriptLines.{page_statement, paging_statement, pilot_statement, traffic_statement}
 unfoldable pub use Rattle.cell_script.specs.ScriptLines.{cell_in, traffic_frame_in, freq_in, link_in, stated_page_in, paging_in, past_freq}
-unfoldable pub use Rattle.cell_script.specs.ScriptLines.{pilot_in, statement_in, sync_behind, sync_in, traffic_in}
+unfoldable pub use Rattle.cell_script.specs.ScriptLines.{pilot_in, statement_in, sync_after, sync_in, traffic_in}
 pub use Rattle.cell_script.specs.ScriptPlans.{IsLawfulStatement}
 unfoldable pub use Rattle.cell_script.specs.ScriptSplitting.{first_stated}
-pub use Rattle.cell_script.specs.ScriptStages.{after_frame, after_page, after_paging, after_traffic, behind_sync, count_behind, is_complete}
+pub use Rattle.cell_script.specs.ScriptStages.{after_frame, after_page, after_paging, after_traffic, stage_after_sync, count_after, is_complete}
 pub use Rattle.cell_script.specs.ScriptStages.{is_cycle, may_follow, next_stage}
 unfoldable pub use Rattle.cell_script.specs.ScriptStages.{page_stage}
 pub use Rattle.line_text.specs.StatedValues.{all_clear, as_state, begins_with, text_after, binary_digit, hex_digit, number_in, octets_in}
 pub use Rattle.line_text.specs.StatedValues.{unpadded, up_to}
-unfoldable pub use Rattle.line_text.specs.StatedValues.{bits_in_text, power_bits_in, digits_behind, hex_bits, hex_from, length_before}
+unfoldable pub use Rattle.line_text.specs.StatedValues.{bits_in_text, power_bits_in, digits_after, hex_bits, hex_from, length_before}
 unfoldable pub use Rattle.line_text.specs.StatedValues.{number_up_to, serial_number_in, signed_in, state_in}
 pub use Rattle.cell_script.specs.declared.judge.ChannelRows.{ChannelRows}
 pub use Rattle.cell_script.specs.declared.judge.Judge.{Judge}

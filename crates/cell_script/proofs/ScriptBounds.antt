@@ -1,7 +1,7 @@
 -- What the texts of a script's fields spell is in the ranges of the fields.
 use Rattle.cell_script.proofs.Common.{AreIn, AreUpTo, BitList, Bool, IsIn, IsState, List, None, NumberRow, Option, SixteenDigits, Some}
 use Rattle.cell_script.proofs.Common.{StatementRow, Tabled, TextForm, ValueOf, Values, [], all_clear, ap, arith, as_state, at_end}
-use Rattle.cell_script.proofs.Common.{begins_with, binary_digit, bits_in_text, codes, cond, cond_some, digits_behind, drop, eqb-false}
+use Rattle.cell_script.proofs.Common.{begins_with, binary_digit, bits_in_text, codes, cond, cond_some, digits_after, drop, eqb-false}
 use Rattle.cell_script.proofs.Common.{eqb-true, false, fields_in, hex_bits, hex_digit, hex_from, leb-true, length, length-append}
 use Rattle.cell_script.proofs.Common.{length-take, length_before, ltb-true, nat_le, nat_lt, number_in, number_up_to, numbers_in}
 use Rattle.cell_script.proofs.Common.{option_and_then, past, power_bits_in, reader_of, refl, same_Some, script_field, serial_number_in}
@@ -106,12 +106,12 @@ serial_most text n e =
     let below : n < 16 ^ 8 = hex_most text 0 8 0 n (omega (arith, long)) (omega arith) told.1 in
     omega (arith, below)
 
-digits_long : (digits : List ℕ) (bits all : List Bool) → digits_behind bits digits ≡ Some all →
+digits_long : (digits : List ℕ) (bits all : List Bool) → digits_after bits digits ≡ Some all →
     length all ≡ length bits + length digits
-unfolding digits_behind
+unfolding digits_after
 digits_long [] bits all e = omega (arith, ap length (same_Some bits all e))
 digits_long (digit ∷ digits) bits all e =
-    let told = tried (λ (bit : Bool). digits_behind (bits ++ bit ∷ []) digits) (binary_digit digit)
+    let told = tried (λ (bit : Bool). digits_after (bits ++ bit ∷ []) digits) (binary_digit digit)
     all e in
     omega (
       arith,
@@ -123,7 +123,7 @@ power_bits_long : (text : List ℕ) (bits : List Bool) → power_bits_in text �
     length bits ≡ 16
 unfolding power_bits_in
 power_bits_long text bits e =
-    let told = tested_step (length text == 16) (digits_behind [] text) bits e in
+    let told = tested_step (length text == 16) (digits_after [] text) bits e in
     let long : length text ≡ 16 = eqb-true (length text) 16 told.0 in
     omega (arith, digits_long text [] bits told.1, long)
 
@@ -139,13 +139,13 @@ bits_few : (text : List ℕ) (bits : List Bool) → bits_in_text text ≡ Some b
     length bits ≤ 1184
 unfolding bits_in_text
 bits_few text bits e =
-    let behind = text_after (codes ":") (drop (length_before 58 text) text) in
+    let following = text_after (codes ":") (drop (length_before 58 text) text) in
     let counted = tried
     (λ (n : ℕ). option_and_then
-    (λ (digits : List ℕ). option_and_then (unpadded n) (hex_bits digits)) behind)
+    (λ (digits : List ℕ). option_and_then (unpadded n) (hex_bits digits)) following)
     (number_up_to 1184 (take (length_before 58 text) text)) bits e in
     let spelled = tried
-    (λ (digits : List ℕ). option_and_then (unpadded counted.0) (hex_bits digits)) behind bits
+    (λ (digits : List ℕ). option_and_then (unpadded counted.0) (hex_bits digits)) following bits
     counted.2 in
     let all = tried (unpadded counted.0) (hex_bits spelled.0) bits spelled.2 in
     omega (

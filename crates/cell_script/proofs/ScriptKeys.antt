@@ -40,15 +40,15 @@ key_told text name =
     key_front [] name = sym (lists.drop_all (length name) [] (omega arith))
     key_front (t ∷ text) name = refl
 
-behind_both : (a b : ℕ) (text : List ℕ) → drop a (drop b text) ≡ drop (b + a) text
-behind_both a b text = lists.drop-drop a b text ∙ ap (λ (k : ℕ). drop k text) (omega arith)
+after_both : (a b : ℕ) (text : List ℕ) → drop a (drop b text) ≡ drop (b + a) text
+after_both a b text = lists.drop-drop a b text ∙ ap (λ (k : ℕ). drop k text) (omega arith)
 
-pub key_behind : (text name : List ℕ) →
+pub key_after : (text name : List ℕ) →
     drop 1 (drop (length name) (drop 1 text)) ≡ drop (length (key_of name)) text
-key_behind text name =
+key_after text name =
     let long : 1 + (length name + 1) ≡ length (key_of name) =
     omega (arith, length-append (codes " " ++ name) (codes "=")) in
-    behind_both 1 (length name) (drop 1 text) ∙ behind_both (length name + 1) 1 text
+    after_both 1 (length name) (drop 1 text) ∙ after_both (length name + 1) 1 text
     ∙ ap (λ (k : ℕ). drop k text) long
 
 -- each field of the sync message has at most 63 bits

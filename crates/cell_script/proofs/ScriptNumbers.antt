@@ -4,7 +4,7 @@ use Rattle.cell_script.proofs.Common.{◌≡◌, ◌≢◌, ℕ, suc, ◌<◌, �
 use Rattle.cell_script.proofs.Common.{None, Some, ◌==◌, All, eqb-false, length-map, All-cons, All-head, All-map, All-nil, All-tail}
 use Rattle.cell_script.proofs.Common.{All-weaker, Rate, PagingPlan, TrafficPlan, AreLawfulBeside, HaveOwnNumbers, HaveOwnTrafficRows}
 use Rattle.cell_script.proofs.Common.{IsFreeOf, IsPagingPlan, IsTrafficPlan, ChannelLine, channel, first_channels, is_used, paging_lines}
-use Rattle.cell_script.proofs.Common.{repeated, repeated_behind, silent, traffic_lines, IsStatedPaging, IsStatedTraffic, map, nat_eq}
+use Rattle.cell_script.proofs.Common.{repeated, repeated_after, silent, traffic_lines, IsStatedPaging, IsStatedTraffic, map, nat_eq}
 use Rattle.cell_script.proofs.Common.{ne_eqb, ◌∙◌}
 use Rattle.std.specs.List.{IsDistinct}
 use Rattle.std.proofs.lemmas.Bool.{or_parts}
@@ -64,13 +64,13 @@ Apart before ls = AreUnused before ls × HaveOwnRows ls
 
 apart_step : (before : List ChannelLine) (l : ChannelLine) (ls : List ChannelLine) (used : Bool) →
     is_used l.row before ≡ used →
-    cond used (Some l.row) (repeated_behind (before ++ l ∷ []) ls) ≡ None →
-    (repeated_behind (before ++ l ∷ []) ls ≡ None → Apart (before ++ l ∷ []) ls) →
+    cond used (Some l.row) (repeated_after (before ++ l ∷ []) ls) ≡ None →
+    (repeated_after (before ++ l ∷ []) ls ≡ None → Apart (before ++ l ∷ []) ls) →
     Apart before (l ∷ ls)
 apart_step before l ls true e none rest = absurd (cc none)
 apart_step before l ls false e none rest =
     let told = rest none in
-    let behind : All (λ (q : ChannelLine). is_used q.row before ≡ false) ls =
+    let following : All (λ (q : ChannelLine). is_used q.row before ≡ false) ls =
     All-weaker (λ (q : ChannelLine). is_used q.row (before ++ l ∷ []) ≡ false)
     (λ (q : ChannelLine). is_used q.row before ≡ false)
     (λ q is. (used-front q.row before l is).0) ls told.0 in
@@ -78,14 +78,14 @@ apart_step before l ls false e none rest =
     All-weaker (λ (q : ChannelLine). is_used q.row (before ++ l ∷ []) ≡ false)
     (λ (q : ChannelLine). q.row ≢ l.row)
     (λ q is same. (used-front q.row before l is).1 (sym same)) ls told.0 in (
-      All-cons (λ (q : ChannelLine). is_used q.row before ≡ false) l ls e behind,
+      All-cons (λ (q : ChannelLine). is_used q.row before ≡ false) l ls e following,
       (others, told.1),
     )
 
-apart_behind : (before ls : List ChannelLine) → repeated_behind before ls ≡ None → Apart before ls
-apart_behind before [] none = (All-nil (λ (q : ChannelLine). is_used q.row before ≡ false), tt)
-apart_behind before (l ∷ ls) none =
-    apart_step before l ls (is_used l.row before) refl none (apart_behind (before ++ l ∷ []) ls)
+apart_after : (before ls : List ChannelLine) → repeated_after before ls ≡ None → Apart before ls
+apart_after before [] none = (All-nil (λ (q : ChannelLine). is_used q.row before ≡ false), tt)
+apart_after before (l ∷ ls) none =
+    apart_step before l ls (is_used l.row before) refl none (apart_after (before ++ l ∷ []) ls)
 
 -- ---- at most so many rows
 
@@ -160,7 +160,7 @@ own_numbers (p ∷ paging) ls own = (
 pub have_own_numbers : (paging : List PagingPlan) (ls : List ChannelLine) →
     repeated (paging_lines paging ++ ls) ≡ None → HaveOwnNumbers paging
 have_own_numbers paging ls none =
-    own_numbers paging ls (apart_behind first_channels (paging_lines paging ++ ls) none).1
+    own_numbers paging ls (apart_after first_channels (paging_lines paging ++ ls) none).1
 
 own_lines : (paging : List PagingPlan) → HaveOwnNumbers paging → HaveOwnRows (paging_lines paging)
 own_lines [] own = tt
@@ -208,10 +208,10 @@ traffic_all P (t ∷ traffic) are =
     (traffic_all P traffic (All-tail P (traffic_line_of t) (traffic_lines traffic) are))
 
 -- the lines after those of paging channels have rows of their own
-own_behind : (paging : List PagingPlan) (ls : List ChannelLine) →
+own_after : (paging : List PagingPlan) (ls : List ChannelLine) →
     HaveOwnRows (paging_lines paging ++ ls) → HaveOwnRows ls
-own_behind [] ls own = own
-own_behind (p ∷ paging) ls own = own_behind paging ls own.1
+own_after [] ls own = own
+own_after (p ∷ paging) ls own = own_after paging ls own.1
 
 own_traffic_rows : (traffic : List TrafficPlan) → HaveOwnRows (traffic_lines traffic) →
     HaveOwnTrafficRows traffic
@@ -282,7 +282,7 @@ pub lawful_beside : (paging : List PagingPlan) (traffic : List TrafficPlan) →
     silent (paging_lines paging ++ traffic_lines traffic) ≡ None → AreLawfulBeside paging traffic
 lawful_beside paging traffic are none quiet =
     let ls = traffic_lines traffic in
-    let told = apart_behind first_channels (paging_lines paging ++ ls) none in
+    let told = apart_after first_channels (paging_lines paging ++ ls) none in
     let unused : All (λ (t : TrafficPlan). is_used t.row first_channels ≡ false) traffic =
     traffic_all (λ (q : ChannelLine). is_used q.row first_channels ≡ false) traffic
     (parted (λ (q : ChannelLine). is_used q.row first_channels ≡ false) paging ls told.0).1 in
@@ -292,7 +292,7 @@ lawful_beside paging traffic are none quiet =
     (some_gain (paging_lines paging ++ ls) quiet)).1 in
     let sent : All IsTrafficPlan traffic =
     λ k d inside. traffic_sent _ (are k d inside) (gains k d inside) (unused k d inside) in
-    let own = own_behind paging ls told.1 in
+    let own = own_after paging ls told.1 in
     record {
       few = few_rows traffic sent own;
       are = sent;

@@ -8,7 +8,7 @@ use Rattle.cell_script.proofs.Common.{get_or, has_lawful_rest, information_bits_
 use Rattle.cell_script.proofs.Common.{local_rows, ltb-true, nat_lt, network_rows, norm, not-true, numbers_in, option_map, page_statement}
 use Rattle.cell_script.proofs.Common.{paging_in}
 use Rattle.cell_script.proofs.Common.{paging_statement, pilot_in, pilot_statement, read_as, reader_of, refl, same_Some, script_field}
-use Rattle.cell_script.proofs.Common.{stated_page_in, statement_in, subst, suc, sync_behind, sync_fields, sync_in, traffic_frame_in}
+use Rattle.cell_script.proofs.Common.{stated_page_in, statement_in, subst, suc, sync_after, sync_fields, sync_in, traffic_frame_in}
 use Rattle.cell_script.proofs.Common.{traffic_in, traffic_statement, true, unsigned_abs, zero, ℕ, ◌*◌, ◌+◌, ◌<◌, ◌==◌, ◌^◌, ◌≡◌, ◌≤◌}
 use Rattle.cell_script.proofs.LineForms.{line_said}
 use Rattle.cell_script.proofs.ScriptBounds.{both_steps, ended, number_field, numbers_up_to}
@@ -97,11 +97,11 @@ message_writable gain network local freq rest message small up few is e =
       time = refl;
     })
 
-behind_writable : (gain : ℕ) (network local text : List ℕ) (sync : SyncPlan) → gain ≤ 65535 →
+after_writable : (gain : ℕ) (network local text : List ℕ) (sync : SyncPlan) → gain ≤ 65535 →
     AreUpTo network_rows network → AreUpTo local_rows local →
-    sync_behind gain network local text ≡ Some sync → IsWritableSync sync
-unfolding sync_behind
-behind_writable gain network local text sync small up few =
+    sync_after gain network local text ≡ Some sync → IsWritableSync sync
+unfolding sync_after
+after_writable gain network local text sync small up few =
     both_steps (freq_in _) _
     (λ freq freq_is.
     both_steps (script_field (codes " rest=") bits_in_text _) _ λ rest rest_is.
@@ -117,7 +117,7 @@ sync_writable text =
     both_steps (script_field gain_row.key (reader_of gain_row.form) _) _ λ gain gain_is.
     both_steps (numbers_in network_rows _) _ λ network network_is.
     both_steps (numbers_in local_rows _) _ λ local local_is sync e.
-    behind_writable gain network local _ sync (number_field _ 65535 _ gain gain_is)
+    after_writable gain network local _ sync (number_field _ 65535 _ gain gain_is)
     (numbers_up_to network_rows _ network network_is) (numbers_up_to local_rows _ local local_is) e
 
 -- ---- pages and frames

@@ -55,18 +55,18 @@ with_line-none plan stage text is = ap (option_and_then (with_next (draft_at pla
 abbrev Left : List ℕ → CellPlan → Stage → ℕ → List ℕ → Type 0
 Left script plan stage n rest = stated_plan script ≡ stated (draft_at plan stage) n (lines rest)
 
-abbrev behind : ℕ → List ℕ → List ℕ
-behind bytes rest = take (length rest - bytes) (drop bytes rest)
+abbrev following : ℕ → List ℕ → List ℕ
+following bytes rest = take (length rest - bytes) (drop bytes rest)
 
 left_next : (script rest : List ℕ) (plan : CellPlan) (stage next : Stage) (n bytes : ℕ)
     (statement : Statement) →
     first_stated rest ≡ Some statement → bytes ≡ length_before 10 rest + 1 →
     next_stage stage statement ≡ Some next → Left script plan stage n rest →
-    Left script (with_statement plan statement) next (n + 1) (behind bytes rest)
+    Left script (with_statement plan statement) next (n + 1) (following bytes rest)
 left_next script rest plan stage next n bytes statement is bytes_is after before =
     let end = length_before 10 rest in
     let told = first_some rest statement is in
-    subst (λ (b : ℕ). Left script (with_statement plan statement) next (n + 1) (behind b rest))
+    subst (λ (b : ℕ). Left script (with_statement plan statement) next (n + 1) (following b rest))
     (sym bytes_is)
     (line_read script (draft_at plan stage) (draft_at (with_statement plan statement) next) n end
     rest refl told.0 (with_line-is plan stage (take end rest) statement (Some next) told.1 after) before)
@@ -132,10 +132,10 @@ pub one_read : (script rest : List ℕ) (stage next : Stage) (judge more : Judge
     ((plan : CellPlan) → IsInOrder plan statement → HasJudged judge plan →
     HasJudged more (with_statement plan statement)) →
     more.channels.gains ≤ judge.channels.gains + 65535 →
-    HasRead script stage judge n rest → HasRead script next more (n + 1) (behind bytes rest)
+    HasRead script stage judge n rest → HasRead script next more (n + 1) (following bytes rest)
 one_read script rest stage next judge more n bytes statement is bytes_is after step gains before =
     let inside = (first_some rest statement is).0 in
-    let few : n + 1 + length (behind (length_before 10 rest + 1) rest) ≤ 1 + length script =
+    let few : n + 1 + length (following (length_before 10 rest + 1) rest) ≤ 1 + length script =
     line_counted rest n (length_before 10 rest) (1 + length script) inside before.few in
     record {
       plan = with_statement before.plan statement;
@@ -146,7 +146,7 @@ one_read script rest stage next judge more n bytes statement is bytes_is after s
           (first_some rest statement is).1) before.said after;
       judged = step before.plan (in_order stage next before.plan statement before.said after)
           before.judged;
-      few = subst (λ (b : ℕ). n + 1 + length (behind b rest) ≤ 1 + length script) (sym bytes_is)
+      few = subst (λ (b : ℕ). n + 1 + length (following b rest) ≤ 1 + length script) (sym bytes_is)
           few;
       gains = omega (arith, gains, before.gains);
     }
@@ -208,7 +208,7 @@ made_step : (script rest : List ℕ) (plan : CellPlan) (stage : Stage) (n bytes 
     (statement : Statement) (next : Option Stage) → next_stage stage statement ≡ next →
     IsOk (stated_plan script) → first_stated rest ≡ Some statement →
     bytes ≡ length_before 10 rest + 1 → Left script plan stage n rest →
-    HasMade script (with_statement plan statement) (behind bytes rest)
+    HasMade script (with_statement plan statement) (following bytes rest)
 made_step script rest plan stage n bytes statement None after ok is bytes_is before =
     absurd (no_fault (stated_plan script) n ok
     (left_refused script rest plan stage n statement is after before))
@@ -222,9 +222,9 @@ made_step script rest plan stage n bytes statement (Some next) after ok is bytes
 pub one_made : (script rest : List ℕ) (plan more : CellPlan) (bytes : ℕ) (statement : Statement) →
     IsOk (stated_plan script) → first_stated rest ≡ Some statement →
     bytes ≡ length_before 10 rest + 1 → more ≡ with_statement plan statement →
-    HasMade script plan rest → HasMade script more (behind bytes rest)
+    HasMade script plan rest → HasMade script more (following bytes rest)
 one_made script rest plan more bytes statement ok is bytes_is more_is before =
-    subst (λ (p : CellPlan). HasMade script p (behind bytes rest)) (sym more_is)
+    subst (λ (p : CellPlan). HasMade script p (following bytes rest)) (sym more_is)
     (made_step script rest plan before.stage before.n bytes statement _ refl ok is bytes_is
     before.left)
 

@@ -5,7 +5,7 @@ use Rattle.cell_script.proofs.Common.{option_or, cases_eq, eq-eqb, ne_eqb, or_ri
 use Rattle.cell_script.proofs.Common.{length-set, get_or-replicate, Width, paging_gains, sync_gain, traffic_gains, CellPlan, LinkPlan, Page}
 use Rattle.cell_script.proofs.Common.{PagingPlan, PilotPlan, SyncPlan, TrafficPlan, Judge, ChannelRows, ScriptFault, TrafficFrame}
 use Rattle.cell_script.proofs.Common.{ChannelLine, channel, channel_lines, first_channels, gain_fault, is_used, long_fault, loud_fault}
-use Rattle.cell_script.proofs.Common.{paging_lines, plan_fault, repeated, repeated_behind, silent, traffic_lines, walsh_fault, on_last}
+use Rattle.cell_script.proofs.Common.{paging_lines, plan_fault, repeated, repeated_after, silent, traffic_lines, walsh_fault, on_last}
 use Rattle.cell_script.proofs.Common.{with_page, map, one_frame_more, one_page_more, with_frame, gains_of, judged_fault, HasJudged, HasSeen}
 use Rattle.cell_script.proofs.Common.{PagingLine, TrafficLine, map-append, opened_paging, opened_traffic}
 use Rattle.std.proofs.Math.Bool.{or-false}
@@ -31,23 +31,23 @@ used-append k (x ∷ ls) l = step (x.row == k) (used-append k ls l)
     step false e = e
 
 repeated-append : (before ls : List ChannelLine) (l : ChannelLine) →
-    repeated_behind before (ls ++ l ∷ [])
-    ≡ option_or (repeated_behind before ls) (row_if (is_used l.row (before ++ ls)) l.row)
+    repeated_after before (ls ++ l ∷ [])
+    ≡ option_or (repeated_after before ls) (row_if (is_used l.row (before ++ ls)) l.row)
 repeated-append before [] l =
     ap (λ (b : List ChannelLine). row_if (is_used l.row b) l.row) (sym (append-nil before))
 repeated-append before (x ∷ ls) l =
     step (is_used x.row before)
     (repeated-append (before ++ x ∷ []) ls l
     ∙ ap (λ (b : List ChannelLine).
-    option_or (repeated_behind (before ++ x ∷ []) ls) (row_if (is_used l.row b) l.row))
+    option_or (repeated_after (before ++ x ∷ []) ls) (row_if (is_used l.row b) l.row))
     (append_assoc before (x ∷ []) ls))
   where
     step : (b : Bool) →
-        repeated_behind (before ++ x ∷ []) (ls ++ l ∷ [])
-        ≡ option_or (repeated_behind (before ++ x ∷ []) ls)
+        repeated_after (before ++ x ∷ []) (ls ++ l ∷ [])
+        ≡ option_or (repeated_after (before ++ x ∷ []) ls)
         (row_if (is_used l.row (before ++ x ∷ ls)) l.row) →
-        cond b (Some x.row) (repeated_behind (before ++ x ∷ []) (ls ++ l ∷ []))
-        ≡ option_or (cond b (Some x.row) (repeated_behind (before ++ x ∷ []) ls))
+        cond b (Some x.row) (repeated_after (before ++ x ∷ []) (ls ++ l ∷ []))
+        ≡ option_or (cond b (Some x.row) (repeated_after (before ++ x ∷ []) ls))
         (row_if (is_used l.row (before ++ x ∷ ls)) l.row)
     step true e = refl
     step false e = e
@@ -181,10 +181,10 @@ judged_frame judge plan frame before = record {
 }
 
 -- a paging channel more stands last where there is no traffic channel yet
-behind_paging : (ls : List ChannelLine) (traffic : List TrafficPlan) (l : ChannelLine) →
+paging_added_last : (ls : List ChannelLine) (traffic : List TrafficPlan) (l : ChannelLine) →
     traffic ≡ [] →
     (ls ++ traffic_lines traffic) ++ l ∷ [] ≡ (ls ++ l ∷ []) ++ traffic_lines traffic
-behind_paging ls traffic l none =
+paging_added_last ls traffic l none =
     subst (λ (ts : List TrafficPlan).
     (ls ++ traffic_lines ts) ++ l ∷ [] ≡ (ls ++ l ∷ []) ++ traffic_lines ts) (sym none)
     (ap (λ (all : List ChannelLine). all ++ l ∷ []) (append-nil ls) ∙ sym (append-nil (ls ++ l ∷ [])))
@@ -200,7 +200,7 @@ judged_paging judge plan line rows none seen before = record {
   pilot = before.pilot;
   sync = before.sync;
   channels = subst (HasSeen rows)
-      (behind_paging (paging_lines plan.paging) plan.traffic (channel line.number line.gain) none
+      (paging_added_last (paging_lines plan.paging) plan.traffic (channel line.number line.gain) none
       ∙ ap (λ (ls : List ChannelLine). ls ++ traffic_lines plan.traffic)
       (sym (map-append line_of plan.paging (opened_paging line ∷ [])))) seen;
 }

@@ -78,25 +78,25 @@ no_bytes : (bytes : List ℕ) → (length bytes == 0) ≡ true → bytes ≡ []
 no_bytes [] none = refl
 no_bytes (byte ∷ bytes) none = absurd (omega (arith, eqb-true (length (byte ∷ bytes)) 0 none))
 
-lines_step : (byte : ℕ) (bytes behind : List ℕ) (lf : Bool) → (byte == 10) ≡ lf →
+lines_step : (byte : ℕ) (bytes following : List ℕ) (lf : Bool) → (byte == 10) ≡ lf →
     is_line (byte ∷ bytes) ≡ true →
-    (is_line bytes ≡ true → lines (bytes ++ behind) ≡ bytes ∷ lines behind) →
-    lines (byte ∷ bytes ++ behind) ≡ (byte ∷ bytes) ∷ lines behind
-lines_step byte bytes behind true lf is rest =
+    (is_line bytes ≡ true → lines (bytes ++ following) ≡ bytes ∷ lines following) →
+    lines (byte ∷ bytes ++ following) ≡ (byte ∷ bytes) ∷ lines following
+lines_step byte bytes following true lf is rest =
     let none = no_bytes bytes (sym (is_line-end byte bytes lf) ∙ is) in
-    lines-end byte (bytes ++ behind) lf
-    ∙ ap (λ (b : List ℕ). (byte ∷ []) ∷ lines (b ++ behind)) none
-    ∙ ap (λ (b : List ℕ). (byte ∷ b) ∷ lines behind) (sym none)
-lines_step byte bytes behind false other is rest =
-    lines-more byte (bytes ++ behind) other
+    lines-end byte (bytes ++ following) lf
+    ∙ ap (λ (b : List ℕ). (byte ∷ []) ∷ lines (b ++ following)) none
+    ∙ ap (λ (b : List ℕ). (byte ∷ b) ∷ lines following) (sym none)
+lines_step byte bytes following false other is rest =
+    lines-more byte (bytes ++ following) other
     ∙ ap (onto_first byte) (rest (sym (is_line-more byte bytes other) ∙ is))
 
 -- a whole line is the first of the lines that begin with it
-pub lines-append : (line behind : List ℕ) → is_line line ≡ true →
-    lines (line ++ behind) ≡ line ∷ lines behind
-lines-append [] behind is = absurd (cc (is_line-none, is))
-lines-append (byte ∷ bytes) behind is =
-    lines_step byte bytes behind (byte == 10) refl is (lines-append bytes behind)
+pub lines-append : (line following : List ℕ) → is_line line ≡ true →
+    lines (line ++ following) ≡ line ∷ lines following
+lines-append [] following is = absurd (cc (is_line-none, is))
+lines-append (byte ∷ bytes) following is =
+    lines_step byte bytes following (byte == 10) refl is (lines-append bytes following)
 
 -- ---- the first line of a script
 

@@ -36,9 +36,9 @@ field-front : {A : Type 0} (key value rest : List ℕ) (read : List ℕ → Opti
 unfolding script_field
 field-front key value rest read fenced =
     let text = key ++ (value ++ rest) in
-    let behind : keyed key text ≡ value ++ rest = drop-append_seam key (value ++ rest) in
+    let following : keyed key text ≡ value ++ rest = drop-append_seam key (value ++ rest) in
     let value_is : value_of key text ≡ value =
-    ap (λ (t : List ℕ). take (length_before 32 t) t) behind
+    ap (λ (t : List ℕ). take (length_before 32 t) t) following
     ∙ ap (λ (n : ℕ). take n (value ++ rest)) fenced
     ∙ take-append_seam value rest in
     cond-true _ _ _ (begins-front key (value ++ rest)) ∙ ap read value_is
@@ -48,8 +48,8 @@ past-front : (key value rest : List ℕ) → IsFenced value rest →
 unfolding past
 past-front key value rest fenced =
     let text = key ++ (value ++ rest) in
-    let behind : keyed key text ≡ value ++ rest = drop-append_seam key (value ++ rest) in
-    ap (λ (t : List ℕ). drop (length_before 32 t) t) behind
+    let following : keyed key text ≡ value ++ rest = drop-append_seam key (value ++ rest) in
+    ap (λ (t : List ℕ). drop (length_before 32 t) t) following
     ∙ ap (λ (n : ℕ). drop n (value ++ rest)) fenced
     ∙ drop-append_seam value rest
 

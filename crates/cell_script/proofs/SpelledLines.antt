@@ -8,7 +8,7 @@ use Rattle.cell_script.proofs.Common.{frame_statement, freq_in, gain_row, inform
 use Rattle.cell_script.proofs.Common.{length, length_before, link_in, link_statement, local_rows, local_values, nat_le, network_rows}
 use Rattle.cell_script.proofs.Common.{network_values, number, number_up_to, numbers_in, numbers_text, option_map, page_statement, paging_in}
 use Rattle.cell_script.proofs.Common.{paging_statement, past, past_freq, past_numbers, pilot_in, pilot_statement, ranged, read_as, refl}
-use Rattle.cell_script.proofs.Common.{script_field, stated_page_in, statement_in, statement_text, subst, suc, sym, sync_behind, sync_fields}
+use Rattle.cell_script.proofs.Common.{script_field, stated_page_in, statement_in, statement_text, subst, suc, sym, sync_after, sync_fields}
 use Rattle.cell_script.proofs.Common.{sync_in, tail_of, take, traffic_frame_in, traffic_in, traffic_statement, true, written_as}
 use Rattle.cell_script.proofs.Common.{written_cell, written_frame, written_freq, written_link, written_page, written_paging, written_pilot}
 use Rattle.cell_script.proofs.Common.{written_sync, written_traffic, zero, ℕ, ◌%◌, ◌&&◌, ◌*◌, ◌++◌, ◌+◌, ◌-◌, ◌/◌, ◌<◌, ◌==◌, ◌^◌, ◌∙◌, ◌∷◌}
@@ -243,21 +243,21 @@ freq_back : (freq : Option ℕ) (rest : List Bool) → IsTail freq rest →
     IsFreqBack freq (written_freq freq ++ rest_part rest) (rest_part rest)
 freq_back None rest is = no_freq rest
 freq_back (Some freq) rest is =
-    let behind = rest_part rest in
+    let following = rest_part rest in
     let small : freq ≤ 2047 = omega (arith, is.0) in
-    let text : codes " freq=" ++ (decimal freq ++ behind) ≡ (codes " freq=" ++ decimal freq) ++ behind =
-    sym (append_assoc (codes " freq=") (decimal freq) behind) in
-    let told = some_freq freq (codes " freq=" ++ (decimal freq ++ behind)) behind
-    (decimal freq ++ behind, refl)
-    (field_back (codes " freq=") (decimal freq) behind (number_up_to 2047) freq
+    let text : codes " freq=" ++ (decimal freq ++ following) ≡ (codes " freq=" ++ decimal freq) ++ following =
+    sym (append_assoc (codes " freq=") (decimal freq) following) in
+    let told = some_freq freq (codes " freq=" ++ (decimal freq ++ following)) following
+    (decimal freq ++ following, refl)
+    (field_back (codes " freq=") (decimal freq) following (number_up_to 2047) freq
     (number_word freq (omega (arith, small)))
     (key_spaced (codes " rest=") (codes "rest=") (bit_text rest) refl)
     (number_back 2047 freq (omega arith) small)) in
-    subst (λ (t : List ℕ). IsFreqBack (Some freq) t behind) text
+    subst (λ (t : List ℕ). IsFreqBack (Some freq) t following) text
     (record {
       freq_read = told.0;
       passed = told.1;
-      spaced = key_spaced (codes " freq=") (codes "freq=") (decimal freq ++ behind) refl;
+      spaced = key_spaced (codes " freq=") (codes "freq=") (decimal freq ++ following) refl;
     })
 
 freq_within : (freq : Option ℕ) (rest : List Bool) → IsTail freq rest →
@@ -308,11 +308,11 @@ network_numbers m fit =
 local_numbers : (m : SyncFields) → FieldsFit (fixed_fields m) →
     AreNumbersOf local_rows (local_values m)
 local_numbers m fit =
-    let behind = fit.1.1.1.1.1.1.1.1 in
-    let lp : m.lp < 256 = behind.0 in
-    let ltm : m.ltm < 64 = behind.1.0 in
-    let daylt : m.daylt < 2 = behind.1.1.0 in
-    let prat : m.prat < 4 = behind.1.1.1.0 in (
+    let following = fit.1.1.1.1.1.1.1.1 in
+    let lp : m.lp < 256 = following.0 in
+    let ltm : m.ltm < 64 = following.1.0 in
+    let daylt : m.daylt < 2 = following.1.1.0 in
+    let prat : m.prat < 4 = following.1.1.1.0 in (
       number_of_row (codes "lp") 8 m.lp (omega (arith, lp)) (omega arith) refl,
       (
         number_of_row (codes "ltm") 6 m.ltm (omega (arith, ltm)) (omega arith) refl,
@@ -352,21 +352,21 @@ message_back : (m : SyncFields) → IsSyncMessage m → m.pn ≡ 0 → m.lc ≡ 
 message_back m is pn lc time =
     ap lawful_message (same_message m pn lc time) ∙ is_message m is
 
-behind_back : (gain : ℕ) (network local text behind : List ℕ) (freq : Option ℕ) (rest : List Bool)
+after_back : (gain : ℕ) (network local text following : List ℕ) (freq : Option ℕ) (rest : List Bool)
     (message : SyncFields) →
-    (freq_in text ≡ Some freq) × (past_freq text ≡ behind) →
-    IsField (codes " rest=") bits_in_text rest behind [] →
+    (freq_in text ≡ Some freq) × (past_freq text ≡ following) →
+    IsField (codes " rest=") bits_in_text rest following [] →
     lawful_message (sync_fields network local freq rest) ≡ Some message →
-    sync_behind gain network local text ≡ Some (record { gain = gain; message = message })
-unfolding sync_behind
-behind_back gain network local text behind freq rest message first second third =
+    sync_after gain network local text ≡ Some (record { gain = gain; message = message })
+unfolding sync_after
+after_back gain network local text following freq rest message first second third =
     rw (first.1, second.1, first.0, second.0, third) refl
 
 sync_read : (gain : ℕ) (network local text0 text1 text2 text3 : List ℕ) (sync : SyncPlan) →
     IsField gain_row.key (number_up_to 65535) gain text0 text1 →
     (numbers_in network_rows text1 ≡ Some network) × (past_numbers network_rows text1 ≡ text2) →
     (numbers_in local_rows text2 ≡ Some local) × (past_numbers local_rows text2 ≡ text3) →
-    sync_behind gain network local text3 ≡ Some sync → sync_in text0 ≡ Some sync
+    sync_after gain network local text3 ≡ Some sync → sync_in text0 ≡ Some sync
 unfolding sync_in
 sync_read gain network local text0 text1 text2 text3 sync first second third is =
     rw (first.1, second.1, third.1, first.0, second.0, third.0, is) refl
@@ -403,7 +403,7 @@ sync_back sync is =
     (number_word sync.gain (omega (arith, is.gain))) network.spaced
     (number_back 65535 sync.gain (omega arith) is.gain))
     (network.numbers_read, network.passed) (local.numbers_read, local.passed)
-    (behind_back sync.gain (network_values m) (local_values m) (tail_part m) (rest_part m.rest)
+    (after_back sync.gain (network_values m) (local_values m) (tail_part m) (rest_part m.rest)
     m.freq m.rest m (freq.freq_read, freq.passed)
     (last_back (codes " rest=") (bit_text m.rest) bits_in_text m.rest
     (bits_word m.rest (omega (arith, few))) (bits_back m.rest (omega (arith, few))))

@@ -7,7 +7,7 @@ use Rattle.cell_script.proofs.Common.{take-append_seam, cond-false, cond-true, e
 use Rattle.cell_script.proofs.Common.{length-replicate, from_be_bytes-to_be_bytes_4, from_be_bytes-to_be_bytes_8, decode_of-encode_lower}
 use Rattle.cell_script.proofs.Common.{IsBytes, encode_lower, encode_with, lower_digits, binary, number, IsState, binary-number, bit_text}
 use Rattle.cell_script.proofs.Common.{digits_of, octet_count, packed_octets, padded, serial_digits, state_digits, all_clear, as_state}
-use Rattle.cell_script.proofs.Common.{text_after, bits_in_text, power_bits_in, digits_behind, hex_bits, hex_digit, hex_from, length_before}
+use Rattle.cell_script.proofs.Common.{text_after, bits_in_text, power_bits_in, digits_after, hex_bits, hex_digit, hex_from, length_before}
 use Rattle.cell_script.proofs.Common.{number_up_to, octets_in, serial_number_in, state_in, unpadded, ℤ, FitsSigned, w16, signed_in}
 use Rattle.cell_script.proofs.Common.{signed_decimal}
 use Rattle.line_text.proofs.Numerals.{one_numeral, one_signed_numeral}
@@ -46,12 +46,12 @@ from_digit : (n d : ℕ) (digits : List ℕ) → d < 16 →
 from_digit n d digits below = hex_from-digit n (slice_index lower_digits d) d digits (digit_back d below)
 
 -- bytes after a number, the highest first
-abbrev bytes_behind : ℕ → List ℕ → ℕ
-bytes_behind n [] = n
-bytes_behind n (byte ∷ bytes) = bytes_behind (256 * n + byte) bytes
+abbrev bytes_after : ℕ → List ℕ → ℕ
+bytes_after n [] = n
+bytes_after n (byte ∷ bytes) = bytes_after (256 * n + byte) bytes
 
 from_bytes : (n : ℕ) (bytes : List ℕ) → IsBytes bytes →
-    hex_from n (encode_lower bytes) ≡ Some (bytes_behind n bytes)
+    hex_from n (encode_lower bytes) ≡ Some (bytes_after n bytes)
 unfolding encode_with
 from_bytes n [] are = hex_from-none n
 from_bytes n (byte ∷ bytes) are =
@@ -71,7 +71,7 @@ serial_value a b c d n is = omega (arith, is)
 pub serial_back : (n : ℕ) → n < 2 ^ 32 → serial_number_in (serial_digits n) ≡ Some n
 unfolding serial_number_in serial_digits
 serial_back n small =
-    let value : bytes_behind 0 (to_be_bytes w32 n) ≡ n =
+    let value : bytes_after 0 (to_be_bytes w32 n) ≡ n =
     serial_value (byte_at 3 n) (byte_at 2 n) (byte_at 1 n) (byte_at 0 n) n
     (from_be_bytes-to_be_bytes_4 n small) in
     cond-true _ _ _ (eq-eqb (length (serial_digits n)) 8 (serial_long n))
@@ -104,7 +104,7 @@ pub state_back : (n : ℕ) → IsState n → state_in (state_digits n) ≡ Some 
 unfolding state_in
 state_back n is =
     let last = byte_at 5 n % 16 in
-    let value : bytes_behind (16 * 0 + last) (bytes_high_first 5 n) ≡ n =
+    let value : bytes_after (16 * 0 + last) (bytes_high_first 5 n) ≡ n =
     state_value (byte_at 7 n) (byte_at 6 n) (byte_at 5 n) (byte_at 4 n) (byte_at 3 n)
     (byte_at 2 n) (byte_at 1 n) (byte_at 0 n) n
     (from_be_bytes-to_be_bytes_8 n (omega (arith, is.1))) is.1 in
@@ -221,8 +221,8 @@ bits_back bits few =
 -- ---- power control bits
 
 digits_back : (before bits : List Bool) →
-    digits_behind before (digits_of bits) ≡ Some (before ++ bits)
-unfolding digits_behind digits_of
+    digits_after before (digits_of bits) ≡ Some (before ++ bits)
+unfolding digits_after digits_of
 digits_back before [] = ap Some (sym (append-nil before))
 digits_back before (true ∷ bits) =
     digits_back (before ++ true ∷ []) bits ∙ ap Some (append_assoc before (true ∷ []) bits)

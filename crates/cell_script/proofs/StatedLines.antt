@@ -24,23 +24,23 @@ line_text text =
 -- from a draft and a text on, the lines state what those after the text state from the next draft
 -- on
 pub record Leads (draft : Draft) (text : List ℕ) (next : Draft) : Type 0 where
-  pub on : (n : ℕ) (behind : List ℕ) →
-      (m : ℕ) × (stated draft n (lines (text ++ behind)) ≡ stated next m (lines behind))
+  pub on : (n : ℕ) (following : List ℕ) →
+      (m : ℕ) × (stated draft n (lines (text ++ following)) ≡ stated next m (lines following))
 
 -- one line
 pub one_leads : (draft next : Draft) (text : List ℕ) (statement : Statement) →
     are_within 32 126 text ≡ true → statement_in text ≡ Some statement →
     with_next draft statement ≡ Some next → Leads draft (with_line_feed text) next
-one_leads draft next text statement are is behind_it =
+one_leads draft next text statement are is after_it =
     let line = is_line-within text are in
     let after : draft_after draft (with_line_feed text) ≡ Some next =
     draft_after-line draft (with_line_feed text) line ∙ ap (with_line draft) (line_text text)
-    ∙ with_line-of draft text statement is ∙ behind_it in
+    ∙ with_line-of draft text statement is ∙ after_it in
     record {
-      on = λ n behind. (
+      on = λ n following. (
         n + 1,
-        ap (stated draft n) (lines-append (with_line_feed text) behind line)
-            ∙ stated-next draft next n (with_line_feed text) (lines behind) after,
+        ap (stated draft n) (lines-append (with_line_feed text) following line)
+            ∙ stated-next draft next n (with_line_feed text) (lines following) after,
       );
     }
 
@@ -49,18 +49,18 @@ pub both_lead : (draft middle next : Draft) (first second : List ℕ) → Leads 
     Leads middle second next → Leads draft (first ++ second) next
 both_lead draft middle next first second one two =
     record {
-      on = λ n behind.
-          let a = one.on n (second ++ behind) in
-          let b = two.on a.0 behind in (
+      on = λ n following.
+          let a = one.on n (second ++ following) in
+          let b = two.on a.0 following in (
             b.0,
-            ap (λ (t : List ℕ). stated draft n (lines t)) (append_assoc first second behind)
+            ap (λ (t : List ℕ). stated draft n (lines t)) (append_assoc first second following)
                 ∙ a.1 ∙ b.1,
           );
     }
 
 -- no lines
 pub none_leads : (draft : Draft) → Leads draft [] draft
-none_leads draft = record { on = λ n behind. (n, refl) }
+none_leads draft = record { on = λ n following. (n, refl) }
 
 -- a text that leads to a whole plan states it
 pub leads_to_plan : (text : List ℕ) (draft : Draft) (plan : CellPlan) →

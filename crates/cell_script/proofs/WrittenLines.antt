@@ -38,18 +38,18 @@ pub channel_written : {A : Type 0} (told : A → List Statement) (items : List A
     new ≡ start ++ lines_of (flat_map told (take (k + 1) items))
 channel_written told items k item first more start old middle new inside item_is told_is old_is
     middle_is new_is =
-    let behind = flat_map told (take k items) in
+    let following = flat_map told (take k items) in
     let both : new ≡ old ++ lines_of (told item) =
     new_is
     ∙ ap (λ (t : List ℕ). t ++ lines_of more) middle_is
     ∙ append_assoc old (statement_line first) (lines_of more)
     ∙ ap (λ (ss : List Statement). old ++ lines_of ss) (sym told_is) in
-    let all : flat_map told (take (k + 1) items) ≡ behind ++ told item =
+    let all : flat_map told (take (k + 1) items) ≡ following ++ told item =
     ap (flat_map told) (take_more items k item inside)
     ∙ flat_map-append told (take k items) (get_or items k item ∷ [])
-    ∙ ap (λ (ss : List Statement). behind ++ ss)
+    ∙ ap (λ (ss : List Statement). following ++ ss)
     (append-nil (told (get_or items k item)) ∙ ap told (sym item_is)) in
-    lines_after behind (told item) start old new old_is both
+    lines_after following (told item) start old new old_is both
     ∙ ap (λ (ss : List Statement). start ++ lines_of ss) (sym all)
 
 -- all items

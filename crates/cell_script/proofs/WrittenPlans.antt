@@ -5,7 +5,7 @@ use Rattle.cell_script.proofs.Common.{cond_some, same_Some, Rate, R9600, R4800, 
 use Rattle.cell_script.proofs.Common.{TrafficFrame, PagingLine, TrafficLine, Statement, Stage, Cell, Link, Pilot, Sync, Paging, FirstPage}
 use Rattle.cell_script.proofs.Common.{Pages, Traffic, FirstFrame, Frames, Draft, draft_at, empty_draft, plan_at, with_line, with_next}
 use Rattle.cell_script.proofs.Common.{with_page, with_statement, on_last, opened_paging, opened_traffic, draft_after, is_line, lines}
-use Rattle.cell_script.proofs.Common.{stated, stated_plan, statement_in, behind_sync, count_behind, is_complete, is_cycle, may_follow}
+use Rattle.cell_script.proofs.Common.{stated, stated_plan, statement_in, stage_after_sync, count_after, is_complete, is_cycle, may_follow}
 use Rattle.cell_script.proofs.Common.{next_stage, page_stage, ◌&&◌, line_of_paging, line_of_traffic, lines_of, paging_statements}
 use Rattle.cell_script.proofs.Common.{statement_line, statement_text, statements_of, sync_statements, traffic_statements, script_of}
 use Rattle.cell_script.proofs.Common.{one_frame_more, one_page_more, with_frame, sent_paging_rate, HasSaid, IsLawfulStatement}
@@ -128,8 +128,8 @@ next_told : (stage next : Stage) (plan : CellPlan) (said : List Statement) →
 next_told stage next plan said e told =
     subst (λ (s : Stage). said ≡ said_at s plan) (same_Some stage next e) told
 
-behind_told : (sync : SyncPlan) (plan : CellPlan) → statements_of plan ≡ said_at (behind_sync sync) plan
-behind_told sync plan =
+after_told : (sync : SyncPlan) (plan : CellPlan) → statements_of plan ≡ said_at (stage_after_sync sync) plan
+after_told sync plan =
     let told = λ (s : Stage). statements_of plan ≡ said_at s plan in
     cond_both (sync.message.prat == 0) (Paging R9600) (cond (sync.message.prat == 1) (Paging R4800) Traffic)
     told (λ full. refl)
@@ -186,9 +186,9 @@ page_staged : (rate : Rate) (count : ℕ) (next : Stage) (plan : CellPlan) (page
     page_stage rate count page ≡ Some next → statements_of plan ≡ said_at next plan
 unfolding page_stage
 page_staged rate count next plan page e =
-    let behind = count_behind rate count page in
-    let is = cond_some (may_follow rate count page.follows && is_cycle rate behind)
-    (Pages rate behind) next e in
+    let following = count_after rate count page in
+    let is = cond_some (may_follow rate count page.follows && is_cycle rate following)
+    (Pages rate following) next e in
     subst (λ (s : Stage). statements_of plan ≡ said_at s plan) is.1 refl
 
 -- the statements after one more
@@ -210,7 +210,7 @@ said_more (statements.Pilot pilot) Pilot next plan has e =
     (sym (nothing_sent plan.sync plan.paging plan.traffic has.1 has.0.0 has.0.1)))
 said_more (statements.Sync sync) Sync next plan has e =
     let now : CellPlan = record plan { sync = Some sync } in
-    next_told (behind_sync sync) next now _ e (sync_told plan sync has ∙ behind_told sync now)
+    next_told (stage_after_sync sync) next now _ e (sync_told plan sync has ∙ after_told sync now)
 said_more (statements.Paging line) stage next plan has e =
     let told = paging_next stage next plan has e in
     next_told (FirstPage (sent_paging_rate plan.sync)) next (with_channel plan line) _ told.2
@@ -248,16 +248,16 @@ made_next : (draft next : Draft) (said : List Statement) (statement : Statement)
     IsMade next (said ++ statement ∷ [])
 made_next draft next said statement None made lawful is e after same = absurd (cc same)
 made_next draft next said statement (Some stage) made lawful is e after same =
-    let behind : Draft = draft_at (with_statement draft.plan statement) stage in
-    let same_draft : behind ≡ next = same_Some behind next same in
+    let following : Draft = draft_at (with_statement draft.plan statement) stage in
+    let same_draft : following ≡ next = same_Some following next same in
     subst (λ (d : Draft). IsMade d (said ++ statement ∷ [])) same_draft
     (record {
       reached = added draft.stage stage draft.plan statement lawful made.reached after;
       told = ap (λ (ss : List Statement). ss ++ statement ∷ []) made.told
           ∙ said_more statement draft.stage stage draft.plan made.reached.channels after;
-      leads = subst (λ (t : List ℕ). Leads empty_draft t behind) (sym (line_added said statement))
-          (both_lead empty_draft draft behind (lines_of said) (statement_line statement) made.leads
-          (statement_leads draft behind statement is
+      leads = subst (λ (t : List ℕ). Leads empty_draft t following) (sym (line_added said statement))
+          (both_lead empty_draft draft following (lines_of said) (statement_line statement) made.leads
+          (statement_leads draft following statement is
           (e ∙ ap (λ (d : Draft). Some d) (sym same_draft))));
     })
 

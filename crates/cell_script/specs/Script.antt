@@ -76,10 +76,10 @@ is_used row [] = false
 is_used row (l ∷ ls) = if l.row == row then true else is_used row ls
 
 -- the first row that one of the channels before has
-abbrev pub repeated_behind : List ChannelLine → List ChannelLine → Option ℕ
-repeated_behind before [] = None
-repeated_behind before (l ∷ ls) =
-    if is_used l.row before then Some l.row else repeated_behind (before ++ l ∷ []) ls
+abbrev pub repeated_after : List ChannelLine → List ChannelLine → Option ℕ
+repeated_after before [] = None
+repeated_after before (l ∷ ls) =
+    if is_used l.row before then Some l.row else repeated_after (before ++ l ∷ []) ls
 
 -- the pilot and the sync channel, whose rows are 0 and 32
 abbrev pub first_channels : List ChannelLine
@@ -87,7 +87,7 @@ first_channels = channel 0 1 ∷ channel 32 1 ∷ []
 
 -- the first row that the pilot, the sync channel, or one of the channels before has
 abbrev pub repeated : List ChannelLine → Option ℕ
-repeated ls = repeated_behind first_channels ls
+repeated ls = repeated_after first_channels ls
 
 -- the row of the first channel whose gain is 0
 abbrev pub silent : List ChannelLine → Option ℕ

@@ -153,8 +153,8 @@ sync_fields network local freq rest = record {
 }
 
 -- what the line says by its gain, its numbers and the text after them
-unfoldable pub sync_behind : ℕ → List ℕ → List ℕ → List ℕ → Option SyncPlan
-sync_behind gain network local text0 =
+unfoldable pub sync_after : ℕ → List ℕ → List ℕ → List ℕ → Option SyncPlan
+sync_after gain network local text0 =
     let text1 = past_freq text0 in
     let text2 = past (codes " rest=") text1 in
     do
@@ -171,7 +171,7 @@ sync_in text0 =
       gain ← script_field gain_row.key (reader_of gain_row.form) text0
       network ← numbers_in network_rows text1
       local ← numbers_in local_rows text2
-      sync_behind gain network local (past_numbers local_rows text2)
+      sync_after gain network local (past_numbers local_rows text2)
 
 -- `paging channel=C gain=G`: C isn't 0
 abbrev pub paging_statement : LineForm PagingLine

@@ -17,15 +17,15 @@ use Rattle.cell_script.specs.declared.stage.Stage.TheVariants.{FirstPage, Pages,
 use Rattle.cell_script.specs.declared.stage.Stage.TheVariants.{FirstFrame, Frames}
 use Rattle.cell_script.specs.declared.statements.Statement.{Statement}
 use Rattle.cell_script.specs.declared.statements.Statement.TheVariants as statements
-use Rattle.cell_plan.specs.Pages.{half_frame_bits, laid_behind}
+use Rattle.cell_plan.specs.Pages.{half_frame_bits, laid_after}
 
 -- ---- pages (TIA/EIA-95-B, 7.7.2.1)
 
 -- the body bits of a cycle after one more page, whose capsule has 8 bits of length and a check of
 -- 30 bits
-abbrev pub count_behind : Rate → ℕ → Page → ℕ
-count_behind rate count page =
-    laid_behind (half_frame_body rate) count page.follows (38 + length page.body)
+abbrev pub count_after : Rate → ℕ → Page → ℕ
+count_after rate count page =
+    laid_after (half_frame_body rate) count page.follows (38 + length page.body)
 
 -- A capsule follows another one at once where 8 body bits of the half-frame are left.
 abbrev pub may_follow : Rate → ℕ → Bool → Bool
@@ -38,8 +38,8 @@ is_cycle rate count = nat_le (half_frame_bits (half_frame_body rate) count) 8192
 
 unfoldable pub page_stage : Rate → ℕ → Page → Option Stage
 page_stage rate count page =
-    if may_follow rate count page.follows && is_cycle rate (count_behind rate count page)
-    then Some (Pages rate (count_behind rate count page)) else None
+    if may_follow rate count page.follows && is_cycle rate (count_after rate count page)
+    then Some (Pages rate (count_after rate count page)) else None
 
 -- ---- what may stand after each kind of statement
 
@@ -57,13 +57,13 @@ after_pilot _ = None
 
 -- traffic channels, and before them paging channels of 9600 or 4800 bits per second, as PRAT says
 -- (7.7.1.3)
-abbrev pub behind_sync : SyncPlan → Stage
-behind_sync sync =
+abbrev pub stage_after_sync : SyncPlan → Stage
+stage_after_sync sync =
     if sync.message.prat == 0 then Paging R9600
     else (if sync.message.prat == 1 then Paging R4800 else Traffic)
 
 abbrev pub after_sync : Stage → SyncPlan → Option Stage
-after_sync Sync sync = Some (behind_sync sync)
+after_sync Sync sync = Some (stage_after_sync sync)
 after_sync _ sync = None
 
 abbrev pub after_paging : Stage → Option Stage

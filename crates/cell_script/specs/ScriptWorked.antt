@@ -18,14 +18,14 @@ use Rattle.cell_plan.specs.declared.plan.PagingPlan.{PagingPlan}
 use Rattle.cell_plan.specs.declared.plan.TrafficPlan.{TrafficPlan}
 use Rattle.cell_script.specs.declared.script_fault.ScriptFault.TheVariants.{Line, TooLoud, TooLong}
 use Rattle.chip_core.specs.Decimals.{digits_from}
-use Rattle.line_text.specs.StatedValues.{bits_in_text, power_bits_in, digits_behind, hex_bits}
+use Rattle.line_text.specs.StatedValues.{bits_in_text, power_bits_in, digits_after, hex_bits}
 use Rattle.line_text.specs.StatedValues.{hex_from, length_before, number_up_to, serial_number_in}
 use Rattle.line_text.specs.StatedValues.{signed_in, state_in}
 use Rattle.cell_script.specs.Rows.{numbers_in, past_numbers}
 use Rattle.cell_script.specs.ScriptFields.{script_field, past}
 use Rattle.cell_script.specs.ScriptDrafts.{with_line, with_next}
 use Rattle.cell_script.specs.ScriptLines.{cell_in, freq_in, link_in, stated_page_in, paging_in}
-use Rattle.cell_script.specs.ScriptLines.{past_freq, pilot_in, statement_in, sync_behind}
+use Rattle.cell_script.specs.ScriptLines.{past_freq, pilot_in, statement_in, sync_after}
 use Rattle.cell_script.specs.ScriptLines.{traffic_frame_in, sync_in, traffic_in}
 use Rattle.cell_script.specs.ScriptStages.{page_stage}
 use Rattle.cell_script.specs.Script.{is_line, lines, plan_named, draft_after, stated, stated_plan}
@@ -45,10 +45,10 @@ paging_script link =
 
 -- one with a traffic channel of rate set 2, and these lines after its frame
 traffic_script : List ℕ → List ℕ
-traffic_script behind =
+traffic_script following =
     script (codes "re=0 im=-3 start=0 samples=1228800")
     ++ codes "traffic row=10 esn=0000abcd offset=0 gain=40" ++ 10
-    ∷ codes "frame2 1800 22:5a5a58 0101010101010101" ++ 10 ∷ behind
+    ∷ codes "frame2 1800 22:5a5a58 0101010101010101" ++ 10 ∷ following
 
 plan : List PagingPlan → CellPlan
 plan paging = record {
@@ -96,7 +96,7 @@ by_link : map (λ link. plan_named Sixteen (script link))
     ≡ Ok (plan []) ∷ Err (TooLoud 4260100) ∷ Err (TooLong 33554433) ∷ Err (Line 2) ∷ Err (Line 2)
     ∷ Err (Line 2) ∷ []
 unfolding script plan plan_named stated_plan stated draft_after lines is_line with_line with_next
-    statement_in cell_in link_in pilot_in sync_in sync_behind freq_in past_freq numbers_in
+    statement_in cell_in link_in pilot_in sync_in sync_after freq_in past_freq numbers_in
     past_numbers script_field past length_before number_up_to digits_from signed_in state_in
     hex_from bits_in_text hex_bits decode_pairs binary
 by_link = refl
@@ -107,19 +107,19 @@ paged : map (λ link. plan_named Sixteen (paging_script link))
     ∷ [])
     ≡ Ok (plan (paging_plan ∷ [])) ∷ Err (TooLoud 6226300) ∷ []
 unfolding paging_script script plan paging_plan page plan_named stated_plan stated draft_after lines
-    is_line with_line with_next statement_in cell_in link_in pilot_in sync_in sync_behind freq_in
+    is_line with_line with_next statement_in cell_in link_in pilot_in sync_in sync_after freq_in
     past_freq paging_in stated_page_in numbers_in past_numbers script_field past length_before
     number_up_to digits_from signed_in state_in hex_from bits_in_text hex_bits decode_pairs binary
     is_body admits page_stage bits_left fill
 paged = refl
 
 -- a frame of rate set 2 alone, and with one of rate set 1 after it
-of_rate_set_two : map (λ behind. plan_named Sixteen (traffic_script behind))
+of_rate_set_two : map (λ following. plan_named Sixteen (traffic_script following))
     ([] ∷ (codes "frame 1200 16:ffff 0101010101010101" ++ 10 ∷ []) ∷ [])
     ≡ Ok (record (plan []) { traffic = traffic_plan ∷ [] }) ∷ Err (Line 7) ∷ []
 unfolding traffic_script script plan traffic_plan plan_named stated_plan stated draft_after lines
-    is_line with_line with_next statement_in cell_in link_in pilot_in sync_in sync_behind freq_in
+    is_line with_line with_next statement_in cell_in link_in pilot_in sync_in sync_after freq_in
     past_freq traffic_in traffic_frame_in numbers_in past_numbers script_field past
     length_before number_up_to digits_from signed_in state_in serial_number_in hex_from bits_in_text
-    hex_bits decode_pairs power_bits_in digits_behind binary
+    hex_bits decode_pairs power_bits_in digits_after binary
 of_rate_set_two = refl

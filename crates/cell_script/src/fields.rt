@@ -74,7 +74,7 @@ impl<'a> Fields<'a> {
     pub(crate) fn begin_with(&self, row: FieldRow) -> bool
         ensures { result ≡ begins_with self.now (key_of row.entry.0.now) }
     {
-        behind_name(self.text, row.0).is_some()
+        after_name(self.text, row.0).is_some()
     }
 
     /// The number of this field of a message, of at most as many bits as it has there.
@@ -86,7 +86,7 @@ impl<'a> Fields<'a> {
         ensures range { IfSome result (λ n. n < 2 ^ row.entry.1) }
         ensures rest { OnSome result (self.new ≡ past (key_of row.entry.0.now) self.old) }
     {
-        let text = behind_name(self.text, row.0)?;
+        let text = after_name(self.text, row.0)?;
         number_up_to(self.value_from(text), (1 << row.1) - 1)
     }
 
@@ -162,8 +162,8 @@ pub(crate) fn unsigned_line(text: &[u8], rows: &[StatementField]) -> Option<Line
 }
 
 /// What stands after ` name=`, with which a text begins.
-#[tactic(auto, using(crate::proofs::ScriptKeys::key_told, crate::proofs::ScriptKeys::key_behind))]
-fn behind_name<'a>(text: &'a [u8], name: &str) -> Option<&'a [u8]>
+#[tactic(auto, using(crate::proofs::ScriptKeys::key_told, crate::proofs::ScriptKeys::key_after))]
+fn after_name<'a>(text: &'a [u8], name: &str) -> Option<&'a [u8]>
     ensures { MatchOption result (begins_with text.now (key_of name.now) ≡ false)
         (λ rest. (begins_with text.now (key_of name.now) ≡ true)
         × (rest.now ≡ drop (length (key_of name.now)) text.now)) }

@@ -3,7 +3,7 @@
 ghost use Rattle.std.specs.Prelude.{◌≡◌, ◌<◌, ◌≤◌, true};
 ghost use Rattle.paging_message.specs.HalfFrames.{bits_left, half_frame_body};
 ghost use Rattle.paging_message.specs.Laying.{fill};
-ghost use Rattle.cell_script.specs.ScriptStages.{behind_sync, count_behind, frames_stage};
+ghost use Rattle.cell_script.specs.ScriptStages.{stage_after_sync, count_after, frames_stage};
 ghost use Rattle.cell_script.specs.ScriptStages.{is_complete, is_cycle, may_follow, next_stage};
 ghost use Rattle.cell_script.specs.ScriptStages.{page_stage};
 
@@ -80,8 +80,8 @@ fn bits_left(size: u32, count: u16) -> u32
 
 /// How many body bits a cycle has after one more page. It begins with a half-frame unless it
 /// follows at once.
-fn count_behind(rate: Rate, count: u16, page: &Page) -> u32
-    ensures value { result ≡ count_behind rate count page.now }
+fn count_after(rate: Rate, count: u16, page: &Page) -> u32
+    ensures value { result ≡ count_after rate count page.now }
     ensures most { result ≤ 70000 }
 {
     let capsule = CAPSULE_BITS + u32::from(page.body.len());
@@ -114,26 +114,26 @@ fn is_cycle(rate: Rate, count: u32) -> bool
 
 /// The stage after a page that stands after so many body bits of its cycle.
 #[tactic(auto, unfolding(crate::specs::ScriptStages::page_stage))]
-fn pages_behind(rate: Rate, count: u16, page: &Page) -> Option<Stage>
+fn stage_after_page(rate: Rate, count: u16, page: &Page) -> Option<Stage>
     ensures { result ≡ page_stage rate count page.now }
 {
     if !may_follow(rate, count, page.follows) {
         return None;
     }
-    let behind = count_behind(rate, count, page);
-    if !is_cycle(rate, behind) {
+    let following = count_after(rate, count, page);
+    if !is_cycle(rate, following) {
         return None;
     }
     Some(Stage::Pages {
         rate,
-        count: behind as u16,
+        count: following as u16,
     })
 }
 
 /// What may stand after a `sync` line: traffic channels, and before them paging channels where its
 /// message says that they have 9600 or 4800 bits per second (TIA/EIA-95-B, 7.7.1.3).
-fn behind_sync(sync: &SyncPlan) -> Stage
-    ensures { result ≡ behind_sync sync.now }
+fn stage_after_sync(sync: &SyncPlan) -> Stage
+    ensures { result ≡ stage_after_sync sync.now }
 {
     match sync.message.prat {
         0 => Stage::Paging(Rate::R9600),
@@ -164,12 +164,12 @@ impl Stage {
             (Stage::Cell, Statement::Cell(_)) => Some(Stage::Link),
             (Stage::Link, Statement::Link(_)) => Some(Stage::Pilot),
             (Stage::Pilot, Statement::Pilot(_)) => Some(Stage::Sync),
-            (Stage::Sync, Statement::Sync(sync)) => Some(behind_sync(sync)),
+            (Stage::Sync, Statement::Sync(sync)) => Some(stage_after_sync(sync)),
             (Stage::Paging(rate) | Stage::Pages { rate, .. }, Statement::Paging(_)) => {
                 Some(Stage::FirstPage(rate))
             }
-            (Stage::FirstPage(rate), Statement::Page(page)) => pages_behind(rate, 0, page),
-            (Stage::Pages { rate, count }, Statement::Page(page)) => pages_behind(
+            (Stage::FirstPage(rate), Statement::Page(page)) => stage_after_page(rate, 0, page),
+            (Stage::Pages { rate, count }, Statement::Page(page)) => stage_after_page(
                 rate, count, page,
             ),
             (Stage::Paging(_) | Stage::Pages { .. } | Stage::Traffic, Statement::Traffic(_)) => {

@@ -7,7 +7,7 @@ ghost use Rattle.cell_script.specs.ScriptLines.{is_link, link_in};
 ghost use Rattle.cell_script.specs.LineForms.{read_as};
 ghost use Rattle.cell_script.specs.ScriptLines.{stated_page_in, page_key, page_statement};
 ghost use Rattle.cell_script.specs.ScriptLines.{paging_in};
-ghost use Rattle.cell_script.specs.ScriptLines.{past_freq, pilot_in, sync_behind, sync_fields};
+ghost use Rattle.cell_script.specs.ScriptLines.{past_freq, pilot_in, sync_after, sync_fields};
 ghost use Rattle.cell_script.specs.ScriptLines.{statement_in, sync_in, lawful_message};
 ghost use Rattle.cell_script.specs.ScriptLines.{traffic_frame_in, frame_key, frame_rate};
 ghost use Rattle.cell_script.specs.ScriptLines.{frame_statement, rate_by, traffic_in};
@@ -207,7 +207,7 @@ fn sync_in(text: &[u8]) -> Option<SyncPlan>
     let gain = fields.unsigned(SYNC_GAIN)?;
     let network = numbers_from(&mut fields, 0)?;
     let local = numbers_from(&mut fields, 7)?;
-    sync_behind(gain as u16, &network, &local, fields)
+    sync_after(gain as u16, &network, &local, fields)
 }
 
 /// Four numbers of a `sync` line that stand side by side in the message's table, in its order.
@@ -229,8 +229,8 @@ fn numbers_from(fields: &mut Fields<'_>, first: usize) -> Option<TableNumbers>
 }
 
 /// What a `sync` line says by its gain, its numbers and the fields after them.
-#[tactic(auto, unfolding(crate::specs::ScriptLines::sync_behind))]
-fn sync_behind(
+#[tactic(auto, unfolding(crate::specs::ScriptLines::sync_after))]
+fn sync_after(
     gain: u16,
     network: &TableNumbers,
     local: &TableNumbers,
@@ -238,7 +238,7 @@ fn sync_behind(
 ) -> Option<SyncPlan>
     requires network { AreUpTo network_rows network.now }
     requires local { AreUpTo local_rows local.now }
-    ensures value { result ≡ sync_behind gain network.now local.now fields.entry }
+    ensures value { result ≡ sync_after gain network.now local.now fields.entry }
     ensures lawful { IfSome result (λ sync. IsSyncMessage sync.message) }
 {
     let freq = freq_in(&mut fields)?;

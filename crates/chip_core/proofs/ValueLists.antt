@@ -28,8 +28,8 @@ pub number_front : (w n : ℕ) (rest : List Bool) → n < 2 ^ w → number_at 0 
 number_front w n rest fits =
     ap number (take_at (binary w n) rest w (length-binary w n)) ∙ number-binary w n fits
 
-pub behind_front : (w n : ℕ) (rest : List Bool) → drop w (binary w n ++ rest) ≡ rest
-behind_front w n rest = drop_at (binary w n) rest w (length-binary w n)
+pub after_front : (w n : ℕ) (rest : List Bool) → drop w (binary w n ++ rest) ≡ rest
+after_front w n rest = drop_at (binary w n) rest w (length-binary w n)
 
 -- MANY FIELDS
 pub length-in_widths : (ws vs : List ℕ) → length ws ≡ length vs →
@@ -85,7 +85,7 @@ values_again (w ∷ ws) (v ∷ vs) rest h fit =
     ap (number_at 0 w) parts ∙ number_front w v (more ++ rest) fit.0 in
     let later : values_at ws (drop w ((binary w v ++ more) ++ rest)) ≡ vs =
     ap (λ (r : List Bool). values_at ws (drop w r)) parts
-    ∙ ap (values_at ws) (behind_front w v (more ++ rest))
+    ∙ ap (values_at ws) (after_front w v (more ++ rest))
     ∙ values_again ws vs rest (omega (arith, h)) fit.1 in
     rw (first, later) refl
 
@@ -101,11 +101,11 @@ values_there (w ∷ ws) bits room =
     let values = values_at ws (drop w bits) in
     let later = spelled (in_widths ws values) in
     let n = number (take w bits) in
-    let behind : drop w bits ≡ later ++ drop (w + total_width ws) bits =
+    let following : drop w bits ≡ later ++ drop (w + total_width ws) bits =
     more.2 ∙ ap (λ (r : List Bool). later ++ r) (dropped (total_width ws) w bits) in (
       ap suc more.0,
       (one.0, more.1),
-      one.1 ∙ ap (λ (r : List Bool). binary w n ++ r) behind
+      one.1 ∙ ap (λ (r : List Bool). binary w n ++ r) following
           ∙ sym (append_assoc (binary w n) later (drop (w + total_width ws) bits)),
     )
 

@@ -34,8 +34,8 @@ pub use Rattle.chip_core.proofs.Repeated.{flat_map-repeated, get_or-repeated, le
 pub use Rattle.paging_message.proofs.Carried.{run_pieces_whole, stream-next}
 pub use Rattle.paging_message.proofs.LaidRuns.{AreChainedRuns, AreSome, first_put_begins, first_puts_chained, first_puts_laid, joined-push}
 pub use Rattle.paging_message.proofs.LaidRuns.{put-begins, put-follows, runs_pieces, runs_put, turned_back, whole_rows}
-pub use Rattle.paging_message.proofs.Pieces.{first_starts, length-run, none_starts, run, run-append, run-push, started_behind}
-pub use Rattle.paging_message.proofs.Runs.{AreChained, ended-before, ended-behind, ended-past, ended_of, ending_at, fills, first_bits_told}
+pub use Rattle.paging_message.proofs.Pieces.{first_starts, length-run, none_starts, run, run-append, run-push, started_after}
+pub use Rattle.paging_message.proofs.Runs.{AreChained, ended-before, ended-after, ended-past, ended_of, ending_at, fills, first_bits_told}
 pub use Rattle.paging_message.proofs.Runs.{joined, later_begins_none, no_width, run_piece, run_pieces, run_scanned, run_width}
 pub use Rattle.paging_message.proofs.Runs.{run_width_some, width}
 pub use Rattle.paging_message.proofs.Scans.{AreWhole, NoneStarts, bits_of, ended_by-append, ended_by_bits, half_frame_ends, length-stream}

@@ -9,7 +9,7 @@ use Rattle.clean_frames.specs.Common.{number_at, PagingMessage, sent_paging_rate
 use Rattle.clean_frames.specs.Common.{PagingPlan, CheckForm, Rate, half_frame_capsule_ending}
 use Rattle.clean_frames.specs.Common.{page_cycle, AreSendable, AreHeard, Page, capsule, cycled}
 use Rattle.clean_frames.specs.Common.{paging_frame_size}
-use Rattle.clean_frames.specs.WholeSendings.{heard_behind}
+use Rattle.clean_frames.specs.WholeSendings.{heard_after}
 
 -- ---- what frames end
 
@@ -133,7 +133,7 @@ message_in body = message_at (number_at 0 8 body) (drop 8 body)
 -- it knows the frame of its last bit
 abbrev pub page_told : CellPlan → ℕ → Placed → KnownPage
 page_told plan half_frames p = record {
-  at = heard_behind data_frame_chips plan.link.samples
+  at = heard_after data_frame_chips plan.link.samples
       (data_frame_chips * ((half_frames + p.last) / 2 + 1) - plan.link.start);
   capsule = capsule M30 plan.cell.check30 p.page.body;
   message = message_in p.page.body;

@@ -8,8 +8,8 @@ use Rattle.clean_frames.specs.Common.{told_superframes}
 -- ---- frames
 
 -- A frame is known at the end of the next one, or where that isn't in the file, at its own.
-abbrev pub heard_behind : ℕ → ℕ → ℕ → ℕ
-heard_behind frame count ends = if nat_le (ends + frame) count then ends + frame else ends
+abbrev pub heard_after : ℕ → ℕ → ℕ → ℕ
+heard_after frame count ends = if nat_le (ends + frame) count then ends + frame else ends
 
 -- which of the cell's sync frames is the first one that begins in the file
 abbrev pub first_sync_frame : CellPlan → ℕ

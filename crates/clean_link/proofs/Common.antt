@@ -59,7 +59,7 @@ pub use Rattle.cell_plan.proofs.SyncFrames.{length-sync_frame_bits}
 pub use Rattle.cell_plan.proofs.TrafficFrames.{one_in_turn, two_in_turn}
 pub use Rattle.cell_plan.specs.PageCycles.{Cycle, cycle_frame_bits, frame_scrambling, paging_frame_size}
 unfoldable pub use Rattle.cell_plan.specs.PageCycles.{cycle_symbols, cycled}
-pub use Rattle.cell_plan.specs.Pages.{AreSendable, laid_behind, sent_paging_rate}
+pub use Rattle.cell_plan.specs.Pages.{AreSendable, laid_after, sent_paging_rate}
 pub use Rattle.cell_plan.specs.Plan.{AreLawfulBeside, IsSyncPlan}
 pub use Rattle.cell_plan.specs.Sendings.{superframes_a_sending, told_superframes}
 unfoldable pub use Rattle.cell_plan.specs.Sendings.{continued_symbols, message_of, sync_frame_bits, sync_symbols}
@@ -74,7 +74,7 @@ pub use Rattle.chip_core.specs.Bits.{common_parity, digit, sign, xor, zip_with}
 pub use Rattle.chip_core.specs.declared.check_form.CheckForm.{CheckForm}
 pub use Rattle.chip_core.specs.declared.sample.Pair.{Pair}
 pub use Rattle.chip_core.specs.declared.width.Width.TheVariants.{Eight, Sixteen}
-pub use Rattle.conv_code.proofs.Continued.{before, behind, length-state_after, pair, state_after-append, state_after-none}
+pub use Rattle.conv_code.proofs.Continued.{before, following, length-state_after, pair, state_after-append, state_after-none}
 pub use Rattle.conv_code.proofs.Pairs.{symbols_at}
 pub use Rattle.conv_code.specs.ConvCode.{code_symbols, g0, g1, state_after, symbol}
 pub use Rattle.frame_decoder.proofs.RateCodewords.{bits_least}
@@ -88,14 +88,14 @@ pub use Rattle.heard_events.proofs.EventPlaces.{AreAt, IsAt, all_at, all_each}
 pub use Rattle.heard_events.proofs.FrameBounds.{AreCloseAll}
 pub use Rattle.heard_events.proofs.LegLists.{map_same}
 pub use Rattle.heard_events.proofs.MarkGrowth.{mark_is}
-pub use Rattle.heard_events.proofs.MarkStays.{OpensBehind, by_one_mark, frames_later, messages_later, opens_followed, pages_from_mark}
+pub use Rattle.heard_events.proofs.MarkStays.{OpensAfter, by_one_mark, frames_later, messages_later, opens_followed, pages_from_mark}
 pub use Rattle.heard_events.proofs.MarkStays.{pilot_alone}
 pub use Rattle.heard_events.proofs.MomentGrowth.{kept_new, kept_old}
 pub use Rattle.heard_events.proofs.TrafficGrowth.{frames_sooner, messages_sooner}
-pub use Rattle.heard_events.specs.Events.{events, told_behind}
+pub use Rattle.heard_events.specs.Events.{events, told_after}
 pub use Rattle.heard_events.specs.Moments.{moment_of}
 pub use Rattle.heard_events.specs.Noted.{all_noted, body_noted, in_traffic_thresholds, noted, noted_with, page_noted, system_thresholds}
-pub use Rattle.heard_events.specs.PagingEvents.{page_event, page_in, pages_behind, as_spelled_page}
+pub use Rattle.heard_events.specs.PagingEvents.{page_event, page_in, pages_if_marked, as_spelled_page}
 pub use Rattle.heard_events.specs.Signaling.{capsule_with, message_events, message_heard, signal_in, signal_of}
 pub use Rattle.heard_events.specs.TrafficEvents.{all_sums, frame_event, frame_heard, if_followed, raw_by, raw_softs, subchannel_sums}
 pub use Rattle.heard_events.specs.TrafficStreams.{frame_state}
@@ -156,7 +156,7 @@ pub use Rattle.clean_link.specs.CleanLaws.{HearsSentSync, ShowsSync, ordered_sym
 pub use Rattle.clean_link.specs.CleanLaws.{CleanSyncHasSigns, SignedPagesComeBack}
 pub use Rattle.clean_link.specs.CleanLink.{IsNoDirection, IsNotDirected, IsOnPath, IsTrueMark, IsTunedToPlan, events_of_channel}
 pub use Rattle.clean_link.specs.CleanLink.{sending_event, tuning_to}
-pub use Rattle.clean_frames.specs.WholeSendings.{first_sync_frame, heard_behind, is_whole, sending_begins, sending_ends, whole_sendings}
+pub use Rattle.clean_frames.specs.WholeSendings.{first_sync_frame, heard_after, is_whole, sending_begins, sending_ends, whole_sendings}
 pub use Rattle.clean_frames.specs.WholeSendings.{told_by_first, told_with_sync}
 unfoldable pub use Rattle.clean_link.specs.CleanLink.{sync_sent}
 pub use Rattle.clean_link.specs.DistinctFrames.{AFullRateFrameIsDistinct, AreDistinctBySharing, AreDistinctBySharing2}
@@ -166,7 +166,7 @@ pub use Rattle.clean_link.specs.DistinctFrames.{symbols_known_of, shows_full_rat
 unfoldable pub use Rattle.clean_link.specs.DistinctFrames.{codewords_giving, stays_apart}
 pub use Rattle.clean_link.specs.DistinctPlan.{HasMark, HasSetOne, HasSetTwo, distinct_bits_of, bits_of2, channel_on, distinct_plan}
 pub use Rattle.clean_link.specs.DistinctPlan.{first_channel, frame2_at, frame_at, on_row, second_channel, told_message}
-pub use Rattle.clean_link.specs.HeardEach.{AreEventsOf, AreFramesBehind, AreMessagesBehind, EachChannelComesBack, FollowsOne, IsEventOf}
+pub use Rattle.clean_link.specs.HeardEach.{AreEventsOf, AreFramesAfter, AreMessagesAfter, EachChannelComesBack, FollowsOne, IsEventOf}
 pub use Rattle.clean_link.specs.HeardEach.{is_frame, is_message, is_page, is_sync}
 pub use Rattle.clean_frames.specs.SentFrames.{codeword_symbols, signals_received, IsDistinctFrame, SendsSymbols, ShowPowerBits}
 pub use Rattle.clean_frames.specs.SentFrames.{received_frames, sent_power_bits, AreDistinct, IsAssigned, SendsSetOne, SendsSetTwo}
@@ -181,12 +181,12 @@ pub use Rattle.clean_link.specs.HeardPages.{PagesComeBack, ReadPage, known_page,
 unfoldable pub use Rattle.clean_frames.specs.WholePages.{pages_sent}
 pub use Rattle.clean_link.specs.ReceivedFrames.{AreReceivedFrom, IsDistinctFrame2, IsReceived, IsReceivedAs, IsSentFrame2}
 pub use Rattle.clean_link.specs.ReceivedFrames.{codeword_symbols2, cycled_frame2}
-pub use Rattle.clean_link.specs.ReceivedLaws.{EachFrameIsReceived, FramesBehindMark, FramesShowPowerBits, FramesShowSymbols}
-pub use Rattle.clean_link.specs.ReceivedLaws.{IsReceivedBySigns, IsSentFrame2BySigns, SetOneSends, SetTwoBehindMark, SetTwoFramesComeBack}
+pub use Rattle.clean_link.specs.ReceivedLaws.{EachFrameIsReceived, FramesAfterMark, FramesShowPowerBits, FramesShowSymbols}
+pub use Rattle.clean_link.specs.ReceivedLaws.{IsReceivedBySigns, IsSentFrame2BySigns, SetOneSends, SetTwoAfterMark, SetTwoFramesComeBack}
 pub use Rattle.clean_link.specs.ReceivedLaws.{SetTwoSends, ReceivedAreTheOnlyBest, SetTwoAreTheOnlyBest, SignedFramesAreReceived}
 pub use Rattle.clean_link.specs.ReceivedLaws.{SignedSetTwoFramesComeBack}
 pub use Rattle.clean_link.specs.SentEvents.{FollowedHaveSigns, FollowsSent, NoEventIsDirected, WholeMessagesComeBack, by_places, is_at}
-pub use Rattle.clean_link.specs.SentEvents.{known_event, pages_after, pages_behind_mark, told_followed}
+pub use Rattle.clean_link.specs.SentEvents.{known_event, pages_after, pages_after_mark, told_followed}
 unfoldable pub use Rattle.clean_link.specs.SentEvents.{frame_events_at, message_events_at, paging_events_at, paging_sent, sent_events}
 unfoldable pub use Rattle.clean_link.specs.SentEvents.{sets_events_at, sets_heard, signaling_sent, traffic_sent}
 pub use Rattle.clean_link.specs.TrafficLaws.{ArePowered, EachFrameIsHeard, HavePowerSigns, HeardAreTheOnlyBest, HearsSentTraffic, IsHeardAs}

@@ -8,7 +8,7 @@ use Rattle.clean_frames.specs.WholeSendings.{told_with_sync}
 use Rattle.clean_link.specs.CleanLink.{sync_sent, IsNotDirected, IsOnPath}
 use Rattle.clean_link.specs.Common.{superframe_chips, CellPlan, PagingPlan, TrafficPlan, Event}
 use Rattle.clean_link.specs.Common.{IsReceivable, Sample, Traffic, Tuning, Width, events, mark}
-use Rattle.clean_link.specs.HeardEach.{is_frame, is_message, is_page, is_sync, AreMessagesBehind}
+use Rattle.clean_link.specs.HeardEach.{is_frame, is_message, is_page, is_sync, AreMessagesAfter}
 use Rattle.clean_link.specs.HeardEach.{FollowsOne, IsEventOf}
 use Rattle.clean_link.specs.SentEvents.{pages_after, sent_events}
 use Rattle.clean_link.specs.SentSigns.{FromMark, HasSyncSigns, MarkIsAt, MarksAreAt}
@@ -49,7 +49,7 @@ pub record HearsBySigns (width : Width) (plan : CellPlan) (samples : List Sample
       AreFramesBySigns plan p samples at (filter is_frame heard)
   pub messages : (p : TrafficPlan) → FollowsOne plan followed p →
       FromMark (TrafficFrameHasSigns plan p samples) at →
-      AreMessagesBehind plan p at (filter is_message heard)
+      AreMessagesAfter plan p at (filter is_message heard)
 
 -- ---- the laws
 

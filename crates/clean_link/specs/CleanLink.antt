@@ -5,7 +5,7 @@ use Rattle.std.specs.Prelude.{Some}
 use Rattle.clean_link.specs.Common.{superframe_chips, after, sync_capsule, SyncFields, IsFreeOf}
 use Rattle.clean_link.specs.Common.{message_of, phase_at, CellPlan, SyncPlan, TrafficBody, Tuning}
 use Rattle.clean_link.specs.Common.{Event, Sync, Mark, Traffic}
-use Rattle.clean_frames.specs.WholeSendings.{heard_behind, sending_ends, whole_sendings}
+use Rattle.clean_frames.specs.WholeSendings.{heard_after, sending_ends, whole_sendings}
 use Rattle.heard_events.specs.declared.event.Event.TheVariants.{Traffic as OnTraffic}
 use Rattle.traffic_message.specs.declared.body.TrafficBody.TheVariants as bodies
 
@@ -59,7 +59,7 @@ pub record IsTunedToPlan (plan : CellPlan) (t : Tuning) : Type 0 where
 abbrev pub sending_event : CellPlan → SyncFields → ℕ → Event
 sending_event plan m sending =
     Sync
-    (heard_behind 32768 plan.link.samples (sending_ends plan m sending - plan.link.start))
+    (heard_after 32768 plan.link.samples (sending_ends plan m sending - plan.link.start))
     (sync_capsule plan.cell.check30 (message_of plan.cell m sending))
     (message_of plan.cell m sending)
 

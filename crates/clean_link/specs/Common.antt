@@ -39,7 +39,7 @@ pub use Rattle.heard_events.specs.FramesAlone.{traffic_channel}
 pub use Rattle.heard_events.specs.Given.{at_of}
 pub use Rattle.heard_events.specs.Marks.{mark}
 pub use Rattle.heard_events.specs.Moments.{frames_at, legs_at, messages_at, sets_at}
-pub use Rattle.heard_events.specs.PagingEvents.{page_event, pages_behind, as_spelled_page}
+pub use Rattle.heard_events.specs.PagingEvents.{page_event, pages_if_marked, as_spelled_page}
 pub use Rattle.heard_events.specs.PagingStreams.{paging_stream}
 pub use Rattle.heard_events.specs.Signaling.{capsule_with, message_events, signal_in}
 pub use Rattle.heard_events.specs.SoftFrames.{raw_at, soft_frame, soft_frames}

@@ -62,17 +62,17 @@ pub record AreEventsOf (plan : CellPlan) (p : TrafficPlan) (superframes : ℕ)
       IsEventOf plan p frame (event frame)
 
 -- and none where no mark is set
-abbrev pub AreFramesBehind : CellPlan → TrafficPlan → Option ℕ → List Event → Type 0
-AreFramesBehind plan p None frames = frames ≡ []
-AreFramesBehind plan p (Some superframes) frames = AreEventsOf plan p superframes frames
+abbrev pub AreFramesAfter : CellPlan → TrafficPlan → Option ℕ → List Event → Type 0
+AreFramesAfter plan p None frames = frames ≡ []
+AreFramesAfter plan p (Some superframes) frames = AreEventsOf plan p superframes frames
 
 -- ---- its messages
 
 -- Where each of these frames is distinct, just the messages that the signaling in them spells, as
 -- they are sent, and none where no mark is set.
-abbrev pub AreMessagesBehind : CellPlan → TrafficPlan → Option ℕ → List Event → Type 0
-AreMessagesBehind plan p None messages = messages ≡ []
-AreMessagesBehind plan p (Some superframes) messages =
+abbrev pub AreMessagesAfter : CellPlan → TrafficPlan → Option ℕ → List Event → Type 0
+AreMessagesAfter plan p None messages = messages ≡ []
+AreMessagesAfter plan p (Some superframes) messages =
     AreDistinct plan p (superframe_chips * superframes) →
     messages ≡ messages_of_channel plan p (superframe_chips * superframes)
 
@@ -99,9 +99,9 @@ pub record HearsEach (plan : CellPlan) (paging : ℕ) (followed : Option Traffic
       filter is_page heard ≡ paging_sent plan paging
   pub free : IsFreeOf plan.traffic paging → filter is_page heard ≡ paging_sent plan paging
   pub frames : (p : TrafficPlan) → FollowsOne plan followed p →
-      AreFramesBehind plan p (told_with_sync plan plan.sync) (filter is_frame heard)
+      AreFramesAfter plan p (told_with_sync plan plan.sync) (filter is_frame heard)
   pub messages : (p : TrafficPlan) → FollowsOne plan followed p →
-      AreMessagesBehind plan p (told_with_sync plan plan.sync) (filter is_message heard)
+      AreMessagesAfter plan p (told_with_sync plan plan.sync) (filter is_message heard)
 
 -- So it is of a handset with one finger on the cell's path, in a file of what the cell sends, where
 -- no handoff is directed.
@@ -124,6 +124,6 @@ pub record HearsBearing (plan : CellPlan) (e paging : ℕ) (followed : Option Tr
   pub pages : (q : PagingPlan) → Contains plan.paging q → q.number ≡ paging →
       Bears plan q.gain e → filter is_page heard ≡ paging_sent plan paging
   pub frames : (p : TrafficPlan) → FollowsOne plan followed p → Bears plan p.gain e →
-      AreFramesBehind plan p (told_with_sync plan plan.sync) (filter is_frame heard)
+      AreFramesAfter plan p (told_with_sync plan plan.sync) (filter is_frame heard)
   pub messages : (p : TrafficPlan) → FollowsOne plan followed p → Bears plan p.gain e →
-      AreMessagesBehind plan p (told_with_sync plan plan.sync) (filter is_message heard)
+      AreMessagesAfter plan p (told_with_sync plan plan.sync) (filter is_message heard)

@@ -4,7 +4,7 @@ use Rattle.std.specs.Prelude.{ℕ, ◌+◌, ◌<◌, ◌≤◌, ◌≡◌, All, 
 use Rattle.std.specs.List.{flat_map}
 use Rattle.clean_link.specs.Common.{places, Sample, Width, sent_paging_rate, IsFreeOf}
 use Rattle.clean_link.specs.Common.{made_samples, IsStatedPaging, IsReceivable, CellPlan, SyncPlan}
-use Rattle.clean_link.specs.Common.{pages_behind, as_spelled_page, Tuning, Mark}
+use Rattle.clean_link.specs.Common.{pages_if_marked, as_spelled_page, Tuning, Mark}
 use Rattle.clean_link.specs.CleanLink.{IsOnPath, IsTrueMark}
 use Rattle.clean_frames.specs.WholePages.{KnownPage, pages_sent}
 
@@ -24,7 +24,7 @@ known_page n page = record { at = n; capsule = page.capsule; message = page.mess
 -- in order
 abbrev pub pages_within : Tuning → ℕ → Option Mark → List Sample → ℕ → List KnownPage
 pages_within t channel m samples n =
-    flat_map (λ i. map (known_page i) (pages_behind t channel m samples i)) (places (n + 1))
+    flat_map (λ i. map (known_page i) (pages_if_marked t channel m samples i)) (places (n + 1))
 
 -- ---- the law
 

@@ -143,9 +143,9 @@ SignedSetTwoFramesComeBack = (plan : CellPlan) (p : TrafficPlan) (frame : ℕ) (
 
 -- What holds of the frames that are received from the cell's mark on, in a file as long as the
 -- cell's.
-abbrev pub HoldsBehindMark : (CellPlan → TrafficPlan → Option ℕ → List Sample → List SoftFrame →
+abbrev pub HoldsAfterMark : (CellPlan → TrafficPlan → Option ℕ → List Sample → List SoftFrame →
     Type 0) → Type 0
-HoldsBehindMark P = (width : Width) (plan : CellPlan) (p : TrafficPlan) (t : Tuning)
+HoldsAfterMark P = (width : Width) (plan : CellPlan) (p : TrafficPlan) (t : Tuning)
     (traffic : Traffic) (m : Mark) (at : Option ℕ) (samples : List Sample) →
     IsReceivable width plan → length samples ≡ plan.link.samples → IsOnPath plan t →
     Contains plan.traffic p → IsAssigned p traffic → MarkIsAt plan (Some m) at →
@@ -153,8 +153,8 @@ HoldsBehindMark P = (width : Width) (plan : CellPlan) (p : TrafficPlan) (t : Tun
 
 -- They are only the channel's frames that begin there or later and lie in the file, in order, and
 -- each with the sent signs shows what it sends.
-abbrev pub FramesBehindMark : Type 0
-FramesBehindMark = HoldsBehindMark (λ plan p at samples frames.
+abbrev pub FramesAfterMark : Type 0
+FramesAfterMark = HoldsAfterMark (λ plan p at samples frames.
     AreReceivedFrom plan p at
     (λ frame soft. TrafficFrameHasSigns plan p samples frame → (symbols power_bits : List Bool) →
     SendsSymbols plan p frame symbols power_bits →
@@ -163,8 +163,8 @@ FramesBehindMark = HoldsBehindMark (λ plan p at samples frames.
 -- If the channel's frames are of rate set 2, each with the sent signs is one that was sent, with
 -- its power control bits, and if it is distinct, with its rate and its information bits, as a good
 -- frame.
-abbrev pub SetTwoBehindMark : Type 0
-SetTwoBehindMark = HoldsBehindMark (λ plan p at samples frames. SendsSetTwo p →
+abbrev pub SetTwoAfterMark : Type 0
+SetTwoAfterMark = HoldsAfterMark (λ plan p at samples frames. SendsSetTwo p →
     AreReceivedFrom plan p at
     (λ frame soft. TrafficFrameHasSigns plan p samples frame → (f : SetTwoFrame)
     × (cycled_frame2 (frames_of plan p) frame ≡ f ∷ [])

@@ -5,7 +5,7 @@ use Rattle.std.specs.List.{Contains, flat_map}
 use Rattle.clean_link.specs.Common.{superframe_chips, places, Width, made_samples, phase_at}
 use Rattle.clean_link.specs.Common.{CellPlan, SyncPlan, TrafficPlan, events, at_of, Tuning, Event}
 use Rattle.clean_link.specs.Common.{Paging, Pilot, Traffic, IsReceivable, Sample, mark, frames_at}
-use Rattle.clean_link.specs.Common.{messages_at, sets_at, page_event, pages_behind, if_followed}
+use Rattle.clean_link.specs.Common.{messages_at, sets_at, page_event, pages_if_marked, if_followed}
 use Rattle.clean_link.specs.CleanLink.{sync_sent, IsNotDirected, IsOnPath, IsTunedToPlan, tuning_to}
 use Rattle.clean_frames.specs.WholeSendings.{told_with_sync}
 use Rattle.clean_link.specs.HeardFrames.{frames_sent, messages_sent}
@@ -16,7 +16,7 @@ use Rattle.clean_frames.specs.WholePages.{KnownPage, pages_sent}
 -- those of the paging channel that end when just n samples have been taken
 unfoldable pub paging_events_at : Tuning → List Sample → ℕ → List Event
 paging_events_at t samples n =
-    map (page_event n) (pages_behind t t.paging (mark t samples n) samples n)
+    map (page_event n) (pages_if_marked t t.paging (mark t samples n) samples n)
 
 -- those of the traffic channel's frames
 unfoldable pub frame_events_at : Tuning → List Sample → ℕ → List Event
@@ -40,16 +40,16 @@ abbrev pub known_event : KnownPage → Event
 known_event page = Paging page.at page.capsule page.message
 
 -- what it tells of the whole pages of a channel after the mark, where one is set
-abbrev pub pages_behind_mark : CellPlan → ℕ → Option ℕ → List Event
-pages_behind_mark plan channel None = []
-pages_behind_mark plan channel (Some superframes) =
+abbrev pub pages_after_mark : CellPlan → ℕ → Option ℕ → List Event
+pages_after_mark plan channel None = []
+pages_after_mark plan channel (Some superframes) =
     map known_event (pages_sent plan channel (superframe_chips * superframes))
 
 -- with the values 2 and 3 of PRAT no paging channel is heard
 abbrev pub pages_after : CellPlan → ℕ → Option ℕ → Option SyncPlan → List Event
 pages_after plan channel at None = []
 pages_after plan channel at (Some sync) =
-    if nat_lt sync.message.prat 2 then pages_behind_mark plan channel at else []
+    if nat_lt sync.message.prat 2 then pages_after_mark plan channel at else []
 
 unfoldable pub paging_sent : CellPlan → ℕ → List Event
 paging_sent plan channel = pages_after plan channel (told_with_sync plan plan.sync) plan.sync

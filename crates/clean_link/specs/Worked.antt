@@ -3,7 +3,7 @@ use Rattle.std.specs.Prelude.{◌≡◌, refl, ℕ, ◌-◌, List, [], ◌∷◌
 use Rattle.clean_link.specs.Common.{Plain, capsule, check_bits, binary, places, Data, sync_body}
 use Rattle.clean_link.specs.Common.{spelling, sync_capsule, CellPlan, some_sync}
 use Rattle.rake_finger.specs.declared.form.Form.TheVariants.{Sync}
-use Rattle.clean_frames.specs.WholeSendings.{first_sync_frame, heard_behind, sending_ends}
+use Rattle.clean_frames.specs.WholeSendings.{first_sync_frame, heard_after, sending_ends}
 use Rattle.clean_frames.specs.WholeSendings.{whole_sendings}
 use Rattle.clean_signal.specs.Signals.{soft_strength}
 use Rattle.clean_link.specs.DistinctPlan.{told_message}
@@ -18,7 +18,7 @@ cell start samples =
 -- when the whole transmissions have been heard
 heard : CellPlan → List ℕ
 heard plan =
-    map (λ q. heard_behind 32768 plan.link.samples
+    map (λ q. heard_after 32768 plan.link.samples
     (sending_ends plan told_message q - plan.link.start))
     (whole_sendings plan told_message)
 

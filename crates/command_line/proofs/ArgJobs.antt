@@ -1,7 +1,7 @@
 -- Lemmas on the jobs of the commands.
 use Rattle.command_line.proofs.Common.{◌≡◌, ◌≤◌, ◌↔◌, List, [], ◌∷◌, true, false, refl, sym, ap, ap₂, ◌∙◌, arith, rules, Result, Ok, Err}
 use Rattle.command_line.proofs.Common.{IfOk, ok_or, length, map, string_bytes, String, Global, Option, None, Some, is_some, option_and_then}
-use Rattle.command_line.proofs.Common.{Job, WordFault, Bad, CommandEntry, Given, OptionEntry, Text, given_behind, job_behind, job_by}
+use Rattle.command_line.proofs.Common.{Job, WordFault, Bad, CommandEntry, Given, OptionEntry, Text, given_after, job_after, job_by}
 use Rattle.command_line.proofs.Common.{job_in, job_named, job_with, number_by, numbers_by, text_in, option_text}
 use Rattle.command_line.proofs.ArgTexts.{texts_given}
 
@@ -13,7 +13,7 @@ given_of (Some given) e = (given, refl)
 
 -- the arguments are in the grammar
 abbrev pub AreLawful : CommandEntry → List Text → Type 0
-AreLawful entry args = is_some (given_behind entry.options (Some []) args) ≡ true
+AreLawful entry args = is_some (given_after entry.options (Some []) args) ≡ true
 
 numbers_same : (entries : List OptionEntry) (one other : Text → Option Text) →
     ((name : Text) → one name ≡ other name) → numbers_by entries one ≡ numbers_by entries other
@@ -24,11 +24,11 @@ numbers_same (entry ∷ entries) one other same =
 -- texts that are those that the arguments give make the job of the arguments
 pub job_found : (entry : CommandEntry) (args : List Text) (found : Text → Option Text) →
     AreLawful entry args →
-    ((given : Given) → given_behind entry.options (Some []) args ≡ Some given →
+    ((given : Given) → given_after entry.options (Some []) args ≡ Some given →
     (name : Text) → found name ≡ option_text name given) → job_with entry found ≡ job_by entry args
 unfolding job_by
 job_found entry args found lawful finds =
-    let g = given_of (given_behind entry.options (Some []) args) lawful in
+    let g = given_of (given_after entry.options (Some []) args) lawful in
     ap entry.job (numbers_same entry.options found (λ name. option_text name g.0) (finds g.0 g.1))
     ∙ sym (ap (option_and_then (λ given. job_with entry (λ name. option_text name given))) g.1)
 
@@ -39,9 +39,9 @@ job_read entry args lawful =
     (λ given is name. texts_given entry.options args given name is)
 
 pub job_none : (entry : CommandEntry) (args : List Text) →
-    is_some (given_behind entry.options (Some []) args) ≡ false → job_by entry args ≡ None
+    is_some (given_after entry.options (Some []) args) ≡ false → job_by entry args ≡ None
 unfolding job_by
-job_none entry args e = go (given_behind entry.options (Some []) args) e
+job_none entry args e = go (given_after entry.options (Some []) args) e
   where
     go : (g : Option Given) → is_some g ≡ false →
         option_and_then (λ given. job_with entry (λ name. option_text name given)) g ≡ None
@@ -57,7 +57,7 @@ no_args (arg ∷ args) few = absurd (omega (arith, few))
 
 pub command_first : (args : List (String Global)) (command : String Global)
     (options : List (String Global)) → args ≡ command ∷ options →
-    job_named args ≡ job_behind (string_bytes command) (map string_bytes options)
+    job_named args ≡ job_after (string_bytes command) (map string_bytes options)
 unfolding job_in
 command_first args command options is = ap job_named is
 

@@ -6,7 +6,7 @@ use Rattle.command_line.proofs.Common.{String, Global, string_bytes, Result, Ok,
 use Rattle.command_line.proofs.Common.{length-map, take-map, take_all, AllPass, list_any, is_ascii_digit, from_be_bytes, w32, option_map_or}
 use Rattle.command_line.proofs.Common.{result_ok, bytes_eq, digits_from, decode_sized, is_hex_digit, FromHexError, IsOk-decode_sized}
 use Rattle.command_line.proofs.Common.{long_of, long_of_rest, short_of, short_of_rest, strip_byte, OptionRule, ValueForm, Between}
-use Rattle.command_line.proofs.Common.{EightDigits, Given, OptionEntry, Text, added, form_admits, given_behind, has_name, is_allowed}
+use Rattle.command_line.proofs.Common.{EightDigits, Given, OptionEntry, Text, added, form_admits, given_after, has_name, is_allowed}
 use Rattle.command_line.proofs.Common.{is_joined, is_named_in, option_joined, names, argument_number_in, part_by, part_of, parted}
 use Rattle.command_line.proofs.Common.{eight_digits_in, value_spelled_in, text_in, value_in}
 use Rattle.std.proofs.Math.Bool.{or-false}
@@ -168,14 +168,14 @@ text_there name args place arg inside is unnamed =
 
 -- ---- the first option of arguments
 
-pub none_stays : (entries : List OptionEntry) (args : List Text) → given_behind entries None args ≡ None
-unfolding given_behind
+pub none_stays : (entries : List OptionEntry) (args : List Text) → given_after entries None args ≡ None
+unfolding given_after
 none_stays entries (arg ∷ text ∷ args) =
     go (is_joined (long_of arg)) (none_stays entries (text ∷ args)) (none_stays entries args)
   where
-    go : (b : Bool) → given_behind entries None (text ∷ args) ≡ None →
-        given_behind entries None args ≡ None →
-        (if b then given_behind entries None (text ∷ args) else given_behind entries None args) ≡ None
+    go : (b : Bool) → given_after entries None (text ∷ args) ≡ None →
+        given_after entries None args ≡ None →
+        (if b then given_after entries None (text ∷ args) else given_after entries None args) ≡ None
     go true first second = first
     go false first second = second
 none_stays entries args = refl
@@ -187,32 +187,32 @@ same_part : (one other : Part) → Some one ≡ Some other → one ≡ other
 same_part one other e = ap (λ (o : Option Part). unwrap_or o one) e
 
 -- the arguments after one option
-behind_one : (entries : List OptionEntry) (given : Given) (arg name text : Text) (args : List Text) →
+past_one : (entries : List OptionEntry) (given : Given) (arg name text : Text) (args : List Text) →
     long_of arg ≡ Some (name, Some text) →
-    given_behind entries (Some given) (arg ∷ args)
-    ≡ given_behind entries (added entries name text given) args
-unfolding given_behind
-behind_one entries given arg name text [] is =
+    given_after entries (Some given) (arg ∷ args)
+    ≡ given_after entries (added entries name text given) args
+unfolding given_after
+past_one entries given arg name text [] is =
     ap (λ (p : Option (Text × Option Text)). option_joined entries p given) is
-behind_one entries given arg name text (next ∷ args) is =
+past_one entries given arg name text (next ∷ args) is =
     ap (λ (p : Option (Text × Option Text)). if is_joined p
-    then given_behind entries (option_joined entries p given) (next ∷ args)
-    else given_behind entries (parted entries p next given) args) is
+    then given_after entries (option_joined entries p given) (next ∷ args)
+    else given_after entries (parted entries p next given) args) is
 
-behind_two : (entries : List OptionEntry) (given : Given) (arg name text : Text) (args : List Text) →
+past_two : (entries : List OptionEntry) (given : Given) (arg name text : Text) (args : List Text) →
     long_of arg ≡ Some (name, None) →
-    given_behind entries (Some given) (arg ∷ text ∷ args) ≡
-    given_behind entries (added entries name text given) args
-unfolding given_behind
-behind_two entries given arg name text args is =
+    given_after entries (Some given) (arg ∷ text ∷ args) ≡
+    given_after entries (added entries name text given) args
+unfolding given_after
+past_two entries given arg name text args is =
     ap (λ (p : Option (Text × Option Text)). if is_joined p
-    then given_behind entries (option_joined entries p given) (text ∷ args)
-    else given_behind entries (parted entries p text given) args) is
+    then given_after entries (option_joined entries p given) (text ∷ args)
+    else given_after entries (parted entries p text given) args) is
 
 abbrev Steps : List OptionEntry → Given → List Text → Part → Type 0
 Steps entries given args part =
-    given_behind entries (Some given) args ≡
-    given_behind entries (added entries part.0 part.1 given) (drop part.2 args)
+    given_after entries (Some given) args ≡
+    given_after entries (added entries part.0 part.1 given) (drop part.2 args)
 
 pub part_step : (entries : List OptionEntry) (given : Given) (args : List Text) (part : Part) →
     part_of args ≡ Some part → Steps entries given args part
@@ -224,25 +224,25 @@ part_step entries given (arg ∷ args) part e = go (long_of arg) args refl e
     go None ws is found = search rules
     go (Some (name, Some text)) ws is found =
         subst (Steps entries given (arg ∷ ws)) (same_part (name, text, 1) part found)
-        (behind_one entries given arg name text ws is)
+        (past_one entries given arg name text ws is)
     go (Some (name, None)) [] is found = search rules
     go (Some (name, None)) (text ∷ ws) is found =
         subst (Steps entries given (arg ∷ text ∷ ws)) (same_part (name, text, 2) part found)
-        (behind_two entries given arg name text ws is)
+        (past_two entries given arg name text ws is)
 
 pub part_missing : (entries : List OptionEntry) (given : Given) (args : List Text) →
-    0 < length args → part_of args ≡ None → given_behind entries (Some given) args ≡ None
-unfolding given_behind
+    0 < length args → part_of args ≡ None → given_after entries (Some given) args ≡ None
+unfolding given_after
 part_missing entries given [] inside e = absurd (omega (arith, inside))
 part_missing entries given (arg ∷ args) inside e = go (long_of arg) args refl e
   where
     go : (p : Option (Text × Option Text)) (args : List Text) → long_of arg ≡ p →
-        part_by p args ≡ None → given_behind entries (Some given) (arg ∷ args) ≡ None
+        part_by p args ≡ None → given_after entries (Some given) (arg ∷ args) ≡ None
     go None [] is none = ap (λ (p : Option (Text × Option Text)). option_joined entries p given) is
     go None (text ∷ ws) is none =
         ap (λ (p : Option (Text × Option Text)). if is_joined p
-        then given_behind entries (option_joined entries p given) (text ∷ ws)
-        else given_behind entries (parted entries p text given) ws) is ∙ none_stays entries ws
+        then given_after entries (option_joined entries p given) (text ∷ ws)
+        else given_after entries (parted entries p text given) ws) is ∙ none_stays entries ws
     go (Some (name, Some text)) ws is none = search rules
     go (Some (name, None)) [] is none =
         ap (λ (p : Option (Text × Option Text)). option_joined entries p given) is
@@ -316,7 +316,7 @@ drop-plus (suc k) (suc m) n (x ∷ xs) e = drop-plus k m n xs (omega (arith, e))
 abbrev pub Stands : List OptionEntry → List Text → ℕ → Type 0
 Stands entries texts place =
     (given : Given)
-    × (given_behind entries (Some []) texts ≡ given_behind entries (Some given) (drop place texts))
+    × (given_after entries (Some []) texts ≡ given_after entries (Some given) (drop place texts))
     × ((name : Text) → has_name name given ≡ is_named_in name (take place texts))
 
 is_added : (entries : List OptionEntry) (name text : Text) (given : Given) (allowed has : Bool) →
@@ -339,8 +339,8 @@ stands_next entries texts place next part next_is is unnamed allowed s =
     is_added entries part.0 part.1 given true false allowed fresh in (
       more,
       s.1 ∙ part_step entries given (drop place texts) part is
-          ∙ ap (λ (g : Option Given). given_behind entries g (drop part.2 (drop place texts))) added_is
-          ∙ ap (given_behind entries (Some more)) (sym (drop-plus next place part.2 texts next_is)),
+          ∙ ap (λ (g : Option Given). given_after entries g (drop part.2 (drop place texts))) added_is
+          ∙ ap (given_after entries (Some more)) (sym (drop-plus next place part.2 texts next_is)),
       λ name. any-append (λ (p : Text × Text). bytes_eq p.0 name) given ((part.0, part.1) ∷ [])
           ∙ ap (λ (b : Bool). has_name name given || b) (or-false (bytes_eq part.0 name))
           ∙ ap₂ (λ (a b : Bool). a || b) (s.2 name)
@@ -353,21 +353,21 @@ stands_next entries texts place next part next_is is unnamed allowed s =
 -- the arguments aren't in the grammar
 pub stands_missing : (entries : List OptionEntry) (texts : List Text) (place : ℕ) →
     0 < length (drop place texts) → part_of (drop place texts) ≡ None → Stands entries texts place →
-    false ≡ is_some (given_behind entries (Some []) texts)
+    false ≡ is_some (given_after entries (Some []) texts)
 stands_missing entries texts place inside is s =
     sym (ap is_some (s.1 ∙ part_missing entries s.0 (drop place texts) inside is))
 
 refused : (entries : List OptionEntry) (texts : List Text) (place : ℕ) (part : Part)
     (s : Stands entries texts place) → part_of (drop place texts) ≡ Some part →
-    added entries part.0 part.1 s.0 ≡ None → false ≡ is_some (given_behind entries (Some []) texts)
+    added entries part.0 part.1 s.0 ≡ None → false ≡ is_some (given_after entries (Some []) texts)
 refused entries texts place part s is none =
     sym (ap is_some (s.1 ∙ part_step entries s.0 (drop place texts) part is
-    ∙ ap (λ (g : Option Given). given_behind entries g (drop part.2 (drop place texts))) none
+    ∙ ap (λ (g : Option Given). given_after entries g (drop part.2 (drop place texts))) none
     ∙ none_stays entries (drop part.2 (drop place texts))))
 
 pub stands_twice : (entries : List OptionEntry) (texts : List Text) (place : ℕ) (part : Part) →
     part_of (drop place texts) ≡ Some part → is_named_in part.0 (take place texts) ≡ true →
-    Stands entries texts place → false ≡ is_some (given_behind entries (Some []) texts)
+    Stands entries texts place → false ≡ is_some (given_after entries (Some []) texts)
 stands_twice entries texts place part is named s =
     refused entries texts place part s is
     (go (is_allowed entries part.0 part.1) (is_added entries part.0 part.1 s.0
@@ -381,23 +381,23 @@ stands_twice entries texts place part is named s =
 
 pub stands_refused : (entries : List OptionEntry) (texts : List Text) (place : ℕ) (part : Part) →
     part_of (drop place texts) ≡ Some part → is_allowed entries part.0 part.1 ≡ false →
-    Stands entries texts place → false ≡ is_some (given_behind entries (Some []) texts)
+    Stands entries texts place → false ≡ is_some (given_after entries (Some []) texts)
 stands_refused entries texts place part is not_allowed s =
     refused entries texts place part s is
     (is_added entries part.0 part.1 s.0 false (has_name part.0 s.0) not_allowed refl)
 
 -- all arguments were read
 pub stands_last : (entries : List OptionEntry) (texts : List Text) (place : ℕ) → length texts ≤ place →
-    Stands entries texts place → true ≡ is_some (given_behind entries (Some []) texts)
-unfolding given_behind
+    Stands entries texts place → true ≡ is_some (given_after entries (Some []) texts)
+unfolding given_after
 stands_last entries texts place past s =
-    sym (ap is_some (s.1 ∙ ap (given_behind entries (Some s.0)) (drop_all place texts past)))
+    sym (ap is_some (s.1 ∙ ap (given_after entries (Some s.0)) (drop_all place texts past)))
 
 -- ---- the texts of arguments
 
-pub texts_behind : (args : List (String Global)) (k : ℕ) → k ≤ length args →
+pub texts_after : (args : List (String Global)) (k : ℕ) → k ≤ length args →
     map string_bytes (take (length args - k) (drop k args)) ≡ drop k (map string_bytes args)
-texts_behind args k inside =
+texts_after args k inside =
     let all : length (drop k args) ≤ length args - k = rw (length-drop k args) (omega arith) in
     ap (map string_bytes) (take_all (length args - k) (drop k args) all)
     ∙ sym (drop-map string_bytes k args)

@@ -1,7 +1,7 @@
 -- Lemmas on the texts of options, as the arguments after a command give them.
 use Rattle.command_line.proofs.Common.{◌≡◌, ◌++◌, ◌∙◌, Bool, true, false, if◌then◌else◌, List, [], ◌∷◌, refl, sym, ap, rules, find}
 use Rattle.command_line.proofs.Common.{option_map, option_and_then, Option, None, Some, option_map_or, bytes_eq, long_of, Given}
-use Rattle.command_line.proofs.Common.{OptionEntry, Text, added, given_behind, is_joined, option_joined, part_by, parted, text_in}
+use Rattle.command_line.proofs.Common.{OptionEntry, Text, added, given_after, is_joined, option_joined, part_by, parted, text_in}
 use Rattle.command_line.proofs.Common.{option_text}
 use Rattle.command_line.proofs.ArgTests.{IsPlain, none_stays}
 use Rattle.command_line.proofs.ArgWalks.{is_added}
@@ -108,8 +108,8 @@ adds_parted entries name arg option text args before onward given long is more =
     (is_added entries option text before onward is).plain) more
 
 args_add : (entries : List OptionEntry) (name : Text) (args : List Text) (before given : Given) →
-    given_behind entries (Some before) args ≡ Some given → Adds name before args given
-unfolding given_behind
+    given_after entries (Some before) args ≡ Some given → Adds name before args given
+unfolding given_after
 args_add entries name [] before given e =
     let same : before ≡ given = search rules in
     first_text-none (option_text name before) ∙ ap (option_text name) same
@@ -128,8 +128,8 @@ args_add entries name (arg ∷ text ∷ args) before given e =
   where
     on_joined : (option value : Text) → long_of arg ≡ Some (option, Some value) →
         (onward : Option Given) → added entries option value before ≡ onward →
-        given_behind entries onward (text ∷ args) ≡ Some given →
-        ((mid : Given) → given_behind entries (Some mid) (text ∷ args) ≡ Some given →
+        given_after entries onward (text ∷ args) ≡ Some given →
+        ((mid : Given) → given_after entries (Some mid) (text ∷ args) ≡ Some given →
         Adds name mid (text ∷ args) given) → Adds name before (arg ∷ text ∷ args) given
     on_joined option value long None is rest more =
         let bad : None ≡ Some given = sym (none_stays entries (text ∷ args)) ∙ rest in search rules
@@ -139,8 +139,8 @@ args_add entries name (arg ∷ text ∷ args) before given e =
 
     on_parted : (option : Text) → long_of arg ≡ Some (option, None) →
         (onward : Option Given) → added entries option text before ≡ onward →
-        given_behind entries onward args ≡ Some given →
-        ((mid : Given) → given_behind entries (Some mid) args ≡ Some given →
+        given_after entries onward args ≡ Some given →
+        ((mid : Given) → given_after entries (Some mid) args ≡ Some given →
         Adds name mid args given) → Adds name before (arg ∷ text ∷ args) given
     on_parted option long None is rest more =
         let bad : None ≡ Some given = sym (none_stays entries args) ∙ rest in search rules
@@ -149,12 +149,12 @@ args_add entries name (arg ∷ text ∷ args) before given e =
         (more onward rest)
 
     go : (p : Option (Text × Option Text)) → long_of arg ≡ p →
-        (if is_joined p then given_behind entries (option_and_then (option_joined entries p) (Some before))
-        (text ∷ args) else given_behind entries
+        (if is_joined p then given_after entries (option_and_then (option_joined entries p) (Some before))
+        (text ∷ args) else given_after entries
         (option_and_then (parted entries p text) (Some before)) args) ≡ Some given →
-        ((mid : Given) → given_behind entries (Some mid) (text ∷ args) ≡ Some given →
+        ((mid : Given) → given_after entries (Some mid) (text ∷ args) ≡ Some given →
         Adds name mid (text ∷ args) given) →
-        ((mid : Given) → given_behind entries (Some mid) args ≡ Some given →
+        ((mid : Given) → given_after entries (Some mid) args ≡ Some given →
         Adds name mid args given) → Adds name before (arg ∷ text ∷ args) given
     go None long is first second =
         let bad : None ≡ Some given = sym (none_stays entries args) ∙ is in search rules
@@ -165,5 +165,5 @@ args_add entries name (arg ∷ text ∷ args) before given e =
 
 -- the text of an option stands after the first argument that names it
 pub texts_given : (entries : List OptionEntry) (args : List Text) (given : Given) (name : Text) →
-    given_behind entries (Some []) args ≡ Some given → text_in name args ≡ option_text name given
+    given_after entries (Some []) args ≡ Some given → text_in name args ≡ option_text name given
 texts_given entries args given name is = args_add entries name args [] given is

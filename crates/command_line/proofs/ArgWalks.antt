@@ -9,7 +9,7 @@ use Rattle.command_line.proofs.Common.{short_or_plain, option_word, pushed, with
 use Rattle.command_line.proofs.Common.{rows_of, first_of, bundle_passes, settle_passes, turn_passes, walk_passes, word_passes}
 use Rattle.command_line.proofs.Common.{flag_word_passes, long_passes, use_passes, step_passes, default_passes, is_valid, is_given}
 use Rattle.command_line.proofs.Common.{level_passes, built_takes, entered_passes, takes, Shape, new_rule, new_app, is_simple, built}
-use Rattle.command_line.proofs.Common.{matches_of, names_of, entered, Set, CommandLine, Given, OptionEntry, Text, added, given_behind}
+use Rattle.command_line.proofs.Common.{matches_of, names_of, entered, Set, CommandLine, Given, OptionEntry, Text, added, given_after}
 use Rattle.command_line.proofs.Common.{has_name, is_allowed, is_joined, option_joined, parted, option_text, value_in}
 use Rattle.clap.specs.Walk.{row_of}
 use Rattle.clap.specs.Simple.{App}
@@ -428,8 +428,8 @@ after_two command rows h arg text args onward given first more =
 
 pub args_lead : (command : Text) (rows : List OptionEntry) (args : List Text) (h : Held)
     (before given : Given) → IsHeld (names_in rows) h before →
-    given_behind rows (Some before) args ≡ Some given → Leads command (names_in rows) h args given
-unfolding given_behind
+    given_after rows (Some before) args ≡ Some given → Leads command (names_in rows) h args given
+unfolding given_after
 args_lead command rows [] h before given held e =
     let same : before ≡ given = search rules in
     (h, record { passes = λ rest. refl; walked = refl }, subst (IsHeld (names_in rows) h) same held)
@@ -448,9 +448,9 @@ args_lead command rows (arg ∷ text ∷ args) h before given held e =
   where
     on_joined : (name value : Text) → long_of arg ≡ Some (name, Some value) →
         (onward : Option Given) → added rows name value before ≡ onward →
-        given_behind rows onward (text ∷ args) ≡ Some given →
+        given_after rows onward (text ∷ args) ≡ Some given →
         ((then_given : Given) (mid : Held) → IsHeld (names_in rows) mid then_given →
-        given_behind rows (Some then_given) (text ∷ args) ≡ Some given →
+        given_after rows (Some then_given) (text ∷ args) ≡ Some given →
         Leads command (names_in rows) mid (text ∷ args) given) →
         Leads command (names_in rows) h (arg ∷ text ∷ args) given
     on_joined name value long None is rest more = let bad : None ≡ Some given =
@@ -461,9 +461,9 @@ args_lead command rows (arg ∷ text ∷ args) h before given held e =
         (λ mid held2. more onward mid held2 rest)
 
     on_parted : (name : Text) → long_of arg ≡ Some (name, None) → (onward : Option Given) →
-        added rows name text before ≡ onward → given_behind rows onward args ≡ Some given →
+        added rows name text before ≡ onward → given_after rows onward args ≡ Some given →
         ((then_given : Given) (mid : Held) → IsHeld (names_in rows) mid then_given →
-        given_behind rows (Some then_given) args ≡ Some given →
+        given_after rows (Some then_given) args ≡ Some given →
         Leads command (names_in rows) mid args given) →
         Leads command (names_in rows) h (arg ∷ text ∷ args) given
     on_parted name long None is rest more = let bad : None ≡ Some given =
@@ -474,14 +474,14 @@ args_lead command rows (arg ∷ text ∷ args) h before given held e =
         (λ mid held2. more onward mid held2 rest)
 
     go : (p : Option (Text × Option Text)) → long_of arg ≡ p →
-        (if is_joined p then given_behind rows (option_and_then (option_joined rows p) (Some before))
-        (text ∷ args) else given_behind rows
+        (if is_joined p then given_after rows (option_and_then (option_joined rows p) (Some before))
+        (text ∷ args) else given_after rows
         (option_and_then (parted rows p text) (Some before)) args) ≡ Some given →
         ((onward : Given) (mid : Held) → IsHeld (names_in rows) mid onward →
-        given_behind rows (Some onward) (text ∷ args) ≡ Some given →
+        given_after rows (Some onward) (text ∷ args) ≡ Some given →
         Leads command (names_in rows) mid (text ∷ args) given) →
         ((onward : Given) (mid : Held) → IsHeld (names_in rows) mid onward →
-        given_behind rows (Some onward) args ≡ Some given →
+        given_after rows (Some onward) args ≡ Some given →
         Leads command (names_in rows) mid args given) →
         Leads command (names_in rows) h (arg ∷ text ∷ args) given
     go None long is first second = let bad : None ≡ Some given = sym (none_stays rows args) ∙ is in
@@ -535,7 +535,7 @@ pub record Reads (command : Text) (rows : List OptionEntry) (args : List Text)
 -- give: from nothing held the walk leads to what holds just these options, and the defaults and the
 -- tests that come after the walk pass and change nothing.
 pub args_read : (command : Text) (rows : List OptionEntry) (args : List Text) (given : Given) →
-    given_behind rows (Some []) args ≡ Some given → Reads command rows args given
+    given_after rows (Some []) args ≡ Some given → Reads command rows args given
 unfolding walk_passes
 args_read command rows args given e =
     let led = args_lead command rows args nothing_held [] given
@@ -572,7 +572,7 @@ args_read command rows args given e =
 pub takes_args : (a : App) (command : Text) (rows : List OptionEntry) (args : List Text)
     (given : Given) → is_simple a ≡ true → a.top.no_binary_name ≡ true →
     built a ≡ record { top = shape command (names_in rows); subs = [] } →
-    given_behind rows (Some []) args ≡ Some given → takes a args ≡ true
+    given_after rows (Some []) args ≡ Some given → takes a args ≡ true
 takes_args a command rows args given simple bare build e =
     let r = args_read command rows args given e in
     ap₂ (λ (b c : Bool). b && built_takes (built a) nothing_held
@@ -588,7 +588,7 @@ takes_args a command rows args given simple bare build e =
 pub finds_args : (a : App) (command : Text) (rows : List OptionEntry) (args : List Text)
     (given : Given) → a.top.no_binary_name ≡ true →
     built a ≡ record { top = shape command (names_in rows); subs = [] } →
-    given_behind rows (Some []) args ≡ Some given → matches_of a args ≡ found_rows given
+    given_after rows (Some []) args ≡ Some given → matches_of a args ≡ found_rows given
 finds_args a command rows args given bare build e =
     let r = args_read command rows args given e in
     ap (λ (c : Bool). rows_after (built a).top.rules (names_of (built a))

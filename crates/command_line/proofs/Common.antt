@@ -38,10 +38,10 @@ pub use Rattle.hex.proofs.HexLemmas.{IsOk-decode_sized}
 pub use Rattle.hex.specs.Hex.{decode_sized, is_hex_digit}
 pub use Rattle.hex.specs.declared.error.FromHexError.{FromHexError}
 pub use Rattle.command_line.specs.Args.{CommandEntry, Given, OptionEntry, Text, added, form_admits, bare_app, command_entry, has_name}
-pub use Rattle.command_line.specs.Args.{is_allowed, is_joined, is_named_in, job_behind, job_named, job_with, option_joined, names}
+pub use Rattle.command_line.specs.Args.{is_allowed, is_joined, is_named_in, job_after, job_named, job_with, option_joined, names}
 pub use Rattle.command_line.specs.Args.{number_by, argument_number_in, numbers_by, part_by, part_of, parted, entry_of, rule_by}
 pub use Rattle.command_line.specs.Args.{value_spelled_in, text_in, option_text}
-unfoldable pub use Rattle.command_line.specs.Args.{app_from, eight_digits_in, given_behind, job_by, job_in, value_in}
+unfoldable pub use Rattle.command_line.specs.Args.{app_from, eight_digits_in, given_after, job_by, job_in, value_in}
 pub use Rattle.command_line.specs.declared.grammar.ValueForm.{ValueForm}
 pub use Rattle.command_line.specs.declared.grammar.ValueForm.TheVariants.{Between, EightDigits}
 pub use Rattle.command_line.specs.declared.grammar.OptionRule.{OptionRule}

@@ -353,14 +353,14 @@ is_joined _ = false
 
 -- what arguments give after what was given before them; none where they aren't options of the
 -- table
-unfoldable pub given_behind : List OptionEntry → Option Given → List Text → Option Given
-given_behind entries given [] = given
-given_behind entries given (arg ∷ []) = option_and_then (option_joined entries (long_of arg)) given
-given_behind entries given (arg ∷ text ∷ args) =
+unfoldable pub given_after : List OptionEntry → Option Given → List Text → Option Given
+given_after entries given [] = given
+given_after entries given (arg ∷ []) = option_and_then (option_joined entries (long_of arg)) given
+given_after entries given (arg ∷ text ∷ args) =
     if is_joined (long_of arg)
-    then given_behind entries (option_and_then (option_joined entries (long_of arg)) given)
+    then given_after entries (option_and_then (option_joined entries (long_of arg)) given)
     (text ∷ args)
-    else given_behind entries (option_and_then (parted entries (long_of arg) text) given) args
+    else given_after entries (option_and_then (parted entries (long_of arg) text) given) args
 
 -- the text of an option
 abbrev pub option_text : Text → Given → Option Text
@@ -385,18 +385,18 @@ job_with entry texts = entry.job (numbers_by entry.options texts)
 unfoldable pub job_by : CommandEntry → List Text → Option Job
 job_by entry args =
     option_and_then (λ given. job_with entry (λ name. option_text name given))
-    (given_behind entry.options (Some []) args)
+    (given_after entry.options (Some []) args)
 
 -- the job of a command's name with the arguments after it
-abbrev pub job_behind : Text → List Text → Option Job
-job_behind command args =
+abbrev pub job_after : Text → List Text → Option Job
+job_after command args =
     option_and_then (λ entry. job_by entry args)
     (find (λ entry. pointwise nat_eq command entry.name) commands)
 
 -- the job of the arguments: a command, and what stands after it
 unfoldable pub job_in : List Text → Option Job
 job_in [] = None
-job_in (command ∷ args) = job_behind command args
+job_in (command ∷ args) = job_after command args
 
 -- the job that the strings of a command line name
 abbrev pub job_named : List (String Global) → Option Job

@@ -1,7 +1,7 @@
 //! The job that the arguments of the command line ask for.
 
 ghost use Rattle.std.specs.Prelude.{◌≡◌, ◌↔◌, IfOk, map, string_bytes, Some, None, Err};
-ghost use Rattle.command_line.specs.Args.{IsLawfulJob, command_entry, job_behind, job_by};
+ghost use Rattle.command_line.specs.Args.{IsLawfulJob, command_entry, job_after, job_by};
 ghost use Rattle.command_line.specs.Args.{job_named};
 
 use crate::commands::Command;
@@ -154,9 +154,9 @@ pub fn words_of(alloc: Global, args: &[String]) -> Result<Job, WordFault>
 /// The job of the command of this name with these options.
 fn command_of(alloc: Global, name: &str, options: &[String]) -> Result<Job, WordFault>
     ensures job { IfOk result (λ job.
-        job_behind name.now (map string_bytes options.now) ≡ Some job) }
+        job_after name.now (map string_bytes options.now) ≡ Some job) }
     ensures bad { (result ≡ Err WordFault.Bad) ↔
-        (job_behind name.now (map string_bytes options.now) ≡ None) }
+        (job_after name.now (map string_bytes options.now) ≡ None) }
     ensures lawful { IfOk result IsLawfulJob }
 {
     let Some(command) = Command::named(name) else {

@@ -2,7 +2,7 @@
 
 ghost use Rattle.std.specs.Prelude.{◌≡◌, IfOk, IfErr, map, true, is_some, Some, [], string_bytes};
 ghost use Rattle.clap.specs.Words.{app_of, first_value, found_of, kind_of};
-ghost use Rattle.command_line.specs.Args.{Given, Text, app_from, bare_app, given_behind, entry_of};
+ghost use Rattle.command_line.specs.Args.{Given, Text, app_from, bare_app, given_after, entry_of};
 ghost use Rattle.command_line.specs.Args.{option_text};
 
 use crate::grammar::OptionRule;
@@ -18,10 +18,10 @@ pub fn matches_by<'a>(
     rules: &[OptionRule],
     args: &'a [String],
 ) -> Result<ArgMatches<'a>, Error>
-    requires { is_some (given_behind (map entry_of rules.now) (Some [])
+    requires { is_some (given_after (map entry_of rules.now) (Some [])
         (map string_bytes args.now)) ≡ true }
     ensures ok { (given : Given) →
-        given_behind (map entry_of rules.now) (Some []) (map string_bytes args.now) ≡ Some given →
+        given_after (map entry_of rules.now) (Some []) (map string_bytes args.now) ≡ Some given →
         IfOk result (λ m. (option : Text) →
         first_value (found_of m) option ≡ option_text option given) }
     ensures err { IfErr result (λ e. kind_of e ≡ ErrorKind.OutOfMemory) }

@@ -4,7 +4,7 @@
 ghost use Rattle.std.specs.Prelude.{◌≡◌, ◌≤◌, IfSome, map, option_map, is_some, Some, []};
 ghost use Rattle.std.specs.Prelude.{string_bytes};
 ghost use Rattle.clap.specs.Lexer.{long_of, name_and_value, strip_byte};
-ghost use Rattle.command_line.specs.Args.{given_behind, is_allowed, is_named_in, names, part_of};
+ghost use Rattle.command_line.specs.Args.{given_after, is_allowed, is_named_in, names, part_of};
 ghost use Rattle.command_line.specs.Args.{entry_of, text_in};
 
 use crate::grammar::OptionRule;
@@ -22,7 +22,7 @@ pub struct Part<'a> {
 
 /// Whether the arguments are options that the rules allow, each at most once.
 pub fn are_lawful(rules: &[OptionRule], args: &[String]) -> bool
-    ensures { result ≡ is_some (given_behind (map entry_of rules.now) (Some [])
+    ensures { result ≡ is_some (given_after (map entry_of rules.now) (Some [])
         (map string_bytes args.now)) }
 {
     let mut place = 0;
@@ -122,7 +122,7 @@ fn is_allowed(rules: &[OptionRule], name: &str, value: &str) -> bool
 fn option_of(arg: &str) -> Option<(&str, Option<&str>)>
     ensures { option_map (λ p. (p.0.now, option_map (λ s. s.now) p.1)) result ≡ long_of arg.now }
 {
-    let rest = behind_hyphen(behind_hyphen(arg)?)?;
+    let rest = after_hyphen(after_hyphen(arg)?)?;
     if rest.is_empty() {
         return None;
     }
@@ -130,7 +130,7 @@ fn option_of(arg: &str) -> Option<(&str, Option<&str>)>
 }
 
 /// What stands after a first hyphen.
-fn behind_hyphen(arg: &str) -> Option<&str>
+fn after_hyphen(arg: &str) -> Option<&str>
     ensures { option_map (λ s. s.now) result ≡ strip_byte 45 arg.now }
 {
     arg.strip_prefix('-')

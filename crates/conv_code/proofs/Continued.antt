@@ -62,9 +62,9 @@ before start xs ys j eight lt =
 -- A pair of symbols of later bits is the one that an encoder gives which begins with the state
 -- after the bits before: the pair depends on its own bit and the eight before it, and these are in
 -- that state or among the later bits.
-pub behind : (start xs ys : List Bool) (j : ℕ) → length start ≡ 8 →
+pub following : (start xs ys : List Bool) (j : ℕ) → length start ≡ 8 →
     pair (start ++ (xs ++ ys)) (length xs + j) ≡ pair (state_after start xs ++ ys) j
-behind start xs ys j eight =
+following start xs ys j eight =
     let m = length xs in
     let within : m ≤ length (start ++ xs) = omega (arith, length-append start xs) in
     let joined : drop m (start ++ (xs ++ ys)) ≡ drop m (start ++ xs) ++ ys =
@@ -89,7 +89,7 @@ continued start xs ys eight =
     (flat_map_ext_places (pair joined) (pair (start ++ xs)) m (λ j lt. before start xs ys j eight lt))
     ∙ ap (λ (r : List Bool). code_symbols start xs ++ r)
     (flat_map_ext_places (λ j. pair joined (m + j)) (pair (state_after start xs ++ ys)) n
-    (λ j lt. behind start xs ys j eight)))
+    (λ j lt. following start xs ys j eight)))
 
 -- no bits have no symbols, and one bit has two
 pub code_symbols-none : (start : List Bool) → code_symbols start [] ≡ []

@@ -3,7 +3,7 @@ use Rattle.conv_code.proofs.Common.{◌≡◌, ℕ, zero, suc, ◌+◌, ◌*◌,
 use Rattle.conv_code.proofs.Common.{◌∙◌, arith, below_more, append_assoc, flat_map, get_or_append_left, get_or-append-add, drop_more}
 use Rattle.conv_code.proofs.Common.{length-take-le, take-append-drop, take_more, flat_map-append, places, places-more, symbol, g0, g1}
 use Rattle.conv_code.proofs.Common.{code_symbols, state_after}
-use Rattle.conv_code.proofs.Continued.{pair, before, behind, length_pairs, length-state_after}
+use Rattle.conv_code.proofs.Continued.{pair, before, following, length_pairs, length-state_after}
 
 -- entries 2j and 2j + 1
 pub record AreAt (symbols : List Bool) (j : ℕ) (first second : Bool) : Type 0 where
@@ -44,7 +44,7 @@ symbols_at start bits j lt =
     pairs_at (symbol g0 (start ++ bits)) (symbol g1 (start ++ bits)) (length bits) j lt
 
 -- The pair at place j is made of the state before it and of bit j alone: the code after the first j
--- bits goes on from their state (`behind`), and later bits don't enter the pair (`before`).
+-- bits goes on from their state (`following`), and later bits don't enter the pair (`before`).
 pub pair_from_state : (start codeword : List Bool) (j : ℕ) → length start ≡ 8 → j < length codeword →
     pair (start ++ codeword) j ≡ pair (state_after start (take j codeword) ++ get_or codeword j false ∷ []) 0
 pair_from_state start codeword j eight lt =
@@ -58,7 +58,7 @@ pair_from_state start codeword j eight lt =
     ap (λ (r : List Bool). xs ++ r) (sym (drop_more codeword j false lt)) ∙
     take-append-drop j codeword in
     let moved : pair (start ++ (xs ++ (bit ∷ rest))) (length xs + 0) ≡
-    pair (state ++ (bit ∷ rest)) 0 = behind start xs (bit ∷ rest) 0 eight in
+    pair (state ++ (bit ∷ rest)) 0 = following start xs (bit ∷ rest) 0 eight in
     ap (λ (r : List Bool). pair (start ++ r) j) (sym parts)
     ∙ ap (pair (start ++ (xs ++ (bit ∷ rest)))) (sym place)
     ∙ moved

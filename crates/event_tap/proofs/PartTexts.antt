@@ -38,8 +38,8 @@ pub comma_item : (before text with_comma next : List ℕ) (items : List (List �
     (item : List ℕ) → length items ≡ i → text ≡ before ++ commas items →
     with_comma ≡ text ++ comma_before i → next ≡ with_comma ++ item →
     next ≡ before ++ commas (items ++ item ∷ [])
-comma_item before text with_comma next items i item long is added behind =
-    behind ∙ ap (λ (xs : List ℕ). xs ++ item) (added
+comma_item before text with_comma next items i item long is added following =
+    following ∙ ap (λ (xs : List ℕ). xs ++ item) (added
     ∙ ap (λ (xs : List ℕ). xs ++ comma_before i) is
     ∙ append_assoc before (commas items) (comma_before i))
     ∙ append_assoc before (commas items ++ comma_before i) item
@@ -74,16 +74,16 @@ named_values-more (name ∷ names) (value ∷ values) (suc i) a b =
     (spaced_key (get_or names i []) ++ decimal (get_or values i 0))))
 
 -- a name and a value after those before them
-pub value_behind : (before text next name : List ℕ) (names : List (List ℕ)) (values : List ℕ)
+pub value_after : (before text next name : List ℕ) (names : List (List ℕ)) (values : List ℕ)
     (i : ℕ) → i < length names → i < length values →
     text ≡ before ++ named_values (take i names) (take i values) → name ≡ get_or names i [] →
     next ≡ text ++ (spaced_key name ++ decimal (get_or values i 0)) →
     next ≡ before ++ named_values (take (i + 1) names) (take (i + 1) values)
-value_behind before text next name names values i a b is same behind =
+value_after before text next name names values i a b is same following =
     let so_far = named_values (take i names) (take i values) in
     let value = decimal (get_or values i 0) in
     let field = spaced_key (get_or names i []) ++ value in
-    behind
+    following
     ∙ ap (λ (n : List ℕ). text ++ (spaced_key n ++ value)) same
     ∙ ap (λ (xs : List ℕ). xs ++ field) is
     ∙ append_assoc before so_far field
@@ -127,13 +127,13 @@ pub value_short : (names : List (List ℕ)) (widths values : List ℕ) (i : ℕ)
     are_short names widths ≡ true → FieldsFit (in_widths widths values) → i < length widths →
     i < length values → get_or values i 0 < 10 ^ 7
 unfolding are_short
-value_short names widths values i short fit within behind =
+value_short names widths values i short fit within following =
     let test = AllPass-from_list_all (λ (width : ℕ). nat_lt (2 ^ width) (10 ^ 7)) widths
     (and_parts (list_all (λ (name : List ℕ). list_all (λ byte. nat_lt byte 128) name
     && nat_lt (length name) 8) names)
     (list_all (λ (width : ℕ). nat_lt (2 ^ width) (10 ^ 7)) widths) short).1 i 0 within in
     let below : 2 ^ (get_or widths i 0) < 10 ^ 7 = search rules in
-    omega (arith, below, fit_value widths values i fit within behind)
+    omega (arith, below, fit_value widths values i fit within following)
 
 -- THE TEXT OF FEW BITS
 

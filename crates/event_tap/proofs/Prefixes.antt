@@ -6,7 +6,7 @@ use Rattle.std.proofs.lemmas.List.{take_at}
 use Rattle.std.specs.Io.{StartsWith}
 use Rattle.std.specs.Io.KnownBytes.{Appends}
 use Rattle.cdma_io.specs.Outside.{AppendsPrefix}
-pub use Rattle.event_tap.proofs.TapLists.{prefix_before, prefix_behind}
+pub use Rattle.event_tap.proofs.TapLists.{prefix_before, prefix_after}
 
 -- a list begins with what stands at its front
 pub front_begins : (all front back : List ℕ) → all ≡ front ++ back → StartsWith all front

@@ -6,8 +6,8 @@ use Rattle.std.proofs.lemmas.List.Elements.{All-append, All-cons, All-nil, All-h
 use Rattle.heard_events.specs.declared.event.Event.{Event}
 use Rattle.heard_events.specs.declared.event.Event.TheVariants.{Pilot}
 use Rattle.event_tap.specs.EventLines.{event_line, events_text}
-use Rattle.event_tap.specs.Taps.{IsKept, KeptTap, form_line, form_lines, heard_text, joined_lines, kept_by, kept_with, left_behind}
-use Rattle.event_tap.specs.Taps.{line_text, line_list, run_taps, run_text, tap_behind, taps_behind}
+use Rattle.event_tap.specs.Taps.{IsKept, KeptTap, form_line, form_lines, heard_text, joined_lines, kept_by, kept_with, left_after}
+use Rattle.event_tap.specs.Taps.{line_text, line_list, run_taps, run_text, tap_after, taps_after}
 
 -- EVENTS THAT FOLLOW ONE ANOTHER
 
@@ -19,15 +19,15 @@ unfolding run_text run_taps
 run_text-append taps [] more = refl
 run_text-append taps (event ∷ events) more =
     ap (λ (text : List ℕ). heard_text taps event ++ text)
-    (run_text-append (taps_behind taps event) events more)
-    ∙ sym (append_assoc (heard_text taps event) (run_text (taps_behind taps event) events)
-    (run_text (run_taps (taps_behind taps event) events) more))
+    (run_text-append (taps_after taps event) events more)
+    ∙ sym (append_assoc (heard_text taps event) (run_text (taps_after taps event) events)
+    (run_text (run_taps (taps_after taps event) events) more))
 
 pub run_taps-append : (taps : List KeptTap) (events more : List Event) →
     run_taps taps (events ++ more) ≡ run_taps (run_taps taps events) more
 unfolding run_taps
 run_taps-append taps [] more = refl
-run_taps-append taps (event ∷ events) more = run_taps-append (taps_behind taps event) events more
+run_taps-append taps (event ∷ events) more = run_taps-append (taps_after taps event) events more
 
 -- no event
 pub run_text-none : (taps : List KeptTap) → run_text taps [] ≡ []
@@ -41,7 +41,7 @@ unfolding run_text
 run_text-one taps event = append-nil (heard_text taps event)
 
 pub run_taps-one : (taps : List KeptTap) (event : Event) →
-    run_taps taps (event ∷ []) ≡ taps_behind taps event
+    run_taps taps (event ∷ []) ≡ taps_after taps event
 unfolding run_taps
 run_taps-one taps event = refl
 
@@ -55,7 +55,7 @@ run_text-more taps events event =
     (run_text-one (run_taps taps events) event)
 
 pub run_taps-more : (taps : List KeptTap) (events : List Event) (event : Event) →
-    run_taps taps (events ++ event ∷ []) ≡ taps_behind (run_taps taps events) event
+    run_taps taps (events ++ event ∷ []) ≡ taps_after (run_taps taps events) event
 run_taps-more taps events event =
     run_taps-append taps events (event ∷ []) ∙ run_taps-one (run_taps taps events) event
 
@@ -83,7 +83,7 @@ kept_with-left form (suc left) some = search rules
 single_step : (form left : ℕ) (line : Option (List ℕ)) (events : List Event)
     (lines : List (List ℕ)) →
     ((n : ℕ) → run_text (kept_with form n) events ≡ joined_lines (take n lines)) →
-    (line_text line ++ []) ++ run_text (kept_with form (left_behind line (suc left)) ++ []) events
+    (line_text line ++ []) ++ run_text (kept_with form (left_after line (suc left)) ++ []) events
     ≡ joined_lines (take (suc left) (line_list line ++ lines))
 single_step form left None events lines below =
     ap (λ (taps : List KeptTap). run_text taps events) (append-nil (kept_with form (suc left)))
@@ -122,21 +122,21 @@ plain_heard pilots messages frames (Pilot phase energy) =
     append-nil (event_line (Pilot phase energy))
 plain_heard pilots messages frames event = append-nil (event_line event)
 
-left_behind-least : (line : Option (List ℕ)) (left more : ℕ) → more + 1 < left →
-    more < left_behind line left
-left_behind-least None left more few = omega (arith, few)
-left_behind-least (Some line) left more few = omega (arith, few)
+left_after-least : (line : Option (List ℕ)) (left more : ℕ) → more + 1 < left →
+    more < left_after line left
+left_after-least None left more few = omega (arith, few)
+left_after-least (Some line) left more few = omega (arith, few)
 
-plain_behind : (pilots messages frames : ℕ) (event : Event) →
-    1 ≤ left_behind (form_line 0 event) pilots → 1 ≤ left_behind (form_line 1 event) messages →
-    1 ≤ left_behind (form_line 2 event) frames →
-    taps_behind (plain_taps pilots messages frames) event ≡
-    plain_taps (left_behind (form_line 0 event) pilots) (left_behind (form_line 1 event) messages)
-    (left_behind (form_line 2 event) frames)
-plain_behind pilots messages frames event one two three =
-    let first = left_behind (form_line 0 event) pilots in
-    let second = left_behind (form_line 1 event) messages in
-    let third = left_behind (form_line 2 event) frames in
+plain_after : (pilots messages frames : ℕ) (event : Event) →
+    1 ≤ left_after (form_line 0 event) pilots → 1 ≤ left_after (form_line 1 event) messages →
+    1 ≤ left_after (form_line 2 event) frames →
+    taps_after (plain_taps pilots messages frames) event ≡
+    plain_taps (left_after (form_line 0 event) pilots) (left_after (form_line 1 event) messages)
+    (left_after (form_line 2 event) frames)
+plain_after pilots messages frames event one two three =
+    let first = left_after (form_line 0 event) pilots in
+    let second = left_after (form_line 1 event) messages in
+    let third = left_after (form_line 2 event) frames in
     ap (λ (taps : List KeptTap). taps ++ (kept_with 1 second ++ (kept_with 2 third ++ [])))
     (kept_with-left 0 first one)
     ∙ ap (λ (taps : List KeptTap). tap 0 first ∷ (taps ++ (kept_with 2 third ++ [])))
@@ -151,21 +151,21 @@ pub plain_text : (pilots messages frames : ℕ) (events : List Event) →
 unfolding run_text events_text
 plain_text pilots messages frames [] few_pilots few_messages few_frames = refl
 plain_text pilots messages frames (event ∷ events) few_pilots few_messages few_frames =
-    let first : length events < left_behind (form_line 0 event) pilots =
-    left_behind-least (form_line 0 event) pilots (length events) (omega (arith, few_pilots)) in
-    let second : length events < left_behind (form_line 1 event) messages =
-    left_behind-least (form_line 1 event) messages (length events) (omega (arith, few_messages)) in
-    let third : length events < left_behind (form_line 2 event) frames =
-    left_behind-least (form_line 2 event) frames (length events) (omega (arith, few_frames)) in
+    let first : length events < left_after (form_line 0 event) pilots =
+    left_after-least (form_line 0 event) pilots (length events) (omega (arith, few_pilots)) in
+    let second : length events < left_after (form_line 1 event) messages =
+    left_after-least (form_line 1 event) messages (length events) (omega (arith, few_messages)) in
+    let third : length events < left_after (form_line 2 event) frames =
+    left_after-least (form_line 2 event) frames (length events) (omega (arith, few_frames)) in
     ap (λ (text : List ℕ). text ++
-    run_text (taps_behind (plain_taps pilots messages frames) event) events)
+    run_text (taps_after (plain_taps pilots messages frames) event) events)
     (plain_heard pilots messages frames event)
     ∙ ap (λ (taps : List KeptTap). event_line event ++ run_text taps events)
-    (plain_behind pilots messages frames event (omega (arith, first)) (omega (arith, second))
+    (plain_after pilots messages frames event (omega (arith, first)) (omega (arith, second))
     (omega (arith, third)))
     ∙ ap (λ (text : List ℕ). event_line event ++ text)
-    (plain_text (left_behind (form_line 0 event) pilots) (left_behind (form_line 1 event) messages)
-    (left_behind (form_line 2 event) frames) events first second third)
+    (plain_text (left_after (form_line 0 event) pilots) (left_after (form_line 1 event) messages)
+    (left_after (form_line 2 event) frames) events first second third)
 
 -- the text of the taps that a run has where nothing is said of limits: each form once, in order,
 -- and none of raw messages

@@ -10,8 +10,8 @@ use Rattle.std.specs.List.{remove}
 use Rattle.std.specs.Io.KnownBytes.{Appends}
 use Rattle.cdma_io.specs.Outside.{AppendsPrefix}
 use Rattle.heard_events.specs.declared.event.Event.{Event}
-use Rattle.event_tap.specs.Taps.{KeptTap, IsKept, kept_or_done, heard_text, kept_by, tap_behind, kept_with, left_behind, line_text}
-use Rattle.event_tap.specs.Taps.{form_line, taps_behind}
+use Rattle.event_tap.specs.Taps.{KeptTap, IsKept, kept_or_done, heard_text, kept_by, tap_after, kept_with, left_after, line_text}
+use Rattle.event_tap.specs.Taps.{form_line, taps_after}
 use Rattle.event_tap.specs.declared.tap.Heard.{Heard}
 use Rattle.event_tap.specs.declared.tap.Heard.TheVariants.{Keep, Done}
 
@@ -25,9 +25,9 @@ prefix_before old new a b part = record {
 }
 
 -- a list, and a beginning of the next
-pub prefix_behind : (old mid new : Option (List ℕ)) (a b : List ℕ) → Appends old mid a →
+pub prefix_after : (old mid new : Option (List ℕ)) (a b : List ℕ) → Appends old mid a →
     AppendsPrefix mid new b → AppendsPrefix old new (a ++ b)
-prefix_behind old mid new a b before part = record {
+prefix_after old mid new a b before part = record {
   count = length a + part.count;
   fits = omega (arith, part.fits, length-append a b);
   appended =
@@ -58,9 +58,9 @@ pub record IsHearing {T : Type 0} (shape left : T →
   pub appended : Appends before after text
   pub whole : text ++ heard_text (map (seen shape left) (drop place now)) event ≡
       heard_text (map (seen shape left) all) event
-  pub behind : map (seen shape left) (take place now) ++
-      taps_behind (map (seen shape left) (drop place now)) event ≡
-      taps_behind (map (seen shape left) all) event
+  pub following : map (seen shape left) (take place now) ++
+      taps_after (map (seen shape left) (drop place now)) event ≡
+      taps_after (map (seen shape left) all) event
   pub kept : All (λ t. IsKept (seen shape left t)) now
 
 -- what is known of a tap that heard an event
@@ -68,13 +68,13 @@ pub record HasHeard {T : Type 0} (shape left : T → ℕ) (event : Event) (t y :
     (answer : Heard) : Type 0 where
   pub line_is : text ≡ line_text (form_line (shape t) event)
   pub form_is : shape y ≡ shape t
-  pub left_is : left y ≡ left_behind (form_line (shape t) event) (left t)
+  pub left_is : left y ≡ left_after (form_line (shape t) event) (left t)
   pub answer_is : answer ≡ kept_or_done (left y)
 
 -- the same of what a call says of it
 pub has_heard : {T : Type 0} (shape left : T → ℕ) (event : Event) (t y : T) (out text : List ℕ)
     (answer : Heard) → text ≡ out → out ≡ line_text (form_line (shape t) event) →
-    shape y ≡ shape t → left y ≡ left_behind (form_line (shape t) event) (left t) →
+    shape y ≡ shape t → left y ≡ left_after (form_line (shape t) event) (left t) →
     answer ≡ kept_or_done (left y) → HasHeard shape left event t y text answer
 has_heard shape left event t y out text answer shown line_is form_is left_is answer_is = record {
   line_is = shown ∙ line_is;
@@ -149,32 +149,32 @@ module _ {T : Type 0} where
       ∙ whole
 
   -- what the next tap leaves of itself
-  self_behind : (shape left : T → ℕ) (event : Event) (t y : T) (line : List ℕ) (answer : Heard) →
+  self_after : (shape left : T → ℕ) (event : Event) (t y : T) (line : List ℕ) (answer : Heard) →
       HasHeard shape left event t y line answer →
-      tap_behind event (seen shape left t) ≡ kept_with (shape y) (left y)
-  self_behind shape left event t y line answer h =
+      tap_after event (seen shape left t) ≡ kept_with (shape y) (left y)
+  self_after shape left event t y line answer h =
       sym (ap (λ (n : ℕ). kept_with n (left y)) h.form_is ∙
       ap (λ (n : ℕ). kept_with (shape t) n) h.left_is)
 
   -- the taps after the next one
-  behind_more : (shape left : T → ℕ) (event : Event) (all now : List T) (place : ℕ) (t y : T)
+  after_more : (shape left : T → ℕ) (event : Event) (all now : List T) (place : ℕ) (t y : T)
       (line : List ℕ) (answer : Heard) →
-      map (seen shape left) (take place now) ++ taps_behind (map (seen shape left) (drop place now))
-      event ≡ taps_behind (map (seen shape left) all) event →
+      map (seen shape left) (take place now) ++ taps_after (map (seen shape left) (drop place now))
+      event ≡ taps_after (map (seen shape left) all) event →
       HasHeard shape left event t y line answer → place < length now →
       t ≡ slice_index_or now place t →
       map (seen shape left) (take place now) ++
       (kept_with (shape y) (left y) ++
-      taps_behind (map (seen shape left) (drop (place + 1) now)) event) ≡
-      taps_behind (map (seen shape left) all) event
-  behind_more shape left event all now place t y line answer behind h within is =
+      taps_after (map (seen shape left) (drop (place + 1) now)) event) ≡
+      taps_after (map (seen shape left) all) event
+  after_more shape left event all now place t y line answer following h within is =
       ap (λ (ks : List KeptTap). map (seen shape left) (take place now) ++
-      (ks ++ taps_behind (map (seen shape left) (drop (place + 1) now)) event))
-      (sym (self_behind shape left event t y line answer h))
+      (ks ++ taps_after (map (seen shape left) (drop (place + 1) now)) event))
+      (sym (self_after shape left event t y line answer h))
       ∙ sym (at_place
       (λ (xs : List T). map (seen shape left) (take place now) ++
-      taps_behind (map (seen shape left) xs) event) now place t within is)
-      ∙ behind
+      taps_after (map (seen shape left) xs) event) now place t within is)
+      ∙ following
 
   -- the next tap is kept
   pub hearing_kept : (shape left : T → ℕ) (event : Event) (before mid after : Option (List ℕ))
@@ -203,18 +203,18 @@ module _ {T : Type 0} where
         whole = ap (λ (xs : List T). (i.text ++ line) ++ heard_text (map (seen shape left) xs)
             event) rest ∙
             whole_more shape left event all now place t y i.text line answer i.whole h within is;
-        behind = ap (λ (ks : List KeptTap). ks ++
-            taps_behind (map (seen shape left) (drop (place + 1) (slice_set now place y))) event)
+        following = ap (λ (ks : List KeptTap). ks ++
+            taps_after (map (seen shape left) (drop (place + 1) (slice_set now place y))) event)
             front
             ∙ ap (λ (xs : List T).
             (map (seen shape left) (take place now) ++ seen shape left y ∷ []) ++
-            taps_behind (map (seen shape left) xs) event) rest
+            taps_after (map (seen shape left) xs) event) rest
             ∙ append_assoc (map (seen shape left) (take place now)) (seen shape left y ∷ [])
-            (taps_behind (map (seen shape left) (drop (place + 1) now)) event)
+            (taps_after (map (seen shape left) (drop (place + 1) now)) event)
             ∙ ap (λ (ks : List KeptTap). map (seen shape left) (take place now) ++
-            (ks ++ taps_behind (map (seen shape left) (drop (place + 1) now)) event))
+            (ks ++ taps_after (map (seen shape left) (drop (place + 1) now)) event))
             (sym (kept_when (shape y) (left y) stays))
-            ∙ behind_more shape left event all now place t y line answer i.behind h within is;
+            ∙ after_more shape left event all now place t y line answer i.following h within is;
         kept = All-set (λ (x : T). IsKept (seen shape left x)) now place y
             (left_when (left y) stays, omega (arith, form, same)) i.kept;
       }
@@ -246,19 +246,19 @@ module _ {T : Type 0} where
             event) (drop_at (take place now) (drop (place + 1) now) place
             (length-take-le place now (omega (arith, within))))
             ∙ whole_more shape left event all now place t y i.text line answer i.whole h within is;
-        behind = ap (λ (xs : List T). map (seen shape left) xs ++
-            taps_behind
+        following = ap (λ (xs : List T). map (seen shape left) xs ++
+            taps_after
             (map (seen shape left) (drop place (take place now ++ drop (place + 1) now))) event)
             (take_at (take place now) (drop (place + 1) now) place
             (length-take-le place now (omega (arith, within))))
             ∙ ap (λ (xs : List T). map (seen shape left) (take place now) ++
-            taps_behind (map (seen shape left) xs) event)
+            taps_after (map (seen shape left) xs) event)
             (drop_at (take place now) (drop (place + 1) now) place
             (length-take-le place now (omega (arith, within))))
             ∙ ap (λ (ks : List KeptTap). map (seen shape left) (take place now) ++
-            (ks ++ taps_behind (map (seen shape left) (drop (place + 1) now)) event))
+            (ks ++ taps_after (map (seen shape left) (drop (place + 1) now)) event))
             (sym (none_when (shape y) (left y) gone))
-            ∙ behind_more shape left event all now place t y line answer i.behind h within is;
+            ∙ after_more shape left event all now place t y line answer i.following h within is;
         kept = All-append (λ (x : T). IsKept (seen shape left x)) (take place now)
             (drop (place + 1) now)
             (All-take (λ (x : T). IsKept (seen shape left x)) place now i.kept)
@@ -280,7 +280,7 @@ module _ {T : Type 0} where
       (whole_more shape left event all now place t y i.text line answer i.whole h within is)
       (prefix_before before after (i.text ++ line)
       (heard_text (map (seen shape left) (drop (place + 1) now)) event)
-      (prefix_behind before mid after i.text line i.appended part))
+      (prefix_after before mid after i.text line i.appended part))
 
   pub All-seen-back : (shape left : T → ℕ) (xs : List T) →
       All (λ t. IsKept (seen shape left t)) xs → All IsKept (map (seen shape left) xs)
@@ -295,7 +295,7 @@ module _ {T : Type 0} where
     text = [];
     appended = keeps written;
     whole = refl;
-    behind = refl;
+    following = refl;
     kept = All-seen shape left all h;
   }
 
@@ -308,6 +308,6 @@ module _ {T : Type 0} where
     text = i.text;
     appended = tt;
     whole = i.whole;
-    behind = i.behind;
+    following = i.following;
     kept = i.kept;
   }

@@ -85,11 +85,11 @@ lines_by_times key cycle t number m samples =
     (filter (is_heard key cycle t.count s m n) (places (slot_bound n)))
 
 -- the same where no mark may be set, and then there are none
-abbrev pub lines_behind : ℕ → ℕ → Tuning → ℕ → List Sample → Option Mark → List ℕ
-lines_behind key cycle t number samples None = []
-lines_behind key cycle t number samples (Some m) = lines_by_times key cycle t number m samples
+abbrev pub lines_if_marked : ℕ → ℕ → Tuning → ℕ → List Sample → Option Mark → List ℕ
+lines_if_marked key cycle t number samples None = []
+lines_if_marked key cycle t number samples (Some m) = lines_by_times key cycle t number m samples
 
 -- those after the mark that the samples set
 abbrev pub lines_of_slots : ℕ → ℕ → Tuning → ℕ → List Sample → List ℕ
 lines_of_slots key cycle t number samples =
-    lines_behind key cycle t number samples (mark t samples (length samples))
+    lines_if_marked key cycle t number samples (mark t samples (length samples))

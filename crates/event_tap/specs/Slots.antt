@@ -23,9 +23,9 @@ slot_more kept frame =
     else (if frame.number % 4 == length kept then kept ++ frame ∷ [] else [])
 
 -- the frames of a slot that are kept after all of these
-unfoldable pub slot_behind : List SoftFrame → List SoftFrame → List SoftFrame
-slot_behind kept [] = kept
-slot_behind kept (frame ∷ frames) = slot_behind (slot_more kept frame) frames
+unfoldable pub slot_after : List SoftFrame → List SoftFrame → List SoftFrame
+slot_after kept [] = kept
+slot_after kept (frame ∷ frames) = slot_after (slot_more kept frame) frames
 
 -- ---- its lines
 

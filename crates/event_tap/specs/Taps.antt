@@ -63,9 +63,9 @@ line_text None = []
 line_text (Some line) = line
 
 -- how many events are left after one that has this line or none
-abbrev pub left_behind : Option (List ℕ) → ℕ → ℕ
-left_behind None left = left
-left_behind (Some line) left = left - 1
+abbrev pub left_after : Option (List ℕ) → ℕ → ℕ
+left_after None left = left
+left_after (Some line) left = left - 1
 
 -- what a tap answers that has so many events left
 abbrev pub kept_or_done : ℕ → Heard
@@ -76,27 +76,27 @@ abbrev pub kept_with : ℕ → ℕ → List KeptTap
 kept_with form left = if nat_eq left 0 then [] else record { form = form; left = left } ∷ []
 
 -- a kept tap after an event, where it has events left
-abbrev pub tap_behind : Event → KeptTap → List KeptTap
-tap_behind event tap =
-    kept_with tap.form (left_behind (form_line tap.form event) tap.left)
+abbrev pub tap_after : Event → KeptTap → List KeptTap
+tap_after event tap =
+    kept_with tap.form (left_after (form_line tap.form event) tap.left)
 
 -- the text that kept taps make of an event, in their order
 abbrev pub heard_text : List KeptTap → Event → List ℕ
 heard_text taps event = flat_map (λ tap. line_text (form_line tap.form event)) taps
 
 -- the taps that are kept after an event
-abbrev pub taps_behind : List KeptTap → Event → List KeptTap
-taps_behind taps event = flat_map (tap_behind event) taps
+abbrev pub taps_after : List KeptTap → Event → List KeptTap
+taps_after taps event = flat_map (tap_after event) taps
 
 -- the text of a run: what kept taps make of events, one event after the other
 unfoldable pub run_text : List KeptTap → List Event → List ℕ
 run_text taps [] = []
-run_text taps (event ∷ events) = heard_text taps event ++ run_text (taps_behind taps event) events
+run_text taps (event ∷ events) = heard_text taps event ++ run_text (taps_after taps event) events
 
 -- the taps that are kept after events
 unfoldable pub run_taps : List KeptTap → List Event → List KeptTap
 run_taps taps [] = taps
-run_taps taps (event ∷ events) = run_taps (taps_behind taps event) events
+run_taps taps (event ∷ events) = run_taps (taps_after taps event) events
 
 -- the line in a list of its own, where there is one
 abbrev pub line_list : Option (List ℕ) → List (List ℕ)

@@ -27,8 +27,8 @@ frames_from t channel samples None = []
 frames_from t channel samples (Some m) = soft_frames t channel m samples
 
 -- the frames of a channel that end within these samples, from the mark on that these set
-abbrev pub behind_mark : Tuning → Channel → List Sample → List SoftFrame
-behind_mark t channel samples = frames_from t channel samples (mark t samples (length samples))
+abbrev pub after_mark : Tuning → Channel → List Sample → List SoftFrame
+after_mark t channel samples = frames_from t channel samples (mark t samples (length samples))
 
 -- the line of a frame of rate set 2; one of a channel without power control bits has none
 abbrev pub rate2_text : ℕ → List ℤ → Option PowerControl → List ℕ
@@ -68,14 +68,14 @@ text_from form t channel m samples =
     frames_text form t.check30 m [] (soft_frames t channel m samples)
 
 -- the same where none may be set
-abbrev pub text_behind : TunedText → Tuning → Channel → List Sample → Option Mark → List ℕ
-text_behind form t channel samples None = []
-text_behind form t channel samples (Some m) = text_from form t channel m samples
+abbrev pub text_if_marked : TunedText → Tuning → Channel → List Sample → Option Mark → List ℕ
+text_if_marked form t channel samples None = []
+text_if_marked form t channel samples (Some m) = text_from form t channel m samples
 
 -- what is written of all frames that end within these samples, from the mark on that these set
 unfoldable pub tuned_text : TunedText → Tuning → Channel → List Sample → List ℕ
 tuned_text form t channel samples =
-    text_behind form t channel samples (mark t samples (length samples))
+    text_if_marked form t channel samples (mark t samples (length samples))
 
 -- which channels have such a text
 abbrev pub IsLawfulTuned : Channel → TunedText → Type 0

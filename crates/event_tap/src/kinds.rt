@@ -2,7 +2,7 @@
 
 ghost use Rattle.std.specs.Prelude.{◌≡◌, ◌≤◌, ◌%◌, Some, None, if◌then◌else◌};
 ghost use Rattle.event_tap.specs.EventLines.{event_line};
-ghost use Rattle.event_tap.specs.Taps.{form_line, kept_or_done, left_behind, line_text, plain_form};
+ghost use Rattle.event_tap.specs.Taps.{form_line, kept_or_done, left_after, line_text, plain_form};
 ghost use Rattle.event_tap.specs.Taps.{raw_of};
 
 use crate::line::line_into;
@@ -65,7 +65,7 @@ fn hear_in(form: u8, left: u32, event: &Event, out: &mut Text) -> u32
     requires form { form ≤ 3 }
     requires some { 1 ≤ left }
     ensures text { out.new ≡ line_text (form_line form event.now) }
-    ensures left { result ≡ left_behind (form_line form event.now) left }
+    ensures left { result ≡ left_after (form_line form event.now) left }
 {
     if form == 3 {
         return hear_raw(left, event, out);
@@ -89,7 +89,7 @@ fn plain_form_of(event: &Event) -> u8
 fn hear_where(heard: bool, left: u32, event: &Event, out: &mut Text) -> u32
     requires { 1 ≤ left }
     ensures text { out.new ≡ line_text (if heard then Some (event_line event.now) else None) }
-    ensures left { result ≡ left_behind (if heard then Some (event_line event.now) else None) left }
+    ensures left { result ≡ left_after (if heard then Some (event_line event.now) else None) left }
 {
     if heard {
         line_into(event, out);
@@ -105,7 +105,7 @@ fn hear_where(heard: bool, left: u32, event: &Event, out: &mut Text) -> u32
 fn hear_raw(left: u32, event: &Event, out: &mut Text) -> u32
     requires { 1 ≤ left }
     ensures text { out.new ≡ line_text (raw_of event.now) }
-    ensures left { result ≡ left_behind (raw_of event.now) left }
+    ensures left { result ≡ left_after (raw_of event.now) left }
 {
     out.clear();
     match event {

@@ -1,7 +1,7 @@
 //! Taps: what makes text of events.
 
 ghost use Rattle.std.specs.Prelude.{ℕ, ◌≡◌, ◌≤◌};
-ghost use Rattle.event_tap.specs.Taps.{form_line, kept_or_done, left_behind, line_text};
+ghost use Rattle.event_tap.specs.Taps.{form_line, kept_or_done, left_after, line_text};
 
 use heard_events::Event;
 use line_text::Text;
@@ -44,6 +44,6 @@ pub trait Tap: Drop {
         ensures text { out.new ≡ line_text (form_line (shape self.old) event.now) }
         ensures form { shape self.new ≡ shape self.old }
         ensures left { left self.new ≡
-            left_behind (form_line (shape self.old) event.now) (left self.old) }
+            left_after (form_line (shape self.old) event.now) (left self.old) }
         ensures heard { result ≡ kept_or_done (left self.new) };
 }

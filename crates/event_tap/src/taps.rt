@@ -3,7 +3,7 @@
 ghost use Rattle.std.specs.Prelude.{◌≡◌, ◌≤◌, List, map, All, nat_lt, slice_index, OnOk, OnErr};
 ghost use Rattle.std.specs.Io.KnownBytes.{Appends};
 ghost use Rattle.cdma_io.specs.Outside.{AppendsPrefix, HasCause};
-ghost use Rattle.event_tap.specs.Taps.{IsKept, KeptTap, heard_text, kept_by, kept_of, taps_behind};
+ghost use Rattle.event_tap.specs.Taps.{IsKept, KeptTap, heard_text, kept_by, kept_of, taps_after};
 
 use crate::tap::{Heard, Tap};
 use cdma_io::{Failed, Sink, write_all};
@@ -46,7 +46,7 @@ pub trait KeepsTaps: Drop {
         requires { All IsKept (kept self.old) }
         ensures ok { OnOk result (Appends (K.written sink.old) (K.written sink.new)
             (heard_text (kept self.old) event.now)) }
-        ensures behind { OnOk result (kept self.new ≡ taps_behind (kept self.old) event.now) }
+        ensures following { OnOk result (kept self.new ≡ taps_after (kept self.old) event.now) }
         ensures kept { All IsKept (kept self.new) }
         ensures err { OnErr result (AppendsPrefix (K.written sink.old) (K.written sink.new)
             (heard_text (kept self.old) event.now)) }
@@ -84,8 +84,8 @@ impl Taps {
         ensures ok { OnOk result
             (Appends (K.written sink.old) (K.written sink.new)
             (heard_text (⟦<Taps as KeepsTaps>⟧.kept self.old) event.now)) }
-        ensures behind { OnOk result (⟦<Taps as KeepsTaps>⟧.kept self.new ≡
-            taps_behind (⟦<Taps as KeepsTaps>⟧.kept self.old) event.now) }
+        ensures following { OnOk result (⟦<Taps as KeepsTaps>⟧.kept self.new ≡
+            taps_after (⟦<Taps as KeepsTaps>⟧.kept self.old) event.now) }
         ensures kept { All IsKept (⟦<Taps as KeepsTaps>⟧.kept self.new) }
         ensures err { OnErr result
             (AppendsPrefix (K.written sink.old) (K.written sink.new)
@@ -131,8 +131,8 @@ fn hear_all<T: Tap, K: Sink>(taps: &mut Vec<T>, event: &Event, sink: &mut K) -> 
     ensures ok { OnOk result
         (Appends (K.written sink.old) (K.written sink.new)
         (heard_text (kept_of T.shape T.left taps.old.items) event.now)) }
-    ensures behind { OnOk result (kept_of T.shape T.left taps.new.items ≡
-        taps_behind (kept_of T.shape T.left taps.old.items) event.now) }
+    ensures following { OnOk result (kept_of T.shape T.left taps.new.items ≡
+        taps_after (kept_of T.shape T.left taps.old.items) event.now) }
     ensures kept { All IsKept (kept_of T.shape T.left taps.new.items) }
     ensures err { OnErr result
         (AppendsPrefix (K.written sink.old) (K.written sink.new)

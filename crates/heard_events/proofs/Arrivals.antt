@@ -107,10 +107,10 @@ AreLater a next n = (k : ℕ) → next ≤ k → a.inside k ≡ true → n ≤ a
 -- so none is known between the two
 pub none_between : (a : Arrivals) (next low high n : ℕ) → AreKnown a next low →
     AreLater a next high → low < n → n < high → NoneNow a n
-none_between a next low high n before behind past less k inside e =
+none_between a next low high n before following past less k inside e =
     elim (cases_lt k next) [
       | inl below ↦ let known = before k below inside in omega (arith, known, e, past)
-      | inr above ↦ let known = behind k above inside in omega (arith, known, e, less)
+      | inr above ↦ let known = following k above inside in omega (arith, known, e, less)
     ]
 
 -- whether thing k is known by n
@@ -171,12 +171,12 @@ module _ (a : Arrivals) (o : AreOrdered a) where
     -- those known by n are those before a number, where the others are known later
     pub known_is : (next : ℕ) → AreKnown a next n → AreLater a next (n + 1) →
         filter (is_by a n) (places (a.bound n)) ≡ filter a.inside (places next)
-    known_is next before behind =
+    known_is next before following =
         let past : (from : ℕ) → AreLater a from (n + 1) → (k : ℕ) → from ≤ k → is_by a n k ≡ false =
         λ from later k above. and_none (a.inside k) (nat_le (a.known k) n)
         (λ here. let late = later k above here in lt-leb (a.known k) n (omega (arith, late))) in
         ranges.filter_enough (is_by a n) (a.bound n) next (past (a.bound n) (o.enough n))
-        (past next behind)
+        (past next following)
         ∙ filter_ext_places (is_by a n) a.inside next
         (λ k below.
         and_first (a.inside k) (nat_le (a.known k) n)
@@ -195,16 +195,16 @@ module _ (a : Arrivals) (o : AreOrdered a) where
 
     part : (b : ℕ) → AreLater a b (n + 1) →
         (next : ℕ) × (AreKnown a next n × AreLater a next (n + 1))
-    part zero behind = (0, (λ k below inside. absurd (omega (arith, below)), behind))
-    part (suc b) behind =
+    part zero following = (0, (λ k below inside. absurd (omega (arith, below)), following))
+    part (suc b) following =
         elim (cases_Bool (is_by a n b)) [
           | inl both ↦
               let w = by_parts a n b both in
-              (suc b, (λ j below. known_with b w.0 w.1 j (omega (arith, below)), behind))
+              (suc b, (λ j below. known_with b w.0 w.1 j (omega (arith, below)), following))
           | inr late ↦ part b
               (λ k above inside.
               elim (cases_lt b k) [
-                | inl past ↦ behind k (omega (arith, past)) inside
+                | inl past ↦ following k (omega (arith, past)) inside
                 | inr most ↦
                     let same : b ≡ k = omega (arith, above, most) in
                     let none : (a.inside k && nat_le (a.known k) n) ≡ false =

@@ -72,7 +72,7 @@ pub use Rattle.traffic_message.specs.declared.multiplex.Mux.{Mux}
 pub use Rattle.viterbi.specs.Codewords.{Codeword, best_codeword}
 pub use Rattle.viterbi.specs.declared.codeword.Ends.TheVariants.{Free}
 pub use Rattle.heard_events.specs.Channels.{channel_stream, offset_of}
-pub use Rattle.heard_events.specs.Events.{events_within, channels, followed_behind, told_behind, told_on}
+pub use Rattle.heard_events.specs.Events.{events_within, channels, followed_after, told_after, told_on}
 unfoldable pub use Rattle.heard_events.specs.Events.{events_at, heard_within}
 pub use Rattle.heard_events.specs.FramesAlone.{reference_alone, traffic_channel}
 pub use Rattle.heard_events.specs.Given.{at_of}
@@ -86,7 +86,7 @@ pub use Rattle.heard_events.specs.Moments.{pilot_strength}
 unfoldable pub use Rattle.heard_events.specs.Moments.{changed, heard_from, kept_to, passed, sets_at, told_by}
 pub use Rattle.heard_events.specs.Near.{IsTuned, low_of}
 pub use Rattle.heard_events.specs.Noted.{all_noted, noted}
-pub use Rattle.heard_events.specs.PagingEvents.{page_event, pages_behind}
+pub use Rattle.heard_events.specs.PagingEvents.{page_event, pages_if_marked}
 unfoldable pub use Rattle.heard_events.specs.PagingEvents.{paging_bits_before, bits_up_to, page_at, pages_at, pages_from}
 pub use Rattle.heard_events.specs.PagingStreams.{paging_bound, paging_stream}
 pub use Rattle.heard_events.specs.Signaling.{message_events, message_heard, signal_of}

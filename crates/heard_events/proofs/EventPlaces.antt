@@ -2,10 +2,10 @@
 use Rattle.heard_events.proofs.Common.{◌≡◌, ℕ, ◌+◌, ◌==◌, ◌||◌, List, [], ◌∷◌, ◌++◌, refl, Option, None, Some, inl, inr, take, All}
 use Rattle.heard_events.proofs.Common.{All-append, All-cons, All-map, All-nil, flat_map, cases_Bool, eqb-true, Sample, Standing, SetChange}
 use Rattle.heard_events.proofs.Common.{events_at, at_of, mark, changed, frames_at, messages_at, heard_from, kept_to, legs_at, moment_events}
-use Rattle.heard_events.proofs.Common.{moment_place, moments_before, passed, sets_at, page_event, pages_behind, signaling_message_at}
+use Rattle.heard_events.proofs.Common.{moment_place, moments_before, passed, sets_at, page_event, pages_if_marked, signaling_message_at}
 use Rattle.heard_events.proofs.Common.{message_events, message_heard, messages_by, known_now, events_of, heard_at, sync_events_at}
 use Rattle.heard_events.proofs.Common.{frames_by, if_followed, frames_now, Tuning, sync_bound, sync_stream, Event, Mark, Traffic}
-use Rattle.heard_events.proofs.Common.{SpelledMessage, SpelledSignal, Channel, Paging, channels, followed_behind, told_behind, told_on}
+use Rattle.heard_events.proofs.Common.{SpelledMessage, SpelledSignal, Channel, Paging, channels, followed_after, told_after, told_on}
 use Rattle.heard_events.specs.TrafficEvents.{frame_heard}
 use Rattle.heard_events.specs.declared.channel.Channel.TheVariants.{Traffic as OnTraffic}
 
@@ -43,11 +43,11 @@ module _ (n : ℕ) where
       ]
 
   -- where a channel may be followed, after a mark that may be set
-  behind_here : {C : Type 0} (heard : C → Mark → List Event) →
+  after_here : {C : Type 0} (heard : C → Mark → List Event) →
       ((c : C) (m : Mark) → AreAt n (heard c m)) → (followed : Option C) (m : Option Mark) →
       AreAt n (if_followed heard followed m)
-  behind_here heard here (Some c) (Some m) = here c m
-  behind_here heard here followed m = All-nil (IsAt n)
+  after_here heard here (Some c) (Some m) = here c m
+  after_here heard here followed m = All-nil (IsAt n)
 
 module _ (t : Tuning) (samples : List Sample) (n : ℕ) where
   sync_here : AreAt n (sync_events_at t samples n)
@@ -90,7 +90,7 @@ module _ (t : Tuning) (samples : List Sample) (n : ℕ) where
 
   channel_here : (c : Channel) (m : Mark) → AreAt n (told_on t samples n c m)
   channel_here (Paging channel) m =
-      All-map (IsAt n) (page_event n) (pages_behind t channel (Some m) samples n) (λ k d below. refl)
+      All-map (IsAt n) (page_event n) (pages_if_marked t channel (Some m) samples n) (λ k d below. refl)
   channel_here (OnTraffic traffic) m =
       let frames = frames_at t traffic m samples n in
       let messages = messages_at t traffic m samples n in
@@ -102,6 +102,6 @@ module _ (t : Tuning) (samples : List Sample) (n : ℕ) where
   unfolding events_at
   all_at =
       let m = mark t samples n in
-      All-append (IsAt n) (sync_events_at t samples n) (followed_behind t m samples n) sync_here
-      (all_each (IsAt n) (λ followed. told_behind t followed m samples n) (channels t)
-      (λ followed. behind_here n (told_on t samples n) channel_here followed m))
+      All-append (IsAt n) (sync_events_at t samples n) (followed_after t m samples n) sync_here
+      (all_each (IsAt n) (λ followed. told_after t followed m samples n) (channels t)
+      (λ followed. after_here n (told_on t samples n) channel_here followed m))

@@ -2,7 +2,7 @@
 use Rattle.heard_events.proofs.Common.{◌≡◌, ℕ, ◌+◌, ◌≤◌, List, [], ◌∷◌, ◌++◌, length, refl, sym, ap, ◌∙◌, arith, map, Option, Some, None}
 use Rattle.heard_events.proofs.Common.{nat_lt, if◌then◌else◌, Sample, events_at, mark, AreNear, moments_before, page_event, sync_events_at}
 use Rattle.heard_events.proofs.Common.{Tuning, sync_stream, Mark, flat_map, flat_map-places-more, heard_within, Channel, Paging, channels}
-use Rattle.heard_events.proofs.Common.{followed_behind, told_behind, told_on}
+use Rattle.heard_events.proofs.Common.{followed_after, told_after, told_on}
 use Rattle.heard_events.specs.declared.channel.Channel.TheVariants.{Traffic as OnTraffic}
 use Rattle.heard_events.proofs.Growth.{IsSyncTimed}
 use Rattle.heard_events.proofs.PageGrowth.{pages_sooner}
@@ -15,10 +15,10 @@ use Rattle.heard_events.proofs.MarkStays as stays
 
 -- after the mark it is what is heard of the channels that are followed from there on
 pub events_at_by : (t : Tuning) (xs : List Sample) (n : ℕ) (m : Option Mark) → mark t xs n ≡ m →
-    events_at t xs n ≡ sync_events_at t xs n ++ followed_behind t m xs n
+    events_at t xs n ≡ sync_events_at t xs n ++ followed_after t m xs n
 unfolding events_at
 events_at_by t xs n m e =
-    ap (λ (x : Option Mark). sync_events_at t xs n ++ followed_behind t x xs n) e
+    ap (λ (x : Option Mark). sync_events_at t xs n ++ followed_after t x xs n) e
 
 each_same : {A X : Type 0} (f g : X → List A) (xs : List X) → ((x : X) → f x ≡ g x) →
     flat_map f xs ≡ flat_map g xs
@@ -40,11 +40,11 @@ module _ (t : Tuning) (low : ℕ) (timed : IsSyncTimed t low)
       let sets = sets_sooner t traffic m xs ys n h in
       rw (kept, first, sets) refl
 
-  behind_sooner : (xs ys : List Sample) (n : ℕ) → n ≤ length xs → (followed : Option Channel)
-      (m : Option Mark) → told_behind t followed m (xs ++ ys) n ≡ told_behind t followed m xs n
-  behind_sooner xs ys n h (Some c) (Some m) = channel_sooner xs ys n h c m
-  behind_sooner xs ys n h (Some c) None = refl
-  behind_sooner xs ys n h None m = refl
+  after_sooner : (xs ys : List Sample) (n : ℕ) → n ≤ length xs → (followed : Option Channel)
+      (m : Option Mark) → told_after t followed m (xs ++ ys) n ≡ told_after t followed m xs n
+  after_sooner xs ys n h (Some c) (Some m) = channel_sooner xs ys n h c m
+  after_sooner xs ys n h (Some c) None = refl
+  after_sooner xs ys n h None m = refl
 
   -- and on all
   pub events_sooner : (xs ys : List Sample) (n : ℕ) → n ≤ length xs →
@@ -53,16 +53,16 @@ module _ (t : Tuning) (low : ℕ) (timed : IsSyncTimed t low)
       let m = mark t xs n in
       events_at_by t (xs ++ ys) n m (stays.mark_sooner t low timed xs ys n h)
       ∙ joined (growth.sync_events_sooner t low timed xs ys n h)
-      (each_same (λ followed. told_behind t followed m (xs ++ ys) n)
-      (λ followed. told_behind t followed m xs n) (channels t)
-      (λ followed. behind_sooner xs ys n h followed m))
+      (each_same (λ followed. told_after t followed m (xs ++ ys) n)
+      (λ followed. told_after t followed m xs n) (channels t)
+      (λ followed. after_sooner xs ys n h followed m))
       ∙ sym (events_at_by t xs n m refl)
 
   -- a mark that is set with the last sample has no channel's frame before it
-  pub behind_before : (xs : List Sample) (n : ℕ) →
-      followed_behind t (mark t xs n) xs (n + 1) ≡ followed_behind t (mark t xs (n + 1)) xs (n + 1)
-  behind_before xs n =
-      stays.by_one_mark t near xs n (n + 1) (n + 1) (λ mark. followed_behind t mark xs (n + 1))
+  pub after_before : (xs : List Sample) (n : ℕ) →
+      followed_after t (mark t xs n) xs (n + 1) ≡ followed_after t (mark t xs (n + 1)) xs (n + 1)
+  after_before xs n =
+      stays.by_one_mark t near xs n (n + 1) (n + 1) (λ mark. followed_after t mark xs (n + 1))
       (omega arith) (omega arith) (stays.all_from_mark t near xs (n + 1))
 
   -- before any sample is taken nothing is heard

@@ -21,13 +21,13 @@ pub things_go : {E : Type 0} (a : Arrivals) (next : ℕ) (gives : List Sample �
     AreKnown a next (length heard) → AreLater a next end →
     GoesOn (λ samples n. gives samples n (now a n))
     (λ samples. gives samples (length samples) (left a next (length samples))) heard end
-things_go a next gives none heard end before behind = record {
+things_go a next gives none heard end before following = record {
   given = λ early. ap (gives heard (length heard))
       (none_left a next (length heard)
-      (λ k above inside e. let later = behind k above inside in omega (arith, later, e, early)))
+      (λ k above inside e. let later = following k above inside in omega (arith, later, e, early)))
       ∙ none heard (length heard);
   quiet = λ more n past less. ap (gives (heard ++ more) n)
-      (none_now a n (none_between a next (length heard) end n before behind past less))
+      (none_now a n (none_between a next (length heard) end n before following past less))
       ∙ none (heard ++ more) n;
   come = λ more some most. let n : ℕ = length (heard ++ more) in
       ap (gives (heard ++ more) n)

@@ -55,9 +55,9 @@ pub mark_is : {low : ℕ} (t : Tuning) → IsSyncTimed t low → (samples : List
     (n next : ℕ) → AreKnown (sync_frames t) next n → AreLater (sync_frames t) next (n + 1) →
     mark t samples n ≡ mark_before t samples next
 unfolding mark mark_before
-mark_is t timed samples n next before behind =
+mark_is t timed samples n next before following =
     ap (λ ks. first_of (flat_map (marks_at t samples) ks))
-    (known_is (sync_frames t) (sync_ordered t timed) n next before behind)
+    (known_is (sync_frames t) (sync_ordered t timed) n next before following)
 
 -- before any sample is taken none is set
 pub none_marked : (t : Tuning) → AreNear (sync_stream t).fingers → mark t [] 0 ≡ None

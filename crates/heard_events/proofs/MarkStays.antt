@@ -4,10 +4,10 @@ use Rattle.heard_events.proofs.Common.{subst, arith, inl, inr, nat_lt, Option, S
 use Rattle.heard_events.proofs.Common.{and_parts, and_from, cases_Bool, cases_lt, eq-eqb, ne_eqb, new_standing, places, Sample, Finger}
 use Rattle.heard_events.proofs.Common.{Data, AreClose, all_fingers, legs_of, pilot_finger, first_of, mark, mark_before, marks_at, frames_at}
 use Rattle.heard_events.proofs.Common.{kept_to, legs_at, legs_by, messages_at, moment_place, moments_before, sets_at, AreNear, all_near}
-use Rattle.heard_events.proofs.Common.{has_reference, low_in, pages_at, pages_behind, paging_stream, frame_start, is_in_file, known_at}
+use Rattle.heard_events.proofs.Common.{has_reference, low_in, pages_at, pages_if_marked, paging_stream, frame_start, is_in_file, known_at}
 use Rattle.heard_events.proofs.Common.{IsTimed, stream_end, if_followed, frame_known, Tuning, fingers_of, sync_bound, sync_stream, Event}
 use Rattle.heard_events.proofs.Common.{Leg, Mark, Traffic, frames_by, map, message_heard, messages_by, option_or, page_event, if◌then◌else◌}
-use Rattle.heard_events.proofs.Common.{Channel, Paging, channels, followed_behind, told_behind, told_on}
+use Rattle.heard_events.proofs.Common.{Channel, Paging, channels, followed_after, told_after, told_on}
 use Rattle.std.specs.List.{filter}
 use Rattle.heard_events.specs.declared.channel.Channel.TheVariants.{Traffic as OnTraffic}
 use Rattle.heard_events.specs.TrafficEvents.{frame_heard}
@@ -115,9 +115,9 @@ module _ (t : Tuning) (low : ℕ) (timed : IsSyncTimed t low) where
       absurd (cc)
 
   -- It lies after the samples within which it isn't set yet.
-  pub mark_behind : AreNear (sync_stream t).fingers → (samples : List Sample) (n n' : ℕ)
+  pub mark_after : AreNear (sync_stream t).fingers → (samples : List Sample) (n n' : ℕ)
       (m : Mark) → mark t samples n ≡ None → mark t samples n' ≡ Some m → n < m.sample
-  mark_behind near samples n n' m none h =
+  mark_after near samples n n' m none h =
       let (k, set) = mark_set t samples n' m h in
       let later = mark_later t samples k low near timed set.inside m set.sets in
       elim (cases_lt n (sync_known t k)) [
@@ -127,20 +127,20 @@ module _ (t : Tuning) (low : ℕ) (timed : IsSyncTimed t low) where
 
 -- WHAT A MARK OPENS
 -- what is told after a mark that may be set, of samples that don't reach it: nothing
-pub record OpensBehind {E : Type 0} (n : ℕ) (heard : Option Mark → List E) : Type 0 where
+pub record OpensAfter {E : Type 0} (n : ℕ) (heard : Option Mark → List E) : Type 0 where
   pub unset : heard None ≡ []
   pub early : (m : Mark) → n ≤ m.sample → heard (Some m) ≡ []
 
 -- so it is of a channel that may be followed,
 pub opens_followed : {C : Type 0} {n : ℕ} (heard : C → Mark → List Event) →
     ((c : C) (m : Mark) → n ≤ m.sample → heard c m ≡ []) → (followed : Option C) →
-    OpensBehind n (if_followed heard followed)
+    OpensAfter n (if_followed heard followed)
 opens_followed heard none None = record { unset = refl; early = λ m before. refl }
 opens_followed heard none (Some c) = record { unset = refl; early = none c }
 
 -- and of several
 opens_each : {E X : Type 0} {n : ℕ} (heard : X → Option Mark → List E) (xs : List X) →
-    ((x : X) → OpensBehind n (heard x)) → OpensBehind n (λ mark. flat_map (λ x. heard x mark) xs)
+    ((x : X) → OpensAfter n (heard x)) → OpensAfter n (λ mark. flat_map (λ x. heard x mark) xs)
 opens_each heard [] opens = record { unset = refl; early = λ m before. refl }
 opens_each heard (x ∷ xs) opens =
     let rest = opens_each heard xs opens in
@@ -152,7 +152,7 @@ opens_each heard (x ∷ xs) opens =
 -- What is heard at n samples, or at the next one, is told by any later mark.
 pub by_one_mark : {E : Type 0} (t : Tuning) → AreNear (sync_stream t).fingers →
     (samples : List Sample) (n n' at' : ℕ) (heard : Option Mark → List E) → n ≤ n' →
-    at' ≤ n + 1 → OpensBehind at' heard → heard (mark t samples n) ≡ heard (mark t samples n')
+    at' ≤ n + 1 → OpensAfter at' heard → heard (mark t samples n) ≡ heard (mark t samples n')
 by_one_mark t near samples n n' at' heard more here opens =
     by_marks (mark t samples n) (mark t samples n') refl refl
   where
@@ -162,7 +162,7 @@ by_one_mark t near samples n n' at' heard more here opens =
         ap heard (sym (mark_stays t _ (timed_of t near) samples n n' m more e) ∙ e')
     by_marks None None e e' = refl
     by_marks None (Some m) e e' =
-        let before = mark_behind t _ (timed_of t near) near samples n n' m e e' in
+        let before = mark_after t _ (timed_of t near) near samples n n' m e e' in
         opens.unset ∙ sym (opens.early m (omega (arith, here, before)))
 
 -- PAGING CHANNELS
@@ -217,7 +217,7 @@ module _ (t : Tuning) (near : AreNear (sync_stream t).fingers) (channel : ℕ) w
   unrated false pages none = refl
 
   pub pages_from_mark : (samples : List Sample) (n : ℕ) →
-      OpensBehind n (λ mark. pages_behind t channel mark samples n)
+      OpensAfter n (λ mark. pages_if_marked t channel mark samples n)
   pages_from_mark samples n = record {
     unset = refl;
     early = λ m before.
@@ -294,7 +294,7 @@ module _ (t : Tuning) (near : AreNear (sync_stream t).fingers) (samples : List S
       (joined (frames_later t near traffic m samples n before) (messages_later t near traffic m samples n before))
       (sets_later t near traffic m samples n before)
 
-  pub all_from_mark : OpensBehind n (λ mark. followed_behind t mark samples n)
+  pub all_from_mark : OpensAfter n (λ mark. followed_after t mark samples n)
   all_from_mark =
-      opens_each (λ followed mark. told_behind t followed mark samples n) (channels t)
+      opens_each (λ followed mark. told_after t followed mark samples n) (channels t)
       (opens_followed (told_on t samples n) channel_later)

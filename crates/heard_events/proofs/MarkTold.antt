@@ -3,7 +3,7 @@ use Rattle.heard_events.proofs.Common.{◌≡◌, ℕ, zero, suc, ◌+◌, ◌-�
 use Rattle.heard_events.proofs.Common.{◌∙◌, arith, inl, inr, nat_le, ◌==◌, ◌&&◌, Some, is_some, flat_map, list_all, list_any}
 use Rattle.heard_events.proofs.Common.{range_with_len, and_from, and_parts, cases_Bool, cases_lt, eq-eqb, le-leb, or_cases, or_left}
 use Rattle.heard_events.proofs.Common.{or_right, list_all-append, list_any-append, flat_map-places-more, places, Sample, events_at}
-use Rattle.heard_events.proofs.Common.{All-head, All-tail, followed_behind, heard_within, mark, at_of, first_of}
+use Rattle.heard_events.proofs.Common.{All-head, All-tail, followed_after, heard_within, mark, at_of, first_of}
 use Rattle.heard_events.proofs.Common.{frames_open, marks_at, sets_mark, frame_start, events_of, heard_at, sync_events_at, Tuning}
 use Rattle.heard_events.proofs.Common.{sync_bound, sync_stream, Event, Mark, Option, None, marks_of, SpelledMessage}
 use Rattle.std.specs.List.{filter}
@@ -61,13 +61,13 @@ first_part p q [] (y ∷ ys) later zs e none all some same =
 first_part p q (x ∷ xs) (y ∷ ys) later zs e none all some same =
     let same' : x ∷ (xs ++ e ∷ zs) ≡ y ∷ (ys ++ later) = same in
     let first : x ≡ y = cc in
-    let behind : xs ++ e ∷ zs ≡ ys ++ later = cc in
+    let following : xs ++ e ∷ zs ≡ ys ++ later = cc in
     let rest = (and_parts (p y) (list_all p ys) all).1 in
     elim (or_cases (q y) (list_any q ys) some) [
       | inl here ↦ or_left (q x) (list_any q xs) (ap q first ∙ here)
       | inr there ↦
           or_right (q x) (list_any q xs)
-          (first_part p q xs ys later zs e none rest there behind)
+          (first_part p q xs ys later zs e none rest there following)
     ]
 
 -- EVENTS
@@ -133,7 +133,7 @@ module _ (t : Tuning) (samples : List Sample) (k low : ℕ) (timed : IsSyncTimed
   among =
       let n : ℕ = sync_known t k in
       let sync = sync_events_at t samples n in
-      let others = followed_behind t (mark t samples n) samples n in
+      let others = followed_after t (mark t samples n) samples n in
       list_any-append sets_mark sync others
       ∙ or_left (list_any sets_mark sync) (list_any sets_mark others) among_sync
 

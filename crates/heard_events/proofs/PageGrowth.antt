@@ -57,10 +57,10 @@ module _ (t : Tuning) (channel : ℕ) (m : Mark) (heard : List Sample) (k i : �
       ap (λ (n : ℕ). flat_map of_bit (range_with_len i n)) more
 
   -- after the last bit there are none
-  pub pages_behind_last : length (frame_own_bits t.count heard (paging_stream t channel m) k) ≤ i →
+  pub pages_after_last : length (frame_own_bits t.count heard (paging_stream t channel m) k) ≤ i →
       pages_from t channel m heard k i ≡ []
   unfolding pages_from
-  pages_behind_last above =
+  pages_after_last above =
       let none : size - i ≡ 0 = omega arith in
       ap (λ (n : ℕ). flat_map of_bit (range_with_len i n)) none
 
@@ -86,10 +86,10 @@ module _ (t : Tuning) (channel : ℕ) (m : Mark) where
       AreLater (page_frames t channel m) next end →
       GoesOn (pages_at t channel m) (λ xs. pages_left t channel m xs next 0) heard end
   unfolding pages_at
-  pages_go next heard end before behind =
+  pages_go next heard end before following =
       goes_as
       (things_go frames next (λ xs n. flat_map (λ k. pages_from t channel m xs k 0)) (λ xs n. refl)
-      heard end before behind) (λ xs n. refl) (λ xs. left_whole xs next)
+      heard end before following) (λ xs n. refl) (λ xs. left_whole xs next)
 
   -- where no frame is known just now, there is no message
   pub pages_none : (xs : List Sample) (n : ℕ) → NoneNow (page_frames t channel m) n →

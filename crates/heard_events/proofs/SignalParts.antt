@@ -30,11 +30,11 @@ full_long bits long =
     let size : ℕ = primary_bits tm1 tm0 in
     let most = primary_most tm1 tm0 in
     let rest = length-drop 4 bits in
-    let behind = length-drop size (drop 4 bits) in
+    let following = length-drop size (drop 4 bits) in
     cond_both (get_or bits 0 false) _ _ (λ (m : Mux). IsLongSignal m.signal)
     (λ _.
     cond_both (get_or bits 1 false) None (Some (drop size (drop 4 bits))) IsLongSignal (λ _. tt)
-    (λ _. omega (arith, long, most, rest, behind)))
+    (λ _. omega (arith, long, most, rest, following)))
     (λ _. tt)
 
 pub signal_long : (rate : Rate) (bits : List Bool) → length bits ≡ information_of rate →

@@ -1,7 +1,7 @@
 -- How the frames of a traffic channel and the messages that they complete grow with a file's samples.
 use Rattle.heard_events.proofs.Common.{◌≡◌, ℕ, zero, suc, ◌+◌, ◌<◌, ◌≤◌, true, List, [], ◌∷◌, ◌++◌, length, refl, arith, Some, map, ap, ◌∙◌}
 use Rattle.heard_events.proofs.Common.{append-nil, take, flat_map, places, Sample, Standing, heard_from, legs_by, moment_place, told_by}
-use Rattle.heard_events.proofs.Common.{all_noted, page_event, pages_behind, messages_by, frames_by, frames_left_of, messages_left_of}
+use Rattle.heard_events.proofs.Common.{all_noted, page_event, pages_if_marked, messages_by, frames_by, frames_left_of, messages_left_of}
 use Rattle.heard_events.proofs.Common.{frame_known, has_frame, Tuning, Event, Leg, Mark, Traffic, flat_map-places-more, flat_map_ext_places}
 use Rattle.heard_events.proofs.Common.{sym, ends_now, frames_bound, message_events, message_heard, map_ext_filter_places, ℤ, power_bit}
 use Rattle.heard_events.proofs.Common.{decoded, group_sums, Data, all_fingers, on_subchannel, subchannels, unscrambled, power_bits_at}
@@ -194,7 +194,7 @@ last_piece f g a (suc d) same none =
 pub told_is : (t : Tuning) (traffic : Traffic) (m : Mark) (legs : ℕ → List Leg)
     (samples : List Sample) (n : ℕ) →
     told_by t traffic m legs samples n
-    ≡ map (page_event n) (pages_behind t t.paging (Some m) (take n samples) n)
+    ≡ map (page_event n) (pages_if_marked t t.paging (Some m) (take n samples) n)
     ++ told_at t traffic m legs (take n samples) n
 unfolding told_by
 told_is t traffic m legs samples n = refl

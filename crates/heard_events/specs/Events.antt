@@ -6,7 +6,7 @@ use Rattle.chip_core.specs.Bits.{places}
 use Rattle.chip_core.specs.declared.sample.Sample.{Sample}
 use Rattle.heard_events.specs.Marks.{mark}
 use Rattle.heard_events.specs.Moments.{frames_at, messages_at, sets_at}
-use Rattle.heard_events.specs.PagingEvents.{page_event, pages_behind}
+use Rattle.heard_events.specs.PagingEvents.{page_event, pages_if_marked}
 use Rattle.heard_events.specs.SyncEvents.{sync_events_at}
 use Rattle.heard_events.specs.TrafficEvents.{if_followed}
 use Rattle.heard_events.specs.Tuning.{Tuning}
@@ -21,29 +21,29 @@ use Rattle.heard_events.specs.declared.mark.Mark.{Mark}
 -- come first, then the messages that they complete, then the event of the pilot sets.
 abbrev pub told_on : Tuning → List Sample → ℕ → Channel → Mark → List Event
 told_on t samples n (Paging channel) m =
-    map (page_event n) (pages_behind t channel (Some m) samples n)
+    map (page_event n) (pages_if_marked t channel (Some m) samples n)
 told_on t samples n (Traffic traffic) m =
     (frames_at t traffic m samples n ++ messages_at t traffic m samples n)
     ++ sets_at t traffic m samples n
 
 -- the same where a channel may be followed, after a mark that may be set
-abbrev pub told_behind : Tuning → Option Channel → Option Mark → List Sample → ℕ → List Event
-told_behind t followed mark samples n = if_followed (told_on t samples n) followed mark
+abbrev pub told_after : Tuning → Option Channel → Option Mark → List Sample → ℕ → List Event
+told_after t followed mark samples n = if_followed (told_on t samples n) followed mark
 
 -- the channels that may be followed, in the order in which they are told
 abbrev pub channels : Tuning → List (Option Channel)
 channels t = Some (Paging t.paging) ∷ option_map Traffic t.traffic ∷ []
 
 -- what is heard on all of them
-abbrev pub followed_behind : Tuning → Option Mark → List Sample → ℕ → List Event
-followed_behind t mark samples n =
-    flat_map (λ followed. told_behind t followed mark samples n) (channels t)
+abbrev pub followed_after : Tuning → Option Mark → List Sample → ℕ → List Event
+followed_after t mark samples n =
+    flat_map (λ followed. told_after t followed mark samples n) (channels t)
 
 -- ALL CHANNELS
 -- All that are heard when just n samples have been taken: those of the sync channel come first.
 unfoldable pub events_at : Tuning → List Sample → ℕ → List Event
 events_at t samples n =
-    sync_events_at t samples n ++ followed_behind t (mark t samples n) samples n
+    sync_events_at t samples n ++ followed_after t (mark t samples n) samples n
 
 -- those that are heard within the first n samples, in order
 unfoldable pub heard_within : Tuning → List Sample → ℕ → List Event

@@ -15,10 +15,10 @@ use Rattle.rake_finger.specs.Strengths as measured
 use Rattle.rake_finger.specs.Strengths.{sample_power, samples_before, strength_before}
 use Rattle.heard_events.specs.Legs.{legs_of, pilot_phase}
 use Rattle.heard_events.specs.Noted.{all_noted}
-use Rattle.heard_events.specs.PagingEvents.{page_event, pages_behind}
+use Rattle.heard_events.specs.PagingEvents.{page_event, pages_if_marked}
 use Rattle.heard_events.specs.Signaling.{messages_by}
 use Rattle.heard_events.specs.TrafficEvents.{frames_by}
-use Rattle.heard_events.specs.TrafficStreams.{chips_behind}
+use Rattle.heard_events.specs.TrafficStreams.{chips_after}
 use Rattle.heard_events.specs.Tuning.{Tuning}
 use Rattle.heard_events.specs.declared.event.Event.{Event}
 use Rattle.heard_events.specs.declared.event.Event.TheVariants.{Sets}
@@ -77,7 +77,7 @@ moment_events m j change s =
 -- FROM MOMENT TO MOMENT
 -- the last moment at or before the first sample of frame k
 abbrev pub moment_of : Traffic → ℕ → ℕ
-moment_of traffic k = chips_behind traffic k / superframe_chips
+moment_of traffic k = chips_after traffic k / superframe_chips
 
 -- the active pilots of each frame, from what is kept after each moment
 abbrev pub legs_by : Traffic → Mark → (ℕ → Standing) → ℕ → List Leg
@@ -87,7 +87,7 @@ legs_by traffic m kept k = legs_of m (kept (moment_of traffic k))
 unfoldable pub told_by : Tuning → Traffic → Mark → (ℕ → List Leg) → List Sample → ℕ → List Event
 told_by t traffic m legs samples n =
     let first = take n samples in
-    map (page_event n) (pages_behind t t.paging (Some m) first n)
+    map (page_event n) (pages_if_marked t t.paging (Some m) first n)
     ++ (frames_by t traffic m legs first n ++ messages_by t traffic m legs first n)
 
 -- the sets with what is heard after moment j, over so many samples

@@ -58,9 +58,9 @@ pages_at t channel m samples n =
     (known_now t.count (paging_stream t channel m) n (paging_bound n))
 
 -- the same after a mark that may be set; with the values 2 and 3 of PRAT no channel is heard
-abbrev pub pages_behind : Tuning → ℕ → Option Mark → List Sample → ℕ → List SpelledPage
-pages_behind t channel None samples n = []
-pages_behind t channel (Some m) samples n =
+abbrev pub pages_if_marked : Tuning → ℕ → Option Mark → List Sample → ℕ → List SpelledPage
+pages_if_marked t channel None samples n = []
+pages_if_marked t channel (Some m) samples n =
     if nat_lt m.prat 2 then pages_at t channel m samples n else []
 
 -- the event of a message that is known at n samples

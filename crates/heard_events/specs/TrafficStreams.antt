@@ -17,12 +17,12 @@ use Rattle.heard_events.specs.declared.mark.Mark.{Mark}
 use Rattle.chip_core.specs.declared.assignment.Traffic.{Traffic}
 
 -- how many chips after the mark frame k begins: the channel's offset is in units of 1,536 chips
-abbrev pub chips_behind : Traffic → ℕ → ℕ
-chips_behind traffic k = frame_offset_chips * traffic.offset + data_frame_chips * k
+abbrev pub chips_after : Traffic → ℕ → ℕ
+chips_after traffic k = frame_offset_chips * traffic.offset + data_frame_chips * k
 
 -- the long code's state at the first chip of frame k
 abbrev pub frame_state : Traffic → Mark → ℕ → ℕ
-frame_state traffic m k = after m.state (chips_behind traffic k)
+frame_state traffic m k = after m.state (chips_after traffic k)
 
 -- Frame 0 begins at the channel's offset after the mark. A frame is encoded on its own, and so
 -- doesn't wait for the one after it. At 9,600 bits a second it has as many bits and symbols as one

@@ -14,11 +14,11 @@ use Rattle.traffic_message.specs.Multiplex.{split, split_9600}
 use Rattle.traffic_message.specs.declared.body.TrafficBody.TheVariants as bodies
 use Rattle.heard_events.specs.Marks.{marks_of, frames_with}
 use Rattle.heard_events.specs.Legs.{all_fingers, legs_of, subchannels}
-use Rattle.heard_events.specs.Events.{told_behind}
+use Rattle.heard_events.specs.Events.{told_after}
 use Rattle.heard_events.specs.Moments.{moment_of, moments_before}
 use Rattle.heard_events.specs.Near.{low_of}
 use Rattle.heard_events.specs.Noted.{body_noted, moment_from, page_noted}
-use Rattle.heard_events.specs.PagingEvents.{pages_behind}
+use Rattle.heard_events.specs.PagingEvents.{pages_if_marked}
 use Rattle.heard_events.specs.PagingStreams.{paging_stream}
 use Rattle.heard_events.specs.Signaling.{signal_of}
 use Rattle.rake_finger.specs.Streams.{is_in_file, known_at, span_frames}
@@ -59,8 +59,8 @@ seventh_late = refl
 last_span : span_frames 1228800 (sync_stream alone) 35 ≡ 2
 last_span = refl
 
-none_behind : is_in_file 1228800 (sync_stream alone) 36 ≡ false
-none_behind = refl
+none_past_end : is_in_file 1228800 (sync_stream alone) 36 ≡ false
+none_past_end = refl
 
 -- a path that comes earlier than the file begins has no frame 0
 first_frame : low_of (tuned 0 (pos 0 ∷ pos 1 ∷ [])) ≡ 1
@@ -123,7 +123,7 @@ no_page = refl
 half_rate : (pages_of 1).channel.bits ≡ 96
 half_rate = refl
 
-no_rate : pages_behind alone 1 (Some (paged 2)) [] 0 ≡ []
+no_rate : pages_if_marked alone 1 (Some (paged 2)) [] 0 ≡ []
 no_rate = refl
 
 -- A TRAFFIC CHANNEL
@@ -143,7 +143,7 @@ no_frame : is_in_file 1228800 (worked_frames 0) 21 ≡ false
 no_frame = refl
 
 -- nothing is heard where no channel is assigned
-unassigned : told_behind alone None (Some (paged 0)) [] 0 ≡ []
+unassigned : told_after alone None (Some (paged 0)) [] 0 ≡ []
 unassigned = refl
 
 -- a frame of 9,600 bits a second, of which MM and TT are told, and all after them is other traffic

@@ -24,8 +24,8 @@ pub(crate) fn pilot_phase(mark: &Mark, pilot: u16, delta: i16) -> Phase
     requires { IsSoundMark mark.now }
     ensures { result ≡ pilot_phase mark.now pilot delta }
 {
-    let behind = OFFSET_CHIPS * u64::from(pilot) + mark.sample;
-    phase_of(i64::from(delta) - behind as i64)
+    let following = OFFSET_CHIPS * u64::from(pilot) + mark.sample;
+    phase_of(i64::from(delta) - following as i64)
 }
 
 /// The phase at a number of chips, which may lie before the code's first chip or after its last.

@@ -13,7 +13,7 @@ use Rattle.std.proofs.lemmas.Str.Parse.{IsNumeralModel, numerals_by_fold}
 use Rattle.std.proofs.lemmas.Fmt.{decimal-digits_value, digits_decimal, digits_value-decimal, decimal_nonempty, first_decimal}
 use Rattle.std.proofs.lemmas.Fmt.{length-decimal-le}
 use Rattle.chip_core.specs.Decimals.{digits_from}
-use Rattle.line_text.specs.StatedValues.{text_after, is_plain, negative, number_in, number_up_to, positive, signed_behind, signed_in}
+use Rattle.line_text.specs.StatedValues.{text_after, is_plain, negative, number_in, number_up_to, positive, signed_after, signed_in}
 use Rattle.line_text.specs.StatedValues.{up_to}
 
 -- the value of digits after a number
@@ -164,11 +164,11 @@ signed_in-minus digits = refl
 signed_in-other : (text : List ℕ) → text_after (codes "-") text ≡ None →
     signed_in text ≡ option_and_then positive (number_up_to 32767 text)
 unfolding signed_in
-signed_in-other text none = ap (signed_behind text) none
+signed_in-other text none = ap (signed_after text) none
 
-behind-other : (byte : ℕ) (bytes : List ℕ) → (byte == 45) ≡ false →
+following-other : (byte : ℕ) (bytes : List ℕ) → (byte == 45) ≡ false →
     text_after (codes "-") (byte ∷ bytes) ≡ None
-behind-other byte bytes other = rw other refl
+following-other byte bytes other = rw other refl
 
 abbrev Spells : List ℕ → ℤ → Type 0
 Spells text z = (text ≡ signed_decimal z) × FitsSigned w16 z
@@ -208,7 +208,7 @@ signed_told byte bytes z true minus some =
     (sym (signed_in-minus bytes) ∙ some_minus))
 signed_told byte bytes z false other some =
     positive_told (byte ∷ bytes) z (number_up_to 32767 (byte ∷ bytes)) refl
-    (sym (signed_in-other (byte ∷ bytes) (behind-other byte bytes other)) ∙ some)
+    (sym (signed_in-other (byte ∷ bytes) (following-other byte bytes other)) ∙ some)
 
 signed_spelled : (text : List ℕ) (z : ℤ) → signed_in text ≡ Some z → Spells text z
 signed_spelled [] z some =
@@ -220,7 +220,7 @@ no_minus_byte : (byte : ℕ) (bytes : List ℕ) (minus : Bool) → (byte == 45) 
 no_minus_byte byte bytes true minus are =
     let is : byte ≡ 45 = eqb-true byte 45 minus in
     absurd (false≢true (ap (λ (b : ℕ). all_ascii_digits (b ∷ bytes)) (sym is) ∙ are))
-no_minus_byte byte bytes false other are = behind-other byte bytes other
+no_minus_byte byte bytes false other are = following-other byte bytes other
 
 no_minus : (text : List ℕ) → all_ascii_digits text ≡ true → text_after (codes "-") text ≡ None
 no_minus [] are = refl

@@ -8,7 +8,7 @@ use Rattle.std.proofs.lemmas.List.{at_drop_more, drop_all, take_all, take_more_s
 use Rattle.std.proofs.Math.Nat.{pow-le-pow_right, pow-suc}
 use Rattle.chip_core.specs.Bits.{binary}
 use Rattle.chip_core.proofs.FieldLists.{length-binary}
-use Rattle.line_text.specs.StatedValues.{all_clear, binary_digit, power_bits_in, digits_behind, hex_digit, hex_from, length_before}
+use Rattle.line_text.specs.StatedValues.{all_clear, binary_digit, power_bits_in, digits_after, hex_digit, hex_from, length_before}
 
 -- ---- before a mark
 
@@ -158,52 +158,52 @@ set_bit bits from k inside set before =
 
 digits-bit : (bits : List Bool) (digit : ℕ) (bit : Bool) (digits : List ℕ) →
     binary_digit digit ≡ Some bit →
-    digits_behind bits (digit ∷ digits) ≡ digits_behind (bits ++ bit ∷ []) digits
-unfolding digits_behind
+    digits_after bits (digit ∷ digits) ≡ digits_after (bits ++ bit ∷ []) digits
+unfolding digits_after
 digits-bit bits digit bit digits is =
-    ap (option_and_then (λ (b : Bool). digits_behind (bits ++ b ∷ []) digits)) is
+    ap (option_and_then (λ (b : Bool). digits_after (bits ++ b ∷ []) digits)) is
 
 digits-other : (bits : List Bool) (digit : ℕ) (digits : List ℕ) → binary_digit digit ≡ None →
-    digits_behind bits (digit ∷ digits) ≡ None
-unfolding digits_behind
+    digits_after bits (digit ∷ digits) ≡ None
+unfolding digits_after
 digits-other bits digit digits is =
-    ap (option_and_then (λ (b : Bool). digits_behind (bits ++ b ∷ []) digits)) is
+    ap (option_and_then (λ (b : Bool). digits_after (bits ++ b ∷ []) digits)) is
 
-digits-none : (bits : List Bool) → digits_behind bits [] ≡ Some bits
-unfolding digits_behind
+digits-none : (bits : List Bool) → digits_after bits [] ≡ Some bits
+unfolding digits_after
 digits-none bits = refl
 
 -- the bits of the digits before the next one
 abbrev pub AreBits : List ℕ → List Bool → ℕ → Type 0
-AreBits text bits k = digits_behind [] text ≡ digits_behind (take k bits) (drop k text)
+AreBits text bits k = digits_after [] text ≡ digits_after (take k bits) (drop k text)
 
 pub digit_read : (text : List ℕ) (bits : List Bool) (k : ℕ) (bit : Bool) → k < length text →
     k < length bits → binary_digit (get_or text k 0) ≡ Some bit → AreBits text bits k →
     AreBits text (set bits k bit) (k + 1)
 digit_read text bits k bit inside room is before =
     before
-    ∙ at_drop_more (digits_behind (take k bits)) text k 0 inside
+    ∙ at_drop_more (digits_after (take k bits)) text k 0 inside
     ∙ digits-bit (take k bits) (get_or text k 0) bit (drop (k + 1) text) is
-    ∙ ap (λ (bs : List Bool). digits_behind bs (drop (k + 1) text))
+    ∙ ap (λ (bs : List Bool). digits_after bs (drop (k + 1) text))
     (sym (take_more_set bits k bit room))
 
 pub digit_missing : (text : List ℕ) (bits : List Bool) (k : ℕ) → k < length text →
-    binary_digit (get_or text k 0) ≡ None → AreBits text bits k → digits_behind [] text ≡ None
+    binary_digit (get_or text k 0) ≡ None → AreBits text bits k → digits_after [] text ≡ None
 digit_missing text bits k inside is before =
     before
-    ∙ at_drop_more (digits_behind (take k bits)) text k 0 inside
+    ∙ at_drop_more (digits_after (take k bits)) text k 0 inside
     ∙ digits-other (take k bits) (get_or text k 0) (drop (k + 1) text) is
 
 pub digits_read : (text : List ℕ) (bits : List Bool) (k : ℕ) → length text ≤ k →
-    length bits ≤ k → AreBits text bits k → digits_behind [] text ≡ Some bits
+    length bits ≤ k → AreBits text bits k → digits_after [] text ≡ Some bits
 digits_read text bits k past all before =
     before
-    ∙ ap (digits_behind (take k bits)) (drop_all k text past)
+    ∙ ap (digits_after (take k bits)) (drop_all k text past)
     ∙ digits-none (take k bits)
     ∙ ap Some (take_all k bits all)
 
 -- a text of sixteen digits, and another one
-pub sixteen : (text : List ℕ) → length text ≡ 16 → power_bits_in text ≡ digits_behind [] text
+pub sixteen : (text : List ℕ) → length text ≡ 16 → power_bits_in text ≡ digits_after [] text
 unfolding power_bits_in
 sixteen text long = cond-true _ _ _ (eq-eqb (length text) 16 long)
 

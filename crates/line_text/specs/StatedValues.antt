@@ -50,12 +50,12 @@ negative size = if size == 0 then None else Some (neg_ℤ (pos size))
 abbrev pub positive : ℕ → Option ℤ
 positive size = Some (pos size)
 
-abbrev pub signed_behind : List ℕ → Option (List ℕ) → Option ℤ
-signed_behind text None = option_and_then positive (number_up_to 32767 text)
-signed_behind text (Some digits) = option_and_then negative (number_up_to 32768 digits)
+abbrev pub signed_after : List ℕ → Option (List ℕ) → Option ℤ
+signed_after text None = option_and_then positive (number_up_to 32767 text)
+signed_after text (Some digits) = option_and_then negative (number_up_to 32768 digits)
 
 unfoldable pub signed_in : List ℕ → Option ℤ
-signed_in text = signed_behind text (text_after (codes "-") text)
+signed_in text = signed_after text (text_after (codes "-") text)
 
 -- ---- states of the long code
 
@@ -120,11 +120,11 @@ abbrev pub binary_digit : ℕ → Option Bool
 binary_digit byte = if byte == 48 then Some false else (if byte == 49 then Some true else None)
 
 -- bits and after them those that digits are
-unfoldable pub digits_behind : List Bool → List ℕ → Option (List Bool)
-digits_behind bits [] = Some bits
-digits_behind bits (digit ∷ digits) =
-    option_and_then (λ bit. digits_behind (bits ++ bit ∷ []) digits) (binary_digit digit)
+unfoldable pub digits_after : List Bool → List ℕ → Option (List Bool)
+digits_after bits [] = Some bits
+digits_after bits (digit ∷ digits) =
+    option_and_then (λ bit. digits_after (bits ++ bit ∷ []) digits) (binary_digit digit)
 
 -- the bits of sixteen digits
 unfoldable pub power_bits_in : List ℕ → Option (List Bool)
-power_bits_in text = if length text == 16 then digits_behind [] text else None
+power_bits_in text = if length text == 16 then digits_after [] text else None

@@ -138,18 +138,18 @@ firsts_of score Kind (suc k) [] h = λ w is. ⊎_elim (λ c. let b = c.1 in omeg
     (λ out. let e = out.0 in omega (arith, e)) (h.rest w is)
 firsts_of score Kind zero (w ∷ ws) h = let m = h.most in absurd (omega (arith, m))
 firsts_of score Kind (suc k) (w ∷ ws) h =
-    let behind = pairs_head score w ws h.order in (
+    let following = pairs_head score w ws h.order in (
       record {
         kind = All-head Kind w ws h.kind;
         first = λ v is. ⊎_elim
-            (λ c. ⊎_elim (λ e. inl e) (λ c'. inr (All-contains (IsBetter score w) ws v behind c'))
+            (λ c. ⊎_elim (λ e. inl e) (λ c'. inr (All-contains (IsBetter score w) ws v following c'))
             (contains_parts w v ws c))
             (λ out. inr (All-head (λ u. IsBetter score u v) w ws out.1))
             (h.rest v is);
       },
       firsts_of score (After score w Kind) k ws (record {
         most = let m = h.most in omega (arith, m);
-        kind = λ i d b. (All-tail Kind w ws h.kind i d b, behind i d b);
+        kind = λ i d b. (All-tail Kind w ws h.kind i d b, following i d b);
         order = pairs_tail score w ws h.order;
         rest = λ v a. ⊎_elim
             (λ c. ⊎_elim (λ e. absurd (not_self score w (subst (IsBetter score w) e a.1)))

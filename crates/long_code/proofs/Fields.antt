@@ -29,13 +29,13 @@ zeros : (w : ℕ) → replicate w false ≡ binary w 0
 unfolding binary
 zeros w = sym (all_zero w)
   where
-    one_behind : (w : ℕ) → replicate w false ++ false ∷ [] ≡ replicate (suc w) false
-    one_behind zero = refl
-    one_behind (suc w) = ap (λ (r : List Bool). false ∷ r) (one_behind w)
+    one_after : (w : ℕ) → replicate w false ++ false ∷ [] ≡ replicate (suc w) false
+    one_after zero = refl
+    one_after (suc w) = ap (λ (r : List Bool). false ∷ r) (one_after w)
 
     all_zero : (w : ℕ) → binary w 0 ≡ replicate w false
     all_zero zero = refl
-    all_zero (suc w) = ap (λ (r : List Bool). r ++ false ∷ []) (all_zero w) ∙ one_behind w
+    all_zero (suc w) = ap (λ (r : List Bool). r ++ false ∷ []) (all_zero w) ∙ one_after w
 
 pub paging_mask_is : (channel pilot : ℕ) → channel < 8 → pilot < 512 →
     paging_mask channel pilot ≡ (203168 * 8 + channel) * 2097152 + pilot

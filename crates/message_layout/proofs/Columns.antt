@@ -137,12 +137,12 @@ records_there ws (suc n) bits few room =
     ∙ ap (λ (t : List (List ℕ)). row ++ record_fields ws n t) (columns_tail ws n bits) in
     let last = drop (suc n * size) bits in
     let place : size + n * size ≡ suc n * size = omega (arith, next) in
-    let behind : drop size bits ≡ spelled others ++ last =
+    let following : drop size bits ≡ spelled others ++ last =
     more.1 ∙ ap (λ (r : List Bool). spelled others ++ r)
     (dropped (n * size) size bits ∙ ap (λ (k : ℕ). drop k bits) place) in
     subst (λ (fs : List Field). FieldsFit fs × (bits ≡ spelled fs ++ last)) (sym fields) (
       fit_append row others one.1 more.0,
-      one.2 ∙ ap (λ (r : List Bool). spelled row ++ r) behind
+      one.2 ∙ ap (λ (r : List Bool). spelled row ++ r) following
           ∙ sym (append_assoc (spelled row) (spelled others) last)
           ∙ ap (λ (r : List Bool). r ++ last) (sym (spelled-append row others)),
     )
@@ -216,22 +216,22 @@ column_again ws (suc n) columns bits rest j room within long fit is =
     let row = in_widths ws heads in
     let others = record_fields ws n (map tail columns) in
     let vs = sent ws columns in
-    let behind = spelled others ++ rest in
+    let following = spelled others ++ rest in
     let same : row ≡ in_widths ws vs = widths-take ws heads in
-    let parts : bits ≡ spelled (in_widths ws vs) ++ behind =
+    let parts : bits ≡ spelled (in_widths ws vs) ++ following =
     is ∙ ap (λ (r : List Bool). r ++ rest) (spelled-append row others)
     ∙ append_assoc (spelled row) (spelled others) rest
-    ∙ ap (λ (fs : List Field). spelled fs ++ behind) same in
+    ∙ ap (λ (fs : List Field). spelled fs ++ following) same in
     let fits : FieldsFit (in_widths ws vs) = subst FieldsFit same (fit_front row others fit) in
     let all : length ws ≡ length vs = length-sent ws columns room in
     let values : values_at ws bits ≡ vs =
-    ap (values_at ws) parts ∙ values_again ws vs behind all fits in
+    ap (values_at ws) parts ∙ values_again ws vs following all fits in
     let first : number_at (total_width (take j ws)) (get_or ws j 0) bits ≡ head (get_or columns j []) =
     in_row ws j bits within ∙ ap (λ (us : List ℕ). get_or us j 0) values
     ∙ get_or-take (length ws) heads j 0 within ∙ get-heads columns j in
-    let left : drop (total_width ws) bits ≡ behind =
+    let left : drop (total_width ws) bits ≡ following =
     ap (drop (total_width ws)) parts
-    ∙ drop_at (spelled (in_widths ws vs)) behind (total_width ws) (length-in_widths ws vs all) in
+    ∙ drop_at (spelled (in_widths ws vs)) following (total_width ws) (length-in_widths ws vs all) in
     let later : column_at (total_width ws) (total_width (take j ws)) (get_or ws j 0) n (drop (total_width ws) bits)
     ≡ tail (get_or columns j []) =
     column_again ws n (map tail columns) (drop (total_width ws) bits) rest j

@@ -12,7 +12,7 @@ pub use Rattle.std.proofs.lemmas.Option.{get_or_from_slice_get}
 pub use Rattle.std.specs.Prelude.{IfSome}
 pub use Rattle.chip_core.proofs.FieldLists.{length-binary, spelled-append}
 pub use Rattle.chip_core.proofs.Numerals.{bool_byte-digit, digit_below, read_more}
-pub use Rattle.chip_core.proofs.ValueLists.{behind_front, column_more, dropped, fit_value, front, length-column, length-in_widths}
+pub use Rattle.chip_core.proofs.ValueLists.{after_front, column_more, dropped, fit_value, front, length-column, length-in_widths}
 pub use Rattle.chip_core.proofs.ValueLists.{number_front, taken_more, total_more, total_room, values_again, values_more, values_there}
 pub use Rattle.chip_core.proofs.ValueLists.{width_within, write_room, written_more}
 unfoldable pub use Rattle.chip_core.specs.Bits.{binary}
@@ -27,7 +27,7 @@ unfoldable pub use Rattle.message_layout.specs.Reading.{fields_at, group_at, num
 unfoldable pub use Rattle.message_layout.specs.Reading.{records_at}
 pub use Rattle.message_layout.specs.Shapes.{AreNarrow, MessageShape, are_widths, ends, group_is_told, shape}
 unfoldable pub use Rattle.message_layout.specs.Shapes.{is_lawful}
-pub use Rattle.message_layout.specs.Spelling.{HaveValues, IsGroup, IsOf, IsRest, behind_group, group_fields, octet_bits, records_of}
+pub use Rattle.message_layout.specs.Spelling.{HaveValues, IsGroup, IsOf, IsRest, after_group, group_fields, octet_bits, records_of}
 unfoldable pub use Rattle.message_layout.specs.Spelling.{spelling}
 pub use Rattle.message_layout.specs.declared.contents.Contents.{Contents}
 pub use Rattle.message_layout.specs.declared.layout.Presence.{Presence}

@@ -54,7 +54,7 @@ pub fields_more : (ws : List ℕ) (i : ℕ) (bits reader after : List Bool) (val
     (w n : ℕ) → i < length ws → FieldsRead ws i bits values reader → w ≡ get_or ws i 0 →
     w ≤ length reader → n ≡ number (take w reader) → after ≡ drop w reader →
     next ≡ values ++ n ∷ [] → FieldsRead ws (i + 1) bits next after
-fields_more ws i bits reader after values next w n h so_far width room value behind push =
+fields_more ws i bits reader after values next w n h so_far width room value following push =
     let place = total_width (take i ws) in
     let more = total_more ws i h in
     let there : n ≡ number_at place (get_or ws i 0) bits =
@@ -64,7 +64,7 @@ fields_more ws i bits reader after values next w n h so_far width room value beh
       read = push ∙ ap (λ (vs : List ℕ). vs ++ n ∷ []) so_far.read
           ∙ ap (λ (v : ℕ). values_at (take i ws) bits ++ v ∷ []) there
           ∙ sym (values_more ws i bits h);
-      left = behind ∙ ap (drop w) so_far.left ∙ dropped w place bits
+      left = following ∙ ap (drop w) so_far.left ∙ dropped w place bits
           ∙ ap (λ (k : ℕ). drop k bits)
           (let e : place + w ≡ total_width (take (i + 1) ws) = omega (arith, more, width) in e);
       room = omega (

@@ -5,7 +5,7 @@ use Rattle.message_layout.proofs.Common.{length-append, nat_le, inl, inr, Option
 use Rattle.message_layout.proofs.Common.{leb-true, lt-ltb, ltb-true, ne_eqb, append-nil, drop_at, length-take-le, take-append-drop, take_at}
 use Rattle.message_layout.proofs.Common.{pow_pos, binary, field, spelled, in_widths, total_width, FieldsFit, number_at, values_at}
 use Rattle.message_layout.proofs.Common.{length-binary}
-use Rattle.message_layout.proofs.Common.{behind_front, front, length-in_widths, number_front, values_again, values_there, columns_in}
+use Rattle.message_layout.proofs.Common.{after_front, front, length-in_widths, number_front, values_again, values_there, columns_in}
 use Rattle.message_layout.proofs.Common.{count_in, height, record_fields, share, shares, ◌>>=◌, fields_at, group_at, number_part, octets_at}
 use Rattle.message_layout.proofs.Common.{part_at, presence_at, present_at, records_at, records_from, ends, group_is_told, group_fields}
 use Rattle.message_layout.proofs.Common.{octet_bits, HaveValues, IsGroup, IsRest, Presence, Never, Flagged, UnlessLeft}
@@ -80,7 +80,7 @@ unfolding number_part
 number_again w n rest fits =
     let room = le-leb w (length (binary w n ++ rest))
     (omega (arith, length-append (binary w n) rest, length-binary w n)) in
-    rw (room, number_front w n rest fits, behind_front w n rest) refl
+    rw (room, number_front w n rest fits, after_front w n rest) refl
 
 pub number_there : (w n : ℕ) (bits after : List Bool) → number_part w bits ≡ Some (n, after) →
     (n < 2 ^ w) × (bits ≡ binary w n ++ after)
@@ -128,26 +128,26 @@ GroupThere p ws bits read =
 
 -- A group that was read after its flag is spelled as it stood: a flag of 0 is followed by no group,
 -- one of 1 by the fields that were read, and one bit tells nothing else.
-flag_there : (ws : List ℕ) (group : Option (List ℕ)) (bits behind after : List Bool) (n : ℕ) →
-    number_part 1 bits ≡ Some (n, behind) → present_at ws (n == 1) behind ≡ Some (group, after) →
+flag_there : (ws : List ℕ) (group : Option (List ℕ)) (bits following after : List Bool) (n : ℕ) →
+    number_part 1 bits ≡ Some (n, following) → present_at ws (n == 1) following ≡ Some (group, after) →
     GroupThere Flagged ws bits (group, after)
-flag_there ws group bits behind after zero a b =
-    let flag = number_there 1 0 bits behind a in
-    subst (GroupThere Flagged ws bits) (some_is (None, behind) (group, after) b)
-    (tt, flag.1 ∙ sym (one_bit 0 behind))
-flag_there ws group bits behind after (suc zero) a b =
-    let flag = number_there 1 1 bits behind a in
-    let d = bind_some (fields_at ws behind) (λ values. Some (Some values.0, values.1))
+flag_there ws group bits following after zero a b =
+    let flag = number_there 1 0 bits following a in
+    subst (GroupThere Flagged ws bits) (some_is (None, following) (group, after) b)
+    (tt, flag.1 ∙ sym (one_bit 0 following))
+flag_there ws group bits following after (suc zero) a b =
+    let flag = number_there 1 1 bits following a in
+    let d = bind_some (fields_at ws following) (λ values. Some (Some values.0, values.1))
     (group, after) b in
-    let fields = fields_there ws d.0.0 behind d.0.1 d.1 in
+    let fields = fields_there ws d.0.0 following d.0.1 d.1 in
     let first = spelled (in_widths ws d.0.0) in
     subst (GroupThere Flagged ws bits) (some_is (Some d.0.0, d.0.1) (group, after) d.2) (
       fields.0,
       flag.1 ∙ ap (λ (r : List Bool). binary 1 1 ++ r) fields.1
           ∙ sym (append_assoc (binary 1 1) first d.0.1),
     )
-flag_there ws group bits behind after (suc (suc n)) a b =
-    absurd (omega (arith, (number_there 1 (suc (suc n)) bits behind a).0))
+flag_there ws group bits following after (suc (suc n)) a b =
+    absurd (omega (arith, (number_there 1 (suc (suc n)) bits following a).0))
 
 -- What was read of a group spells the bits that were read, whichever way tells that it is there: it
 -- never is, a flag says so, or it is there unless just so many bits are left.
@@ -198,12 +198,12 @@ unfolding octets_at
 octets_again z w octets rest whole counted =
     let n = length octets / 8 in
     let all : 8 * n ≡ length octets = omega (arith, whole) in
-    let behind = octets ++ rest in
+    let following = octets ++ rest in
     rw (
       octet_parts z w octets rest,
-      number_again z 0 (binary w n ++ behind) (pow_pos z),
-      number_again w n behind counted,
-    ) (ap (λ (k : ℕ). part_at k behind) all ∙ part_again octets rest)
+      number_again z 0 (binary w n ++ following) (pow_pos z),
+      number_again w n following counted,
+    ) (ap (λ (k : ℕ). part_at k following) all ∙ part_again octets rest)
 
 -- Octets that were read are spelled by the bits that they were read from: the zeros, the count and
 -- the octets were read one after another, and each of the three spells the bits that it took.
@@ -224,13 +224,13 @@ octets_there z w bits octets after e =
     let third = part_there (8 * b.0.0) b.0.1 octets after g.1 in
     let n : b.0.0 ≡ length octets / 8 = omega (arith, third.0) in
     let count = binary w (length octets / 8) in
-    let behind : a.0.1 ≡ count ++ (octets ++ after) =
+    let following : a.0.1 ≡ count ++ (octets ++ after) =
     second.1 ∙ ap (λ (k : ℕ). binary w k ++ b.0.1) n
     ∙ ap (λ (r : List Bool). count ++ r) third.1 in (
       omega (arith, third.0),
       subst (λ (k : ℕ). k < 2 ^ w) n second.0,
       first.1 ∙ ap (λ (k : ℕ). binary z k ++ a.0.1) none
-          ∙ ap (λ (r : List Bool). binary z 0 ++ r) behind ∙ sym (octet_parts z w octets after),
+          ∙ ap (λ (r : List Bool). binary z 0 ++ r) following ∙ sym (octet_parts z w octets after),
     )
 
 -- RECORDS
@@ -305,8 +305,8 @@ records_part_there ws least bits columns after few e =
 
 -- LEFT
 -- no part leaves more bits than there were
-behind_less : (first after bits : List Bool) → bits ≡ first ++ after → length after ≤ length bits
-behind_less first after bits is = omega (arith, ap length is, length-append first after)
+after_less : (first after bits : List Bool) → bits ≡ first ++ after → length after ≤ length bits
+after_less first after bits is = omega (arith, ap length is, length-append first after)
 
 pub octets_left : (p : Presence) (fixed group : List ℕ) (z w : ℕ) (bits b1 b2 b3 : List Bool)
     (vs : List ℕ) (g : Option (List ℕ)) (octets : List Bool) →
@@ -318,9 +318,9 @@ octets_left p fixed group z w bits b1 b2 b3 vs g octets a b c =
     let d = octets_there z w b2 octets b3 (sym c) in
     omega (
       arith,
-      behind_less (spelled (in_widths fixed vs)) b1 bits x.1,
-      behind_less (spelled (group_fields p group g)) b2 b1 y.1,
-      behind_less (octet_bits z w octets) b3 b2 d.2,
+      after_less (spelled (in_widths fixed vs)) b1 bits x.1,
+      after_less (spelled (group_fields p group g)) b2 b1 y.1,
+      after_less (octet_bits z w octets) b3 b2 d.2,
     )
 
 pub length-octets : (z w : ℕ) (octets : List Bool) →

@@ -59,13 +59,13 @@ plain_reading ws rs least most bits =
     let w = drop (total_width ws) bits in
     let n = count_in rs (length w) in
     let any = le-leb 0 (length w) (omega arith) in
-    let behind = length-drop (total_width ws) bits in
+    let following = length-drop (total_width ws) bits in
     let left = length-drop (n * total_width rs) w in
     elim (cases_Bool (nat_le (total_width ws) (length bits))) [
       | inr f ↦ rw f refl
       | inl t ↦
           elim (cases_Bool (nat_le least n)) [
-            | inr f ↦ rw (← behind, t, any, any, any, f) refl
-            | inl some ↦ rw (← behind, t, any, any, any, some, left) refl
+            | inr f ↦ rw (← following, t, any, any, any, f) refl
+            | inl some ↦ rw (← following, t, any, any, any, some, left) refl
           ]
     ]

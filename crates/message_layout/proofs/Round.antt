@@ -1,7 +1,7 @@
 -- Contents, spelled and read again.
 use Rattle.message_layout.proofs.Common.{◌≡◌, ℕ, Bool, true, List, ◌++◌, length, refl, sym, ap, subst, ◌∙◌, Option, Some, None, IfSome}
 use Rattle.message_layout.proofs.Common.{le-leb, leb-true, spelled, in_widths, ◌>>=◌, fields_at, group_at, is_rest, octets_at, reading}
-use Rattle.message_layout.proofs.Common.{records_at, rest_at, is_lawful, MessageShape, behind_group, group_fields, octet_bits, records_of}
+use Rattle.message_layout.proofs.Common.{records_at, rest_at, is_lawful, MessageShape, after_group, group_fields, octet_bits, records_of}
 use Rattle.message_layout.proofs.Common.{spelling, IsGroup, IsOf, IsRest, Contents}
 use Rattle.message_layout.proofs.Lawful.{lawful}
 use Rattle.message_layout.proofs.Parts.{bind_some, fields_again, fields_there, group_again, group_there, guard_some, octets_again}
@@ -24,8 +24,8 @@ reading_again s c h is =
     let rest = spelled (records_of s c) ++ c.rest in
     rw (
       fields_again s.fixed c.fixed
-          (spelled (group_fields s.presence s.group c.group) ++ behind_group s c) is.fixed,
-      group_again s.presence s.group c.group (behind_group s c) p.told is.group,
+          (spelled (group_fields s.presence s.group c.group) ++ after_group s c) is.fixed,
+      group_again s.presence s.group c.group (after_group s c) p.told is.group,
       octets_again s.zeros s.count c.octets rest is.whole is.counted,
       records_part_again s.records s.least s.most c.columns c.rest p.few p.last is.columns
           is.records is.least is.left,
@@ -70,15 +70,15 @@ reading_there s bits c h e =
     let group = group_there s.presence s.group y.0.0 x.0.1 y.0.1 y.1 in
     let octets = octets_there s.zeros s.count y.0.1 z.0.0 z.0.1 z.1 in
     let records = records_part_there s.records s.least z.0.1 w.0.0 w.0.1 p.few w.1 in
-    let behind : y.0.1 ≡ behind_group s read =
+    let following : y.0.1 ≡ after_group s read =
     octets.2 ∙ ap (λ (r : List Bool). octet_bits s.zeros s.count z.0.0 ++ r) records.3 in
     let signed = spelled (group_fields s.presence s.group y.0.0) in
-    let whole : x.0.1 ≡ signed ++ behind_group s read =
-    group.1 ∙ ap (λ (r : List Bool). signed ++ r) behind in
+    let whole : x.0.1 ≡ signed ++ after_group s read =
+    group.1 ∙ ap (λ (r : List Bool). signed ++ r) following in
     subst (Spells s bits) (some_is read c g.1) (
       record {
         fixed = fixed.0;
-        group = subst (λ (r : List Bool). IsGroup s.presence s.group y.0.0 (length r)) behind
+        group = subst (λ (r : List Bool). IsGroup s.presence s.group y.0.0 (length r)) following
             group.0;
         whole = octets.0;
         counted = octets.1;

@@ -7,10 +7,10 @@ use Rattle.message_layout.proofs.Common.{drop-drop, drop-take, take-take}
 pub slice_part : (start count from n : ℕ) (bits : List Bool) → from + n ≤ count →
     take n (drop (start + from) bits) ≡ take n (drop from (take count (drop start bits)))
 slice_part start count from n bits h =
-    let behind = drop start bits in
+    let following = drop start bits in
     let m = count - from in
     let all : from + m ≡ count = omega (arith, h) in
-    sym (ap (λ (k : ℕ). take n (drop from (take k behind))) (sym all)
-    ∙ ap (take n) (drop-take from m behind)
-    ∙ take-take n m (drop from behind) (omega (arith, h))
+    sym (ap (λ (k : ℕ). take n (drop from (take k following))) (sym all)
+    ∙ ap (take n) (drop-take from m following)
+    ∙ take-take n m (drop from following) (omega (arith, h))
     ∙ ap (take n) (drop-drop from start bits))

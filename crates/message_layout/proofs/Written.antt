@@ -1,6 +1,6 @@
 -- Contents that are written part by part.
 use Rattle.message_layout.proofs.Common.{◌≡◌, ℕ, ◌+◌, ◌≤◌, List, Bool, [], ◌++◌, length, ap, ◌∙◌, arith, append_assoc, length-append}
-use Rattle.message_layout.proofs.Common.{Option, None, Some, binary, spelled, in_widths, length-binary, MessageShape, behind_group}
+use Rattle.message_layout.proofs.Common.{Option, None, Some, binary, spelled, in_widths, length-binary, MessageShape, after_group}
 use Rattle.message_layout.proofs.Common.{group_fields, octet_bits, records_of, spelling, Contents, Presence, Never, Flagged, UnlessLeft}
 
 abbrev pub fixed_bits : MessageShape → Contents → List Bool
@@ -23,8 +23,8 @@ unfolding spelling
 length-spelling s c =
     omega (
       arith,
-      length-append (fixed_bits s c) (group_bits s c ++ behind_group s c),
-      length-append (group_bits s c) (behind_group s c),
+      length-append (fixed_bits s c) (group_bits s c ++ after_group s c),
+      length-append (group_bits s c) (after_group s c),
       length-append (octets_of s c) (record_bits s c ++ c.rest),
       length-append (record_bits s c) c.rest,
     )

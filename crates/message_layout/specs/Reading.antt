@@ -20,9 +20,9 @@ mapped f None = None
 mapped f (Some x) = Some (f x)
 
 -- what was read, and the bits after it, which begin at a place of a list
-abbrev pub behind : {A : Type 0} → List Bool → Option (A × ℕ) → Option (A × List Bool)
-behind bits None = None
-behind bits (Some x) = Some (x.0, drop x.1 bits)
+abbrev pub following : {A : Type 0} → List Bool → Option (A × ℕ) → Option (A × List Bool)
+following bits None = None
+following bits (Some x) = Some (x.0, drop x.1 bits)
 
 -- fields of these widths
 unfoldable pub fields_at : List ℕ → List Bool → Option (List ℕ × List Bool)

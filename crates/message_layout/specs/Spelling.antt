@@ -26,13 +26,13 @@ abbrev pub records_of : MessageShape → Contents → List Field
 records_of s c = record_fields s.records (height c.columns) c.columns
 
 -- after the group
-abbrev pub behind_group : MessageShape → Contents → List Bool
-behind_group s c = octet_bits s.zeros s.count c.octets ++ (spelled (records_of s c) ++ c.rest)
+abbrev pub after_group : MessageShape → Contents → List Bool
+after_group s c = octet_bits s.zeros s.count c.octets ++ (spelled (records_of s c) ++ c.rest)
 
 unfoldable pub spelling : MessageShape → Contents → List Bool
 spelling s c =
     spelled (in_widths s.fixed c.fixed)
-    ++ (spelled (group_fields s.presence s.group c.group) ++ behind_group s c)
+    ++ (spelled (group_fields s.presence s.group c.group) ++ after_group s c)
 
 -- each field has a value that fits
 pub record HaveValues (widths values : List ℕ) : Type 0 where
@@ -41,11 +41,11 @@ pub record HaveValues (widths values : List ℕ) : Type 0 where
 
 -- the group may be there, or not, where so many bits stand after it
 abbrev pub IsGroup : Presence → List ℕ → Option (List ℕ) → ℕ → Type 0
-IsGroup Never widths group behind = group ≡ None
-IsGroup Flagged widths None behind = Unit {0}
-IsGroup Flagged widths (Some values) behind = HaveValues widths values
-IsGroup (UnlessLeft count) widths None behind = behind ≡ count
-IsGroup (UnlessLeft count) widths (Some values) behind = HaveValues widths values
+IsGroup Never widths group following = group ≡ None
+IsGroup Flagged widths None following = Unit {0}
+IsGroup Flagged widths (Some values) following = HaveValues widths values
+IsGroup (UnlessLeft count) widths None following = following ≡ count
+IsGroup (UnlessLeft count) widths (Some values) following = HaveValues widths values
 
 -- no more bits are left than may be
 abbrev pub IsRest : Option ℕ → List Bool → Type 0
@@ -55,7 +55,7 @@ IsRest (Some most) rest = length rest ≤ most
 -- the contents have a spelling by the layout
 pub record IsOf (s : MessageShape) (c : Contents) : Type 0 where
   pub fixed : HaveValues s.fixed c.fixed
-  pub group : IsGroup s.presence s.group c.group (length (behind_group s c))
+  pub group : IsGroup s.presence s.group c.group (length (after_group s c))
   pub whole : length c.octets % 8 ≡ 0
   pub counted : length c.octets / 8 < 2 ^ s.count
   pub columns : map length c.columns ≡ shares s.records (height c.columns)

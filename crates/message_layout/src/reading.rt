@@ -11,7 +11,7 @@ ghost use Rattle.std.specs.Prelude.{drop, IfSome, Some};
 ghost use Rattle.chip_core.specs.Fields.{total_width, AreWidths};
 ghost use Rattle.chip_core.specs.Readings.{column_at, number_at};
 ghost use Rattle.message_layout.specs.Contents.{column_in, count_in};
-ghost use Rattle.message_layout.specs.Reading.{behind, fields_at, group_at, is_rest, number_part};
+ghost use Rattle.message_layout.specs.Reading.{following, fields_at, group_at, is_rest, number_part};
 ghost use Rattle.message_layout.specs.Reading.{octets_at, part_at, presence_at, reading};
 ghost use Rattle.message_layout.specs.Reading.{records_at};
 ghost use Rattle.message_layout.specs.Shapes.{is_lawful, shape, AreNarrow};
@@ -56,7 +56,7 @@ pub fn read_from(layout: &Layout, bits: &BitSlice<'_>, from: u16) -> Option<Cont
 
 /// The message type, 8 bits, and the place after it; `None` exactly where there are fewer.
 pub fn read_kind(bits: &BitSlice<'_>) -> Option<(u8, u16)>
-    ensures kind { behind bits.now result ≡ number_part 8 bits.now }
+    ensures kind { following bits.now result ≡ number_part 8 bits.now }
     ensures within { IfSome result (λ x. x.1 ≤ length bits.now) }
 {
     let (kind, from) = read_number(8, bits, 0)?;
@@ -114,7 +114,7 @@ pub fn read_fields(rows: &[FieldRow], bits: &BitSlice<'_>, from: u16) -> Option<
     requires widths { AreWidths (map (λ row. row.1) rows.now) }
     requires room { length rows.now ≤ 48 }
     requires within { from ≤ length bits.now }
-    ensures values { behind bits.now result ≡ fields_at (map (λ row. row.1) rows.now)
+    ensures values { following bits.now result ≡ fields_at (map (λ row. row.1) rows.now)
         (drop from bits.now) }
     ensures within { IfSome result (λ x. x.1 ≤ length bits.now) }
 {
@@ -135,7 +135,7 @@ fn read_group(group: &Group, bits: &BitSlice<'_>, from: u16) -> Option<(Option<F
     requires widths { AreWidths (map (λ row. row.1) group.now.fields.now) }
     requires room { length group.now.fields.now ≤ 48 }
     requires within { from ≤ length bits.now }
-    ensures group { behind bits.now result ≡ group_at group.now.presence
+    ensures group { following bits.now result ≡ group_at group.now.presence
         (map (λ row. row.1) group.now.fields.now) (drop from bits.now) }
     ensures within { IfSome result (λ x. x.1 ≤ length bits.now) }
 {
@@ -151,7 +151,7 @@ fn read_group(group: &Group, bits: &BitSlice<'_>, from: u16) -> Option<(Option<F
 #[tactic(auto, unfolding(crate::specs::Reading::presence_at))]
 fn read_presence(presence: Presence, bits: &BitSlice<'_>, from: u16) -> Option<(bool, u16)>
     requires { from ≤ length bits.now }
-    ensures presence { behind bits.now result ≡ presence_at presence (drop from bits.now) }
+    ensures presence { following bits.now result ≡ presence_at presence (drop from bits.now) }
     ensures within { IfSome result (λ x. x.1 ≤ length bits.now) }
 {
     match presence {
@@ -171,7 +171,7 @@ fn read_octets(octets: Octets, bits: &BitSlice<'_>, from: u16) -> Option<(Bits, 
     requires zeros { octets.zeros ≤ 64 }
     requires width { octets.width ≤ 8 }
     requires within { from ≤ length bits.now }
-    ensures octets { behind bits.now result ≡ octets_at octets.zeros octets.width
+    ensures octets { following bits.now result ≡ octets_at octets.zeros octets.width
         (drop from bits.now) }
     ensures within { IfSome result (λ x. x.1 ≤ length bits.now) }
 {
@@ -188,7 +188,7 @@ fn read_octets(octets: Octets, bits: &BitSlice<'_>, from: u16) -> Option<(Bits, 
 fn read_number(width: u8, bits: &BitSlice<'_>, from: u16) -> Option<(u64, u16)>
     requires width { width ≤ 64 }
     requires within { from ≤ length bits.now }
-    ensures value { behind bits.now result ≡ number_part width (drop from bits.now) }
+    ensures value { following bits.now result ≡ number_part width (drop from bits.now) }
     ensures fits { IfSome result (λ x. x.0 < 2 ^ width) }
     ensures within { IfSome result (λ x. x.1 ≤ length bits.now) }
 {
@@ -218,7 +218,7 @@ fn number_from(bits: &BitSlice<'_>, from: u16, width: u8) -> u64
 #[tactic(auto, unfolding(crate::specs::Reading::part_at))]
 fn read_part(count: u64, bits: &BitSlice<'_>, from: u16) -> Option<(Bits, u16)>
     requires { from ≤ length bits.now }
-    ensures part { behind bits.now result ≡ part_at count (drop from bits.now) }
+    ensures part { following bits.now result ≡ part_at count (drop from bits.now) }
     ensures within { IfSome result (λ x. x.1 ≤ length bits.now) }
 {
     if count > u64::from(bits.len() - from) {
@@ -238,7 +238,7 @@ fn read_records(records: &Records, bits: &BitSlice<'_>, from: u16) -> Option<([N
     requires within { from ≤ length bits.now }
     requires room { count_in (map (λ row. row.1) records.now.fields.now)
         (length (drop from bits.now)) ≤ 128 }
-    ensures records { behind bits.now result ≡ records_at
+    ensures records { following bits.now result ≡ records_at
         (map (λ row. row.1) records.now.fields.now) records.now.least (drop from bits.now) }
     ensures within { IfSome result (λ x. x.1 ≤ length bits.now) }
 {

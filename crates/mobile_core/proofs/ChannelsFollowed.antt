@@ -4,7 +4,7 @@ use Rattle.mobile_core.proofs.Common.{None, ForSome, option_map_or, arith, lengt
 use Rattle.mobile_core.proofs.Common.{IsFollowedDue, IsSoundFollowed, EndFrom, WaitFrom, followed_events_left, followed_heard}
 use Rattle.mobile_core.proofs.Common.{paging_events_left, AreNear, Tuning, sync_stream, Event, Followed, Mark, PagingReceiver, SoftHandoff}
 use Rattle.mobile_core.proofs.Common.{IsSomeAnd, IsSoundPaging, IsSoundHandoff, IsDueAt, IsUnheard, Traffic, append-nil, bits_heard}
-use Rattle.mobile_core.proofs.Common.{followed_behind, event_list, traffic_heard, traffic_events_left}
+use Rattle.mobile_core.proofs.Common.{followed_after, event_list, traffic_heard, traffic_events_left}
 use Rattle.mobile_core.proofs.FramesFollowed.{frames_go, frames_more, told_few}
 use Rattle.heard_events.proofs.GoesOn.{GoesOn, both, goes_as, joined}
 use Rattle.heard_events.proofs.MarkStays.{pages_from_mark}
@@ -92,7 +92,7 @@ module _ {t : Tuning} {f : Followed} {mark : Option Mark} {heard : List Sample}
 
   module _ (sound : IsSoundFollowed f) (idle : ¬ IsFollowedDue t.count f) where
     pub goes_on : (end : ℕ) → EndFrom end f →
-        GoesOn (followed_behind t mark) (λ samples. followed_events_left t mark samples f) heard end
+        GoesOn (followed_after t mark) (λ samples. followed_events_left t mark samples f) heard end
     goes_on end ends =
         goes_as
         (both (pages_go t mark heard f.paging st.paging (λ d. idle (inl d)) end ends.paging)

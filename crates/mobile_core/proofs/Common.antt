@@ -23,7 +23,7 @@ pub use Rattle.frame_decoder.specs.declared.power.PowerSofts.{PowerSofts}
 pub use Rattle.frame_decoder.specs.declared.traffic.Decoded.{Decoded}
 pub use Rattle.rake_finger.specs.Near.{AreClose, all_close, AreNear, all_begun}
 pub use Rattle.heard_events.specs.Close.{legs_close, paths_close}
-pub use Rattle.heard_events.specs.Events.{events, followed_behind, told_behind}
+pub use Rattle.heard_events.specs.Events.{events, followed_after, told_after}
 unfoldable pub use Rattle.heard_events.specs.Events.{events_at, heard_within}
 pub use Rattle.heard_events.specs.Given.{at_of, event_list}
 pub use Rattle.heard_events.specs.Left.{pilot_left}
@@ -34,7 +34,7 @@ unfoldable pub use Rattle.heard_events.specs.Marks.{frames_open, mark, mark_befo
 pub use Rattle.heard_events.specs.Moments.{frames_at, legs_at, legs_by, messages_at, moment_of, moment_place, moments_before, sets_events}
 unfoldable pub use Rattle.heard_events.specs.Moments.{heard_from, kept_to, passed, sets_at, told_by}
 pub use Rattle.heard_events.specs.Noted.{all_noted, body_noted, moment_from, noted, noted_with, page_noted, system_thresholds}
-pub use Rattle.heard_events.specs.PagingEvents.{page_event, page_in, pages_behind}
+pub use Rattle.heard_events.specs.PagingEvents.{page_event, page_in, pages_if_marked}
 unfoldable pub use Rattle.heard_events.specs.PagingEvents.{paging_bits_before, bits_up_to, page_at, pages_from}
 pub use Rattle.heard_events.specs.PagingStreams.{paging_rate, paging_stream}
 pub use Rattle.rake_finger.specs.Scrambled.{unscrambled}
@@ -49,7 +49,7 @@ unfoldable pub use Rattle.heard_events.specs.SyncEvents.{frames_before, heard_at
 pub use Rattle.rake_finger.specs.Timing.{IsTimed}
 pub use Rattle.heard_events.specs.TrafficEvents.{all_sums, raw_softs}
 unfoldable pub use Rattle.heard_events.specs.TrafficEvents.{power_bits_at, decoded_at}
-pub use Rattle.heard_events.specs.TrafficStreams.{chips_behind, frame_known, frame_state, has_frame, replaced_in, traffic_start}
+pub use Rattle.heard_events.specs.TrafficStreams.{chips_after, frame_known, frame_state, has_frame, replaced_in, traffic_start}
 pub use Rattle.heard_events.specs.Tuning.{Tuning, sync_stream, tuning_by}
 pub use Rattle.rake_finger.specs.Paths.{fingers_of}
 pub use Rattle.heard_events.specs.declared.channel.Channel.TheVariants.{Paging}
@@ -77,7 +77,7 @@ pub use Rattle.rake_finger.specs.declared.form.Form.TheVariants.{Data, Sync}
 pub use Rattle.symbol_path.specs.Scrambling.{power_places, scrambling}
 pub use Rattle.traffic_message.specs.declared.body.TrafficBody.{TrafficBody}
 pub use Rattle.reception.specs.Clocks.{IsDueAt, clock_from, first_frame, clock_after_frame}
-pub use Rattle.mobile_core.specs.BehindMark.{FollowsPages, FollowsTraffic, IsUnheard, IsUnpaged, SetsMark, paging_left, traffic_left}
+pub use Rattle.mobile_core.specs.AfterMark.{FollowsPages, FollowsTraffic, IsUnheard, IsUnpaged, SetsMark, paging_left, traffic_left}
 pub use Rattle.mobile_core.specs.FollowedChannels.{EndFrom, HearsFollowed, HearsFrames, HearsPages, IsFollowedDue, IsSoundFollowed}
 pub use Rattle.mobile_core.specs.FollowedChannels.{WaitFrom, followed_events_left, followed_heard, paging_events_left, traffic_events_left}
 pub use Rattle.heard_events.specs.LegSofts.{sums_on}

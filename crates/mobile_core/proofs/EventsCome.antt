@@ -2,13 +2,13 @@
 use Rattle.mobile_core.proofs.Common.{◌≡◌, ℕ, suc, ◌+◌, ◌-◌, ◌<◌, ◌≤◌, List, [], ◌++◌, length, length-append, refl, sym, ap, ◌∙◌, arith}
 use Rattle.mobile_core.proofs.Common.{Sample, events, events_at, heard_within, EndFrom, HearsFollowed, IsFollowedDue, IsSoundFollowed}
 use Rattle.mobile_core.proofs.Common.{followed_events_left, sync_events_left, mark, mark_before, AreNear, sync_events_at, Tuning}
-use Rattle.mobile_core.proofs.Common.{sync_stream, Event, Followed, Mark, Option, flat_map_grown, followed_behind}
+use Rattle.mobile_core.proofs.Common.{sync_stream, Event, Followed, Mark, Option, flat_map_grown, followed_after}
 use Rattle.mobile_core.proofs.ChannelsFollowed.{goes_on}
 use Rattle.heard_events.proofs.Arrivals.{AreKnown, AreLater}
 use Rattle.heard_events.proofs.GoesOn.{GoesOn, both}
 use Rattle.heard_events.proofs.Growth.{IsSyncTimed, sync_frames, sync_goes}
 use Rattle.heard_events.proofs.MarkGrowth.{mark_before_sooner, mark_is}
-use Rattle.heard_events.proofs.EventsGrown.{behind_before, events_at_by, events_sooner}
+use Rattle.heard_events.proofs.EventsGrown.{after_before, events_at_by, events_sooner}
 
 module _ (t : Tuning) (low : ℕ) (timed : IsSyncTimed t low)
     (near : AreNear (sync_stream t).fingers) where
@@ -16,7 +16,7 @@ module _ (t : Tuning) (low : ℕ) (timed : IsSyncTimed t low)
   module _ (xs ys : List Sample) (next : ℕ) (f : Followed) (some : 0 < length ys)
       (before : AreKnown (sync_frames t) next (length xs))
       (from : AreLater (sync_frames t) next (length xs + length ys))
-      (behind : HearsFollowed t f (mark_before t xs next) xs) (sound : IsSoundFollowed f)
+      (following : HearsFollowed t f (mark_before t xs next) xs) (sound : IsSoundFollowed f)
       (none : ¬ IsFollowedDue t.count f) (ends : EndFrom (length xs + length ys) f) where
     -- up to their last but one the mark is that of the frames before
     mark_here : (n : ℕ) → length xs ≤ n → n < length xs + length ys →
@@ -28,12 +28,12 @@ module _ (t : Tuning) (low : ℕ) (timed : IsSyncTimed t low)
         ∙ mark_before_sooner t low timed xs ys next before
 
     goes : GoesOn
-        (λ samples n. sync_events_at t samples n ++ followed_behind t (mark_before t xs next) samples n)
+        (λ samples n. sync_events_at t samples n ++ followed_after t (mark_before t xs next) samples n)
         (λ samples. sync_events_left t samples next
         ++ followed_events_left t (mark_before t xs next) samples f) xs (length xs + length ys)
     goes =
         both (sync_goes t low timed next xs (length xs + length ys) before from)
-        (goes_on behind sound none (length xs + length ys) ends)
+        (goes_on following sound none (length xs + length ys) ends)
 
     quiet : (n : ℕ) → length xs < n → n < length xs + length ys →
         events_at t (xs ++ ys) n ≡ []
@@ -51,11 +51,11 @@ module _ (t : Tuning) (low : ℕ) (timed : IsSyncTimed t low)
         let all = xs ++ ys in
         let n : ℕ = length xs + length ys - 1 in
         let long : length (xs ++ ys) ≡ n + 1 = omega (arith, length-append xs ys, some) in
-        let later = sym (behind_before t low timed near all n)
-        ∙ ap (λ (x : Option Mark). followed_behind t x all (n + 1))
+        let later = sym (after_before t low timed near all n)
+        ∙ ap (λ (x : Option Mark). followed_after t x all (n + 1))
         (mark_here n (omega (arith, some)) (omega (arith, some))) in
-        let others : followed_behind t (mark t all (length (xs ++ ys))) all (length (xs ++ ys))
-        ≡ followed_behind t (mark_before t xs next) all (length (xs ++ ys)) = rw long later in
+        let others : followed_after t (mark t all (length (xs ++ ys))) all (length (xs ++ ys))
+        ≡ followed_after t (mark_before t xs next) all (length (xs ++ ys)) = rw long later in
         events_at_by t all (length (xs ++ ys)) (mark t all (length (xs ++ ys))) refl
         ∙ ap (λ (es : List Event). sync_events_at t all (length (xs ++ ys)) ++ es) others
         ∙ sym (goes.come ys some (omega (arith, length-append xs ys)))

@@ -2,17 +2,17 @@
 use Rattle.mobile_core.proofs.Common.{◌≡◌, ℕ, ◌+◌, ◌^◌, ◌<◌, ◌≤◌, ◌==◌, List, [], ◌++◌, length, refl, sym, ap, subst, ◌∙◌, arith, inr}
 use Rattle.mobile_core.proofs.Common.{Option, Some, None, take, false, length-append, Bool, if◌then◌else◌, ForSome, IsSomeAnd}
 use Rattle.mobile_core.proofs.Common.{false_from_ne_true, ne_eqb, take_all, Sample, frames_at, kept_to, legs_at, legs_by, messages_at}
-use Rattle.mobile_core.proofs.Common.{moment_place, moments_before, sets_at, pages_behind, coming_place, FollowsTraffic, HearsFrames}
+use Rattle.mobile_core.proofs.Common.{moment_place, moments_before, sets_at, pages_if_marked, coming_place, FollowsTraffic, HearsFrames}
 use Rattle.mobile_core.proofs.Common.{IsUnheard, traffic_left, traffic_events_left, HearsTraffic, HearsWith, IsSoundHandoff, IsTrafficDue}
 use Rattle.mobile_core.proofs.Common.{at_of, ◌∷◌, kept_in, next_end, noted_by, sets_left_of, traffic_heard, GivesFirst, WaitsAt}
 use Rattle.mobile_core.proofs.Common.{traffic_left_of, told_left_with, Tuning, Event, Leg, Mark, Traffic, SoftHandoff, option_map}
-use Rattle.mobile_core.proofs.Common.{told_behind}
+use Rattle.mobile_core.proofs.Common.{told_after}
 use Rattle.heard_events.specs.declared.channel.Channel.TheVariants.{Traffic as OnTraffic}
 use Rattle.mobile_core.proofs.FramesHeard.{none_come, none_kept, not_left, told_go}
 use Rattle.mobile_core.proofs.FramesTold.{hears_noted, moments_are}
 use Rattle.heard_events.proofs.GoesOn.{GoesOn, both, goes_as, never}
 use Rattle.heard_events.proofs.MomentGrowth.{kept_sooner}
-use Rattle.mobile_core.proofs.PagesFollowed.{paged_behind}
+use Rattle.mobile_core.proofs.PagesFollowed.{paged_after}
 use Rattle.heard_events.proofs.TrafficGrowth.{told_at}
 use Rattle.mobile_core.proofs.FramesHeard as heard_frames
 
@@ -24,10 +24,10 @@ all_told t traffic m samples n =
 
 pub unheard : (t : Tuning) (followed : Option Traffic) (mark : Option Mark)
     (samples : List Sample) (n : ℕ) → IsUnheard followed mark →
-    told_behind t (option_map OnTraffic followed) mark samples n ≡ []
+    told_after t (option_map OnTraffic followed) mark samples n ≡ []
 unheard t None mark samples n h = refl
 unheard t (Some traffic) mark samples n h =
-    ap (λ (x : Option Mark). told_behind t (Some (OnTraffic traffic)) x samples n) h
+    ap (λ (x : Option Mark). told_after t (Some (OnTraffic traffic)) x samples n) h
 
 -- THE CHANNEL AND ITS SETS
 -- a moment lies there, or none does
@@ -148,7 +148,7 @@ module _ {t : Tuning} {assigned : Option Traffic} {mark : Option Mark} {r : Soft
   left_is samples after = rw (st.traffic_is, st.set_is) refl
 
   told_is : (samples : List Sample) (n : ℕ) →
-      told_behind t (option_map OnTraffic assigned) mark samples n
+      told_after t (option_map OnTraffic assigned) mark samples n
       ≡ all_told t st.traffic st.set samples n
   told_is samples n = rw (st.traffic_is, st.set_is) refl
 
@@ -186,14 +186,14 @@ module _ (t : Tuning) (assigned : Option Traffic) (mark : Option Mark) (heard : 
   pub frames_go : (receiver : Option SoftHandoff) → HearsFrames t assigned mark receiver heard pages →
       ForSome receiver IsSoundHandoff → ¬ IsSomeAnd receiver IsTrafficDue → (end : ℕ) →
       ForSome receiver (λ r. end ≤ next_end r) →
-      GoesOn (told_behind t (option_map OnTraffic assigned) mark)
+      GoesOn (told_after t (option_map OnTraffic assigned) mark)
       (λ samples. traffic_events_left t assigned mark samples receiver) heard end
-  frames_go None behind sound none end ends =
-      never (told_behind t (option_map OnTraffic assigned) mark)
-      (λ samples n. unheard t assigned mark samples n behind) heard end
-  frames_go (Some r) behind sound none end ends =
-      goes_as (receiver_goes behind.hears (sound r refl) none end (ends r refl)) (told_is behind)
-      (λ samples. left_is behind samples r)
+  frames_go None following sound none end ends =
+      never (told_after t (option_map OnTraffic assigned) mark)
+      (λ samples n. unheard t assigned mark samples n following) heard end
+  frames_go (Some r) following sound none end ends =
+      goes_as (receiver_goes following.hears (sound r refl) none end (ends r refl)) (told_is following)
+      (λ samples. left_is following samples r)
 
   -- A traffic channel has heard more samples, up to the end of its next frame: where none is followed
   -- nothing changes, and else its receiver has, since no page is told before the last of these samples.
@@ -203,28 +203,28 @@ module _ (t : Tuning) (assigned : Option Traffic) (mark : Option Mark) (heard : 
       ForSome receiver (WaitsAt (length heard)) →
       ForSome receiver (λ r. length heard + length more ≤ next_end r) → pages ≡ [] →
       ((samples : List Sample) (n : ℕ) → length heard < n → n < length heard + length more →
-      pages_behind t t.paging mark samples n ≡ []) →
+      pages_if_marked t t.paging mark samples n ≡ []) →
       ((m : Mark) (n : ℕ) → n ≤ m.sample →
-      pages_behind t t.paging (Some m) (heard ++ more) n ≡ []) →
+      pages_if_marked t t.paging (Some m) (heard ++ more) n ≡ []) →
       HearsFrames t assigned mark receiver (heard ++ more)
-      (paged_behind t mark (heard ++ more) (length (heard ++ more)))
-  frames_more None behind sound none more some within waits ends given quiet before = behind
-  frames_more (Some r) behind sound none more some within waits ends given quiet before =
-      let st = behind.hears in
-      let m = behind.set in
-      let later = paged_behind t mark (heard ++ more) (length (heard ++ more)) in
+      (paged_after t mark (heard ++ more) (length (heard ++ more)))
+  frames_more None following sound none more some within waits ends given quiet before = following
+  frames_more (Some r) following sound none more some within waits ends given quiet before =
+      let st = following.hears in
+      let m = following.set in
+      let later = paged_after t mark (heard ++ more) (length (heard ++ more)) in
       let known = sound r refl in
       let parts = ends_at st known none (length heard + length more) (ends r refl) in
       let grown = heard_frames.hears_more st known more none some parts.0 parts.1
       within given later
-      (ap (λ (x : Option Mark). paged_behind t x (heard ++ more) (length (heard ++ more)))
-      behind.set_is)
+      (ap (λ (x : Option Mark). paged_after t x (heard ++ more) (length (heard ++ more)))
+      following.set_is)
       (λ samples n past less.
-      ap (λ (x : Option Mark). pages_behind t t.paging x samples n) (sym behind.set_is)
+      ap (λ (x : Option Mark). pages_if_marked t t.paging x samples n) (sym following.set_is)
       ∙ quiet samples n past less)
       (before m) in
-      tells_on behind r (heard ++ more) later
-      (subst (HearsWith t behind.traffic m r (heard ++ more) later)
+      tells_on following r (heard ++ more) later
+      (subst (HearsWith t following.traffic m r (heard ++ more) later)
       (sym (kept_more st known none more)) grown)
 
 -- WHERE A MARK IS SET
@@ -234,10 +234,10 @@ pub frames_opened : (t : Tuning) (assigned : Option Traffic) (heard : List Sampl
     length heard < next_end r → HearsTraffic t traffic m r heard [] →
     FollowsTraffic t assigned (Some m) r heard [] × (traffic_left t assigned (Some m) heard r ≡ [])
 frames_opened t assigned heard traffic m r followed sound none early hears =
-    let behind : FollowsTraffic t assigned (Some m) r heard [] =
+    let following : FollowsTraffic t assigned (Some m) r heard [] =
     record { traffic = traffic; traffic_is = followed; set = m; set_is = refl; hears = hears } in (
-      behind,
-      left_is behind heard r
+      following,
+      left_is following heard r
           ∙ (receiver_goes hears sound none (length heard + 1)
           (omega (arith, early))).given (omega arith),
     )

@@ -5,9 +5,9 @@ use Rattle.mobile_core.proofs.Common.{Some, IsTrue, is_some, cases_lt, cases_ord
 use Rattle.mobile_core.proofs.Common.{PowerSofts, Decoded, after, traffic_mask, after-after, Standing, CapsuleStandsFor, softs, Finger}
 use Rattle.mobile_core.proofs.Common.{Data}
 use Rattle.mobile_core.proofs.Common.{power_places, scrambling, sums_on, all_fingers, legs_of, subchannels, heard_from, legs_by, moment_of}
-use Rattle.mobile_core.proofs.Common.{moment_place, told_by, all_noted, page_event, pages_behind, unscrambled, message_events, frame_end}
+use Rattle.mobile_core.proofs.Common.{moment_place, told_by, all_noted, page_event, pages_if_marked, unscrambled, message_events, frame_end}
 use Rattle.mobile_core.proofs.Common.{all_sums, power_bits_at, decoded_at, raw_softs, HearsUpTo, HearsWith, IsSoundHandoff, IsTrafficDue}
-use Rattle.mobile_core.proofs.Common.{told_left_with, chips_behind, frame_known, frame_state, has_frame, replaced_in, traffic_start, Tuning}
+use Rattle.mobile_core.proofs.Common.{told_left_with, chips_after, frame_known, frame_state, has_frame, replaced_in, traffic_start, Tuning}
 use Rattle.mobile_core.proofs.Common.{Event, Leg, frame_chips, Mark, Traffic, SpelledSignal, SoftHandoff, TrafficReceiver, flat_map}
 use Rattle.mobile_core.specs.TrafficReceiving.{frame_taken, tuned_to}
 use Rattle.rake_finger.proofs.CloseFingers.{close_ends}
@@ -25,9 +25,9 @@ use Rattle.frame_decoder.specs.TrafficFrames as frames
 pub state_on : (traffic : Traffic) (m : Mark) (state k : ℕ) → state ≡ frame_state traffic m 0 →
     after state (24576 * k) ≡ frame_state traffic m k
 state_on traffic m state k is =
-    let sum : chips_behind traffic 0 + 24576 * k ≡ chips_behind traffic k = omega arith in
+    let sum : chips_after traffic 0 + 24576 * k ≡ chips_after traffic k = omega arith in
     ap (λ (n : ℕ). after n (24576 * k)) is
-    ∙ after-after m.state (chips_behind traffic 0) (24576 * k)
+    ∙ after-after m.state (chips_after traffic 0) (24576 * k)
     ∙ ap (after m.state) sum
 
 -- where nothing is due no message is kept
@@ -139,8 +139,8 @@ module _ {t : Tuning} {traffic : Traffic} {m : Mark} {r : SoftHandoff} {heard : 
             let low = (close_ends r.receiver.frames.clock.start r.receiver.frames.fingers sound.receiver.frames.close).0 in
             let end' = sound.receiver.frames.ends in
             let start = st.frames.start_is in
-            let behind = start_moment traffic m coming in
-            absurd (omega (arith, later, low, end', start, behind, ends))
+            let following = start_moment traffic m coming in
+            absurd (omega (arith, later, low, end', start, following, ends))
         | inr told ↦ omega (arith, told)
       ]
 
@@ -151,8 +151,8 @@ module _ {t : Tuning} {traffic : Traffic} {m : Mark} {r : SoftHandoff} {heard : 
       let low = known_low t traffic m legs closes k in
       elim (cases_lt r.sets.passed (moment_of traffic coming)) [
         | inl later ↦
-            let behind = start_moment traffic m coming in
-            omega (arith, later, behind, low, early, above, idle)
+            let following = start_moment traffic m coming in
+            omega (arith, later, following, low, early, above, idle)
         | inr told ↦
             let end' = end_is (omega (arith, told)) in
             elim (cases_order coming k) [
@@ -192,11 +192,11 @@ module _ {t : Tuning} {traffic : Traffic} {m : Mark} {r : SoftHandoff} {heard : 
       (ends : length heard + length more ≤ end) (early : length heard + length more ≤ moment)
       (within : length heard + length more ≤ t.count) (given : pages ≡ []) (later : List Event)
       (later_is : later ≡ map (page_event (length (heard ++ more)))
-      (pages_behind t t.paging (Some m) (heard ++ more) (length (heard ++ more))))
+      (pages_if_marked t t.paging (Some m) (heard ++ more) (length (heard ++ more))))
       (quiet : (samples : List Sample) (n : ℕ) → length heard < n →
-      n < length heard + length more → pages_behind t t.paging (Some m) samples n ≡ [])
+      n < length heard + length more → pages_if_marked t t.paging (Some m) samples n ≡ [])
       (before : (n : ℕ) → n ≤ m.sample →
-      pages_behind t t.paging (Some m) (heard ++ more) n ≡ []) where
+      pages_if_marked t t.paging (Some m) (heard ++ more) n ≡ []) where
     abbrev samples : List Sample
     samples = heard ++ more
 
@@ -217,7 +217,7 @@ module _ {t : Tuning} {traffic : Traffic} {m : Mark} {r : SoftHandoff} {heard : 
         let told : List Event = told_at t traffic m legs (take taken samples) taken in
         told_is t traffic m legs samples taken
         ∙ ap (λ (xs : List Sample).
-        map (page_event taken) (pages_behind t t.paging (Some m) xs taken) ++ told)
+        map (page_event taken) (pages_if_marked t t.paging (Some m) xs taken) ++ told)
         (take_all taken samples (omega arith))
         ∙ ap (λ (es : List Event). es ++ told) (sym later_is)
         ∙ ap (λ (es : List Event). later ++ es) (sym (goes.come more some (omega (arith, long))))
@@ -257,10 +257,10 @@ module _ {t : Tuning} {traffic : Traffic} {m : Mark} {r : SoftHandoff} {heard : 
         (told_given (none_come r sound none) (none_kept r none) (omega (arith, some, ends))))
         ∙ st.sets_are)
         ∙ elim (cases_lt place taken) [
-          | inl behind ↦
+          | inl following ↦
               let d : ℕ = taken - place - a - 1 in
-              let last : place + (a + d) + 1 ≡ taken = omega (arith, long, behind, some) in
-              let count : a + d + 1 ≡ taken - place = omega (arith, long, behind, some) in
+              let last : place + (a + d) + 1 ≡ taken = omega (arith, long, following, some) in
+              let count : a + d + 1 ≡ taken - place = omega (arith, long, following, some) in
               sym (heard_grown t traffic m kept j heard more a d
               (λ i less.
               told_first t traffic m legs heard more (place + i + 1) (omega (arith, less)))
@@ -305,7 +305,7 @@ module _ {t : Tuning} {traffic : Traffic} {m : Mark} {r : SoftHandoff} {heard : 
           close = st.close;
           legs_are = st.legs_are;
           pilots_are = st.pilots_are;
-          behind = λ event rest left some'.
+          following = λ event rest left some'.
               let b = begun some' in omega (arith, long, b, some);
           sets_are = sets_more;
         }
@@ -369,7 +369,7 @@ module _ {t : Tuning} {traffic : Traffic} {m : Mark} {r : SoftHandoff} {heard : 
               | inr none ↦ absurd (omega (arith, less, none))
             ];
         pilots_are = st.pilots_are;
-        behind = st.behind;
+        following = st.following;
         sets_are = st.sets_are;
       }
 
@@ -439,6 +439,6 @@ hears_tuned {traffic = traffic} {m = m} {r = r} {kept = kept} legs end fingers s
                 ∙ ap (λ (i : ℕ). legs_of m (kept i)) here
           ];
       pilots_are = st.pilots_are;
-      behind = st.behind;
+      following = st.following;
       sets_are = st.sets_are;
     }

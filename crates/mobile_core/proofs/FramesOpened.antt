@@ -79,7 +79,7 @@ module _ {t : Tuning} {traffic : Traffic} {m : Mark} {r : TrafficReceiver} {hear
         close = λ i. close;
         legs_are = λ told. legs_is;
         pilots_are = refl;
-        behind = λ event rest left some. absurd (omega (arith, some));
+        following = λ event rest left some. absurd (omega (arith, some));
         sets_are = ap (λ (es : List Event). all_noted m es new) none_left
             ∙ sym (heard_none t traffic m (λ i. new) 0 heard [])
             ∙ sym (ap (heard_from t traffic m (λ i. new) heard 0) count);

@@ -49,9 +49,9 @@ noted_legs m pn first event s = refl
 -- how many moments lie before a number of samples
 pub moments_are : (m : Mark) (j n : ℕ) → n ≤ moment_place m (j + 1) →
     (0 < j → moment_place m j < n) → moments_before m n ≡ j
-moments_are m j n early behind =
+moments_are m j n early following =
     elim (cases_lt 0 j) [
-      | inl some ↦ let b = behind some in omega (arith, early, b)
+      | inl some ↦ let b = following some in omega (arith, early, b)
       | inr none ↦ omega (arith, early, none)
     ]
 
@@ -67,7 +67,7 @@ hears_noted {t} {traffic} {m} {heard} {kept} {r} {pages} event st at' =
     let j : ℕ = r.sets.passed in
     let left = told_left_with t traffic m heard r.receiver kept in
     let before =
-    moments_are m j (length heard) st.among.coming (st.behind event (pages ++ left) refl) in
+    moments_are m j (length heard) st.among.coming (st.following event (pages ++ left) refl) in
     let first : j + 1 ≡ moment_from m (length heard) = omega (arith, before) in
     let same : noted_with r.sets.mark.pilot (r.sets.mark.time + (j + 1)) event r.sets.sets
     ≡ noted m event r.sets.sets =
@@ -82,7 +82,7 @@ hears_noted {t} {traffic} {m} {heard} {kept} {r} {pages} event st at' =
       legs_are = st.legs_are;
       pilots_are = noted_legs m r.sets.mark.pilot (r.sets.mark.time + (j + 1)) event r.sets.sets
           ∙ st.pilots_are;
-      behind = λ e rest is some. st.behind event (pages ++ left) refl some;
+      following = λ e rest is some. st.following event (pages ++ left) refl some;
       sets_are = ap (λ (s : Standing). all_noted m (pages ++ left) s) same ∙ st.sets_are;
     }
 
@@ -164,7 +164,7 @@ module _ {t : Tuning} {traffic : Traffic} {m : Mark} {r : SoftHandoff} {heard : 
           close = st.close;
           legs_are = st.legs_are;
           pilots_are = st.pilots_are;
-          behind = λ e others is some. st.behind event (message_events n message ++ rest) (sym left) some;
+          following = λ e others is some. st.following event (message_events n message ++ rest) (sym left) some;
           sets_are = ap (λ (es : List Event). all_noted m es r.sets.sets) left ∙ st.sets_are;
         },
         ap (λ (es : List Event). es ++ sets_left_of t traffic m heard r.sets.passed) left,

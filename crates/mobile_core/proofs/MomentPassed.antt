@@ -80,8 +80,8 @@ module _ {t : Tuning} {traffic : Traffic} {m : Mark} {r : SoftHandoff} {heard : 
   heard_here k less =
       let ended = st.frames.ended k less in
       let low = known_low t traffic m legs_now (closes st sound) k in
-      let behind = start_moment traffic m k in
-      old_here k (omega (arith, behind, low, ended, here))
+      let following = start_moment traffic m k in
+      old_here k (omega (arith, following, low, ended, here))
 
   -- its event was the last that was left
   event_now : sets_left_of t traffic m heard last ≡ sets_events m heard (last + 1) r.sets.sets
@@ -118,8 +118,8 @@ module _ {t : Tuning} {traffic : Traffic} {m : Mark} {r : SoftHandoff} {heard : 
         elim (cases_lt last (moment_of traffic i)) [
           | inl later ↦
               let low = known_low t traffic m legs_then (λ j. new_close (moment_of traffic j)) i in
-              let behind = start_moment traffic m i in
-              omega (arith, later, behind, low, here)
+              let following = start_moment traffic m i in
+              omega (arith, later, following, low, here)
           | inr early ↦
               let same = known_same t traffic m legs_now legs_then i (old_here i early) in
               let ends = from_next st sound idle (length heard + 1) (omega (arith, waits))
@@ -157,7 +157,7 @@ module _ {t : Tuning} {traffic : Traffic} {m : Mark} {r : SoftHandoff} {heard : 
           close = new_close;
           legs_are = λ early. st.legs_are early ∙ sym (old_here r.receiver.frames.clock.have (omega (arith, early)));
           pilots_are = new_here (last + 1) (omega arith);
-          behind = λ e rest left some.
+          following = λ e rest left some.
               let lost : [] ≡ e ∷ rest = sym told_none ∙ left in
               absurd (cc);
           sets_are = ap (λ (es : List Event). all_noted m es k.sets) told_none

@@ -1,9 +1,9 @@
 -- What a handset's paging channel has still to give, as samples come.
 use Rattle.mobile_core.proofs.Common.{◌≡◌, ℕ, ◌+◌, ◌^◌, ◌<◌, ◌≤◌, List, [], ◌++◌, length, map, refl, sym, ap, ◌∙◌, arith, inl, inr, Option}
 use Rattle.mobile_core.proofs.Common.{Some, None, IfSome, is_some, nat_lt, ForSome, option_to_list, cases_lt, map-append, Sample, IsDueAt}
-use Rattle.mobile_core.proofs.Common.{page_event, pages_behind, FollowsPages, HearsPages, IsUnpaged, paging_left, paging_events_left}
+use Rattle.mobile_core.proofs.Common.{page_event, pages_if_marked, FollowsPages, HearsPages, IsUnpaged, paging_left, paging_events_left}
 use Rattle.mobile_core.proofs.Common.{HearsBit, HearsPaging, IsSoundPaging, IsSomeAnd, bits_heard, subst, pages_left, Tuning, Event, Mark}
-use Rattle.mobile_core.proofs.Common.{Paging, PagingReceiver, SpelledPage, told_behind}
+use Rattle.mobile_core.proofs.Common.{Paging, PagingReceiver, SpelledPage, told_after}
 use Rattle.reception.proofs.ClockSteps.{before_next, from_next}
 use Rattle.heard_events.proofs.Arrivals.{none_between}
 use Rattle.heard_events.proofs.GoesOn.{GoesOn, goes_as, mapped, never}
@@ -12,17 +12,17 @@ use Rattle.heard_events.proofs.PageGrowth as growth
 use Rattle.mobile_core.proofs.PagesHeard as pages
 
 -- the events of the messages that are known when just n samples have been taken
-abbrev pub paged_behind : Tuning → Option Mark → List Sample → ℕ → List Event
-paged_behind t mark samples n = map (page_event n) (pages_behind t t.paging mark samples n)
+abbrev pub paged_after : Tuning → Option Mark → List Sample → ℕ → List Event
+paged_after t mark samples n = map (page_event n) (pages_if_marked t t.paging mark samples n)
 
 -- they are what is told of the channel
 pub told_paged : (t : Tuning) (mark : Option Mark) (samples : List Sample) (n : ℕ) →
-    told_behind t (Some (Paging t.paging)) mark samples n ≡ paged_behind t mark samples n
+    told_after t (Some (Paging t.paging)) mark samples n ≡ paged_after t mark samples n
 told_paged t None samples n = refl
 told_paged t (Some m) samples n = refl
 
 unpaged : (t : Tuning) (mark : Option Mark) → IsUnpaged mark → (samples : List Sample) (n : ℕ) →
-    pages_behind t t.paging mark samples n ≡ []
+    pages_if_marked t t.paging mark samples n ≡ []
 unpaged t None h samples n = refl
 unpaged t (Some m) h samples n = rw h refl
 
@@ -73,13 +73,13 @@ module _ (t : Tuning) (mark : Option Mark) (heard : List Sample) where
       ¬ IsSomeAnd receiver (λ r. IsDueAt t.count r.received.clock) →
       (samples : List Sample) (n end : ℕ) → length heard < n → n < end →
       ForSome receiver (λ r. end ≤ r.received.clock.end) →
-      pages_behind t t.paging mark samples n ≡ []
-  pages_quiet None behind none samples n end past before ends = unpaged t mark behind samples n
-  pages_quiet (Some r) behind none samples n end past before ends =
-      let is = behind.hears.receives.clocked in
-      rw (behind.set_is, behind.rate)
-      (pages_none t t.paging behind.set samples n
-      (none_between (page_frames t t.paging behind.set) r.received.clock.next (length heard) end n
+      pages_if_marked t t.paging mark samples n ≡ []
+  pages_quiet None following none samples n end past before ends = unpaged t mark following samples n
+  pages_quiet (Some r) following none samples n end past before ends =
+      let is = following.hears.receives.clocked in
+      rw (following.set_is, following.rate)
+      (pages_none t t.paging following.set samples n
+      (none_between (page_frames t t.paging following.set) r.received.clock.next (length heard) end n
       (before_next is) (from_next is end none (ends r refl)) past before))
 
   -- The pages of a paging channel go on as those that its receiver has left, up to the end of its
@@ -88,18 +88,18 @@ module _ (t : Tuning) (mark : Option Mark) (heard : List Sample) where
   pub pages_go : (receiver : Option PagingReceiver) → HearsPages t mark receiver heard →
       ¬ IsSomeAnd receiver (λ r. IsDueAt t.count r.received.clock) → (end : ℕ) →
       ForSome receiver (λ r. end ≤ r.received.clock.end) →
-      GoesOn (paged_behind t mark) (λ samples. paging_events_left t mark samples receiver) heard end
-  pages_go None behind none end ends =
-      never (paged_behind t mark)
-      (λ samples n. ap (map (page_event n)) (unpaged t mark behind samples n)) heard end
-  pages_go (Some r) behind none end ends =
-      let is = behind.hears.receives.clocked in
-      let start = pages.idle behind.hears none in
+      GoesOn (paged_after t mark) (λ samples. paging_events_left t mark samples receiver) heard end
+  pages_go None following none end ends =
+      never (paged_after t mark)
+      (λ samples n. ap (map (page_event n)) (unpaged t mark following samples n)) heard end
+  pages_go (Some r) following none end ends =
+      let is = following.hears.receives.clocked in
+      let start = pages.idle following.hears none in
       mapped page_event
       (goes_as
-      (growth.pages_go t t.paging behind.set r.received.clock.next heard end (before_next is)
-      (from_next is end none (ends r refl))) (λ samples n. rw (behind.set_is, behind.rate) refl)
-      (λ samples. rw (behind.set_is, start) refl))
+      (growth.pages_go t t.paging following.set r.received.clock.next heard end (before_next is)
+      (from_next is end none (ends r refl))) (λ samples n. rw (following.set_is, following.rate) refl)
+      (λ samples. rw (following.set_is, start) refl))
 
   -- more samples, up to the end of the frame that comes next
   pub pages_more : (receiver : Option PagingReceiver) → HearsPages t mark receiver heard →
@@ -107,10 +107,10 @@ module _ (t : Tuning) (mark : Option Mark) (heard : List Sample) where
       length heard + length more ≤ t.count →
       ForSome receiver (λ r. length heard + length more ≤ r.received.clock.end) →
       HearsPages t mark receiver (heard ++ more)
-  pages_more None behind none more within ends = behind
-  pages_more (Some r) behind none more within ends =
-      follows_on behind r (heard ++ more)
-      (pages.hears_more behind.hears more none within (ends r refl))
+  pages_more None following none more within ends = following
+  pages_more (Some r) following none more within ends =
+      follows_on following r (heard ++ more)
+      (pages.hears_more following.hears more none within (ends r refl))
 
 -- A receiver that is opened now has heard nothing, with no message left to tell: none of its frames
 -- is due, and the first one ends after the mark, which lies after all samples so far.
@@ -123,10 +123,10 @@ pub pages_opened : (t : Tuning) (heard : List Sample) (m : Mark) (channel : ℕ)
 pages_opened t heard m channel same early None is begins fresh hears = (sym is, refl)
 pages_opened t heard m channel same early (Some r) is begins fresh hears =
     let hears' = subst (λ (n : ℕ). HearsPaging t n m r heard) same hears in
-    let behind : HearsPages t (Some m) (Some r) heard =
+    let following : HearsPages t (Some m) (Some r) heard =
     record { set = m; set_is = refl; rate = sym is; hears = hears' } in (
-      behind,
-      (pages_go t (Some m) heard (Some r) behind (λ d. omega (arith, fresh, d.0)) (length heard + 1)
+      following,
+      (pages_go t (Some m) heard (Some r) following (λ d. omega (arith, fresh, d.0)) (length heard + 1)
           (λ x e.
           let same : r ≡ x = cc in
           let end = ap (λ (y : PagingReceiver). y.received.clock.end) same in

@@ -8,7 +8,7 @@ use Rattle.mobile_core.proofs.Common.{Continued, Mark, PagingReceiver, SpelledPa
 use Rattle.std.proofs.lemmas.List.{append-nil}
 use Rattle.paging_message.specs.HalfFrames.{HalfFramesStandFor}
 use Rattle.reception.proofs.ClockSteps.{due_inside, due_known, before_next}
-use Rattle.heard_events.proofs.PageGrowth.{bits_before_more, bits_before_none, bits_before_sooner, left_next, pages_behind_last, pages_next}
+use Rattle.heard_events.proofs.PageGrowth.{bits_before_more, bits_before_none, bits_before_sooner, left_next, pages_after_last, pages_next}
 use Rattle.reception.proofs.Received.{receives_heard, receives_more}
 use Rattle.mobile_core.specs.PagingReceiving.{IsOfChannel}
 
@@ -186,7 +186,7 @@ module _ {t : Tuning} {channel : ℕ} {m : Mark} {r : PagingReceiver} {heard : L
         let whole : take (r.place + 1) own ≡ own =
         take_all (r.place + 1) own (rw own_is at last) in
         let more = bits_before_more t.count heard s next (due_inside is d) in
-        let none = pages_behind_last t channel m heard next (r.place + 1) (rw own_is at last) in
+        let none = pages_after_last t channel m heard next (r.place + 1) (rw own_is at last) in
         let others = pages_left t channel m heard (next + 1) 0 in
         record {
           hears = record {

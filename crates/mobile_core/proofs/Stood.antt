@@ -109,10 +109,10 @@ module _ {t : Tuning} {count : ℕ} {check : CheckForm} {pilot : Option Best} {r
         let is = st.sync.receives.clocked in
         let file = st.count_is in
         let gone = ap pilot_left is_told in
-        let behind = subst (λ (m : Option Mark). HearsFollowed t followed m heard)
+        let following = subst (λ (m : Option Mark). HearsFollowed t followed m heard)
         st.sync.marked st.followed in
         let grown = events_grown t clock.low is.timed near heard more clock.next followed some
-        (before_next is) (from_next is (length heard + length more) sync_waits most) behind
+        (before_next is) (from_next is (length heard + length more) sync_waits most) following
         sound.follows others_wait ends in
         record {
           count_is = file;
@@ -211,11 +211,11 @@ module _ {t : Tuning} {count : ℕ} {check : CheckForm} {pilot : Option Best} {r
       Stands t count check pilot ring after others heard (given ++ event_list event)
   stands_heard after others event told next follows left =
       let later = sync_events_left t heard after.received.clock.next in
-      let behind = followed_events_left t sync.mark heard followed in
+      let following = followed_events_left t sync.mark heard followed in
       stands_on pilot after others event st.early next.hears follows next.noted
       (rw (told, left)
-      (sym (append_assoc (event_list event) later behind)
-      ∙ ap (λ (es : List Event). es ++ behind) next.left))
+      (sym (append_assoc (event_list event) later following)
+      ∙ ap (λ (es : List Event). es ++ following) next.left))
 
   -- what is due of the other channels has been heard: a bit, or a frame
   pub stands_followed : (others : Followed) (event : Option Event) → pilot ≡ None →

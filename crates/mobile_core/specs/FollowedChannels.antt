@@ -4,8 +4,8 @@ use Rattle.std.specs.Prelude.{Option, Some}
 use Rattle.std.specs.Option.{ForSome, IsSomeAnd, MatchOption, option_map_or}
 use Rattle.chip_core.specs.declared.assignment.Traffic.{Traffic}
 use Rattle.chip_core.specs.declared.sample.Sample.{Sample}
-use Rattle.mobile_core.specs.BehindMark.{FollowsPages, FollowsTraffic, IsSoundAssignment, IsUnheard}
-use Rattle.mobile_core.specs.BehindMark.{IsUnpaged, paging_due, paging_left, traffic_left}
+use Rattle.mobile_core.specs.AfterMark.{FollowsPages, FollowsTraffic, IsSoundAssignment, IsUnheard}
+use Rattle.mobile_core.specs.AfterMark.{IsUnpaged, paging_due, paging_left, traffic_left}
 use Rattle.reception.specs.Clocks.{IsDueAt}
 use Rattle.mobile_core.specs.PagingReceiving.{IsSoundPaging, bits_heard}
 use Rattle.mobile_core.specs.TrafficReceiving.{IsSoundHandoff, IsTrafficDue, WaitsAt, next_end}

@@ -2,7 +2,7 @@
 pub mod SyncReceiving
 pub mod PagingReceiving
 pub mod TrafficReceiving
-pub mod BehindMark
+pub mod AfterMark
 pub mod FollowedChannels
 pub mod SoundHandset
 pub mod Standing

@@ -137,7 +137,7 @@ pub record HearsUpTo (until : ℕ) (t : Tuning) (traffic : Traffic) (m : Mark) (
   pub legs_are : moment_of traffic r.receiver.frames.clock.have < until →
       r.receiver.legs ≡ legs_by traffic m kept r.receiver.frames.clock.have
   pub pilots_are : legs_of m r.sets.sets ≡ legs_of m (kept r.sets.passed)
-  pub behind : (event : Event) (rest : List Event) →
+  pub following : (event : Event) (rest : List Event) →
       pages ++ told_left_with t traffic m heard r.receiver kept ≡ event ∷ rest →
       0 < r.sets.passed → moment_place m r.sets.passed < length heard
   pub sets_are : all_noted m (pages ++ told_left_with t traffic m heard r.receiver kept) r.sets.sets

@@ -36,7 +36,7 @@ impl Followed {
     ghost use Rattle.std.specs.Option.{ForSome, option_map_or};
     ghost use Rattle.chip_core.specs.declared.assignment.Traffic.{Traffic as TheTraffic};
     ghost use Rattle.chip_core.specs.declared.sample.Sample.{Sample};
-    ghost use Rattle.mobile_core.specs.BehindMark.{IsSoundAssignment, SetsMark};
+    ghost use Rattle.mobile_core.specs.AfterMark.{IsSoundAssignment, SetsMark};
     ghost use Rattle.mobile_core.specs.FollowedChannels.{HearsFollowed, HearsFrames};
     ghost use Rattle.mobile_core.specs.FollowedChannels.{IsSoundFollowed, WaitFrom, followed_due};
     ghost use Rattle.mobile_core.specs.FollowedChannels.{followed_events_left, followed_heard};

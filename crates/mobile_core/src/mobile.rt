@@ -77,7 +77,7 @@ impl Mobile {
     ghost use Rattle.heard_events.specs.Marks.{mark, sets_mark};
     ghost use Rattle.heard_events.specs.SoundMarks.{IsSoundMark};
     ghost use Rattle.mobile_core.specs.FollowedChannels.{EndFrom, IsFollowedDue};
-    ghost use Rattle.mobile_core.specs.BehindMark.{IsSoundAssignment};
+    ghost use Rattle.mobile_core.specs.AfterMark.{IsSoundAssignment};
     ghost use Rattle.reception.specs.Clocks.{IsDueAt};
     ghost use Rattle.mobile_core.specs.Standing.{IsDueFor, IsStep, StandsFor, Steps, Tells};
     ghost use Rattle.mobile_core.specs.Standing.{due_parts, has_room, ring_room, samples_taken};

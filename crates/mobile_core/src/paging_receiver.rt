@@ -144,8 +144,8 @@ impl PagingReceiver {
 
 impl Receive for PagingReceiver {
     ghost use Rattle.std.specs.Prelude.{◌<◌, ◌≤◌};
-    ghost use Rattle.mobile_core.specs.BehindMark.{FollowsPages, IsUnpaged, paging_due};
-    ghost use Rattle.mobile_core.specs.BehindMark.{paging_left};
+    ghost use Rattle.mobile_core.specs.AfterMark.{FollowsPages, IsUnpaged, paging_due};
+    ghost use Rattle.mobile_core.specs.AfterMark.{paging_left};
     ghost use Rattle.reception.specs.Clocks.{IsDueAt};
     ghost use Rattle.mobile_core.specs.PagingReceiving.{IsSoundPaging, bits_heard};
 

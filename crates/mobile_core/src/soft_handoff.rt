@@ -143,7 +143,7 @@ impl SoftHandoff {
 
 impl Receive for SoftHandoff {
     ghost use Rattle.std.specs.Prelude.{◌≤◌};
-    ghost use Rattle.mobile_core.specs.BehindMark.{FollowsTraffic, IsUnheard, traffic_left};
+    ghost use Rattle.mobile_core.specs.AfterMark.{FollowsTraffic, IsUnheard, traffic_left};
     ghost use Rattle.mobile_core.specs.TrafficReceiving.{IsSoundHandoff, IsTrafficDue, WaitsAt};
     ghost use Rattle.mobile_core.specs.TrafficReceiving.{next_end, traffic_due, traffic_heard};
 

@@ -181,9 +181,9 @@ fn mark_of(first: u64, told: &Option<Spelled<SyncMessage>>) -> Option<Mark>
     let state = State::new(fields.lc).unwrap();
     let body_bits = u64::from(SUPERFRAME_BITS);
     let superframes = (u64::from(told.capsule.len()) + body_bits - 1) / body_bits;
-    let behind = SUPERFRAME_CHIPS * (superframes + 4);
+    let following = SUPERFRAME_CHIPS * (superframes + 4);
     Some(Mark {
-        sample: first + behind - OFFSET_CHIPS * u64::from(fields.pn),
+        sample: first + following - OFFSET_CHIPS * u64::from(fields.pn),
         time: fields.time,
         state,
         pilot: fields.pn,

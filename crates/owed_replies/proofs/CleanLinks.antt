@@ -3,7 +3,7 @@ use Rattle.owed_replies.proofs.Common.{◌≡◌, ◌⊎◌, inl, inr, ℕ, ◌�
 use Rattle.owed_replies.proofs.Common.{Sample, Width, IsSampleFile, Header, made_samples, CellPlan, KeptTap, run_text, events, Tuning}
 use Rattle.owed_replies.proofs.Common.{Event, Traffic, IsPaging, tuning_to, IsNotDirected, IsOnPath, IsCleanLink, cell_energy, HearsEach}
 use Rattle.owed_replies.proofs.Common.{each_channel, WritesEach, clean_end, file_end_of, file_text, told, settings_for, tuning_for}
-use Rattle.owed_replies.proofs.Common.{AnswersBehind, IsFileReply, Reply, following, Status, NoMemory, named_receivable}
+use Rattle.owed_replies.proofs.Common.{AnswersAfter, IsFileReply, Reply, following, Status, NoMemory, named_receivable}
 use Rattle.owed_replies.proofs.CleanTexts.{clean_end-is, on_path, tuned_to_cell}
 use Rattle.owed_replies.proofs.Replies.{whole_file}
 
@@ -56,7 +56,7 @@ module _ (width : Width) (script : List ℕ) (plan : CellPlan)
       (written : Option (List ℕ)) → IsSampleFile bytes header samples → span ≤ length samples →
       ((reply : Reply) →
       IsFileReply taps (following span workers fingers paging traffic) bytes reply →
-      (status ≡ NoMemory) ⊎ AnswersBehind held reply status written) →
+      (status ≡ NoMemory) ⊎ AnswersAfter held reply status written) →
       (status ≡ NoMemory) ⊎
       ((status ≡ clean_end plan) × WritesEach taps span plan paging traffic held written)
   each_answer taps bytes held status written file enough exact =

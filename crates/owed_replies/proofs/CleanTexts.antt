@@ -4,7 +4,7 @@ use Rattle.owed_replies.proofs.Common.{Sample, IsSampleFile, Header, Width, ener
 use Rattle.owed_replies.proofs.Common.{run_text, events, Event, IsPaging, made_samples, Tuning, IsCellFile, IsCleanLink, cell_energy}
 use Rattle.owed_replies.proofs.Common.{IsNotDirected, IsOnPath, IsTunedToPlan, tuning_to, FollowsSent, sent_events, messages_back, tuned_is}
 use Rattle.owed_replies.proofs.Common.{Traffic, clean_end, clean_events, told, file_end_of, file_text, settings_for, tuning_for}
-use Rattle.owed_replies.proofs.Common.{AnswersBehind, IsFileReply, Reply, following, Settings, Status, NoMemory}
+use Rattle.owed_replies.proofs.Common.{AnswersAfter, IsFileReply, Reply, following, Settings, Status, NoMemory}
 use Rattle.owed_replies.proofs.BorneFiles.{cell_borne, end_is, path}
 use Rattle.owed_replies.proofs.Replies.{whole_file}
 
@@ -149,7 +149,7 @@ pub clean_answer : (taps : List KeptTap) (width : Width) (script bytes held : Li
     IsCleanLink width script plan span fingers paging traffic header
     samples → IsFreeOf plan.traffic paging → FollowsSent plan traffic →
     ((reply : Reply) → IsFileReply taps (following span workers fingers paging traffic) bytes reply →
-    (status ≡ NoMemory) ⊎ AnswersBehind held reply status written) →
+    (status ≡ NoMemory) ⊎ AnswersAfter held reply status written) →
     (status ≡ NoMemory) ⊎
     ((status ≡ clean_end plan) ×
     (written ≡ Some (held ++ run_text taps (clean_events span plan paging traffic))))

@@ -75,11 +75,11 @@ pub use Rattle.owed_replies.specs.Hearing.{PurposeIsUnheard, clean_end, end_when
 unfoldable pub use Rattle.owed_replies.specs.Hearing.{clean_events, file_end_of, file_text, told}
 pub use Rattle.owed_replies.specs.Make.{WritesMadeFile}
 unfoldable pub use Rattle.owed_replies.specs.Make.{made_file}
-pub use Rattle.owed_replies.specs.Replies.{Answers, AnswersBehind, Begins, IsAnswered, IsEarlyFault, IsFaultyFile, IsFaultyScript}
+pub use Rattle.owed_replies.specs.Replies.{Answers, AnswersAfter, Begins, IsAnswered, IsEarlyFault, IsFaultyFile, IsFaultyScript}
 pub use Rattle.owed_replies.specs.Replies.{IsFileEnd, IsFileReply, IsLawfulTaskInput, IsPurposeEnd, IsReply, IsScriptEnd, IsScriptReply}
 pub use Rattle.owed_replies.specs.Replies.{IsSearchEnd, IsTaskEnd, IsTaskReply, IsTrialEnd, IsTrialReply, IsVerdict, IsWholeFile}
 pub use Rattle.owed_replies.specs.Replies.{IsWholeScript, IsEndOf, IsTaskPromising, Reply, TaskReadsInput, TaskReadsWell, TaskTakesNoMore}
-pub use Rattle.owed_replies.specs.Replies.{TaskTellsAll, TaskTellsFirst, WritesPart, taps_by}
+pub use Rattle.owed_replies.specs.Replies.{TaskWritesWhole, TaskWritesTaken, GainsNothingOr, taps_by}
 pub use Rattle.owed_replies.specs.Runs.{IsPassedOn, MayHold, PassesOn, RunsCommand, TellsEnd, each_form}
 pub use Rattle.owed_replies.specs.Status.{end_line, file_status}
 pub use Rattle.owed_replies.specs.TaskRuns.{MakesFile, ReceivesFile, RunsTask}

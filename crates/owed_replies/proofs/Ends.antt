@@ -33,14 +33,14 @@ pub begins_file : {header : Header} {samples : List Sample} {count left span : â
     IfSome rest (BeginsFile span)
 begins_file None mid same t = tt
 begins_file (Some bytes) None same t = absurd t.consumed
-begins_file {header} {samples} (Some bytes) (Some behind) same t = record {
+begins_file {header} {samples} (Some bytes) (Some after) same t = record {
   header = header;
   samples = samples;
   lawful = t.lawful;
   enough = omega (arith, same, t.left);
   counted = t.counted âˆ™ same;
   begins = front_begins bytes
-      (header_spelling header ++ flat_map (sample_spelling (width_of header)) samples) behind
+      (header_spelling header ++ flat_map (sample_spelling (width_of header)) samples) after
       t.consumed;
 }
 

@@ -6,9 +6,9 @@ use Rattle.owed_replies.proofs.Common.{IsSampleFile, FileFault, Header, Width, f
 use Rattle.owed_replies.proofs.Common.{kept_by, Job, front_begins, taken_begins, Reception, Status, Task, Make, Receive, Trial, IsCut}
 use Rattle.owed_replies.proofs.Common.{IsEnd, IsFaultIn, IsHeaderFault, IsSearchable, WritesText, ended, PurposeIsUnheard, file_end_of}
 use Rattle.owed_replies.proofs.Common.{file_text}
-use Rattle.owed_replies.proofs.Common.{Purpose, WritesMadeFile, made_file, Answers, AnswersBehind, IsAnswered, IsEarlyFault, IsFaultyFile}
+use Rattle.owed_replies.proofs.Common.{Purpose, WritesMadeFile, made_file, Answers, AnswersAfter, IsAnswered, IsEarlyFault, IsFaultyFile}
 use Rattle.owed_replies.proofs.Common.{IsFaultyScript, IsFileEnd, IsFileReply, IsPurposeEnd, IsReply, IsScriptReply, IsSearchEnd, IsTaskEnd}
-use Rattle.owed_replies.proofs.Common.{IsTaskReply, IsTrialEnd, IsTrialReply, IsVerdict, IsWholeFile, IsWholeScript, Reply, WritesPart}
+use Rattle.owed_replies.proofs.Common.{IsTaskReply, IsTrialEnd, IsTrialReply, IsVerdict, IsWholeFile, IsWholeScript, Reply, GainsNothingOr}
 use Rattle.owed_replies.proofs.Common.{taps_by, task_of, trial_line, AppendsPrefix}
 use Rattle.owed_replies.proofs.Ends.{by_end}
 use Rattle.owed_replies.proofs.Files.{no_fault, one_fault}
@@ -168,7 +168,7 @@ trial_done number (Err status) causes is =
     absurd ((failed_end status causes.failed).1 (rw is tt))
 
 pub trial_part : (number : ℕ) (ran : Result (Unit {0}) Status) {old new : Option (List ℕ)} →
-    HasTrialCauses number ran old new → WritesPart (λ text. StartsWith (trial_line number) text) old new
+    HasTrialCauses number ran old new → GainsNothingOr (λ text. StartsWith (trial_line number) text) old new
 trial_part number (Ok done) causes = record {
   text = trial_line number;
   written = causes.ok;
@@ -282,7 +282,7 @@ one_reply forms job bytes one other a b =
 -- ---- just that reply
 
 settled : (held : List ℕ) (reply : Reply) (status : Status) (new : Option (List ℕ)) →
-    Answers reply status (Some held) new → AnswersBehind held reply status new
+    Answers reply status (Some held) new → AnswersAfter held reply status new
 settled held (Ok whole) status None answers = absurd answers.1
 settled held (Ok whole) status (Some now) answers =
     (answers.0, ap (λ (text : List ℕ). Some text) answers.1)
@@ -293,11 +293,11 @@ pub owed_answer : (forms : List ℕ) (task : Task) (status : Status) (bytes held
     (rest old new : Option (List ℕ)) →
     IfSome rest (λ bytes. IsAnswered (IsTaskReply forms task bytes) status old new) →
     rest ≡ Some bytes → old ≡ Some held → IsTaskReply forms task bytes reply →
-    AnswersBehind held reply status new
+    AnswersAfter held reply status new
 owed_answer forms task status bytes held reply rest old new answered is was owed =
     let a : IsAnswered (IsTaskReply forms task bytes) status (Some held) new =
     rw (is, was) at answered in
-    subst (λ (r : Reply). AnswersBehind held r status new)
+    subst (λ (r : Reply). AnswersAfter held r status new)
     (one_task_reply forms task bytes a.reply reply a.owed owed)
     (settled held a.reply status new a.answers)
 

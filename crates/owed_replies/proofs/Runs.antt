@@ -4,9 +4,9 @@ use Rattle.owed_replies.proofs.Common.{Bool, true, false, ◌↔◌, None, Some,
 use Rattle.owed_replies.proofs.Common.{Appends-kept, CountsFaults, Rose, next_count, Sample, IsSampleFile, FileFault, Header, flat_map}
 use Rattle.owed_replies.proofs.Common.{header_spelling, sample_spelling, width_of, length-take-le, take-append-drop, flat_map-append}
 use Rattle.owed_replies.proofs.Common.{append_assoc, drop, Keeps, Keeps-refl, BeginsFile, front_begins, ◌∙◌, KeptTap, Job, Reception}
-use Rattle.owed_replies.proofs.Common.{Status, Task, Make, Receive, Trial, HasWritten, IsEnd, IsHeaderFault, Answers, AnswersBehind, Begins}
-use Rattle.owed_replies.proofs.Common.{IsAnswered, IsEarlyFault, IsReply, IsTaskReply, IsVerdict, Reply, WritesPart, MayHold, IsPassedOn}
-use Rattle.owed_replies.proofs.Common.{PassesOn, RunsCommand, each_form, IsTaskPromising, TaskTellsAll, TaskTellsFirst, WritesEach, task_of}
+use Rattle.owed_replies.proofs.Common.{Status, Task, Make, Receive, Trial, HasWritten, IsEnd, IsHeaderFault, Answers, AnswersAfter, Begins}
+use Rattle.owed_replies.proofs.Common.{IsAnswered, IsEarlyFault, IsReply, IsTaskReply, IsVerdict, Reply, GainsNothingOr, MayHold, IsPassedOn}
+use Rattle.owed_replies.proofs.Common.{PassesOn, RunsCommand, each_form, IsTaskPromising, TaskWritesWhole, TaskWritesTaken, WritesEach, task_of}
 use Rattle.owed_replies.proofs.Common.{kept_by, TellsEnd, AppendsPrefix, HasCause, end_line, length, take_all, clean_end, clean_events}
 use Rattle.owed_replies.proofs.Common.{run_text}
 use Rattle.std.specs.Bool.{IsTrue}
@@ -44,7 +44,7 @@ verdict_kept owes status (Some bytes) old mid new answered kept = record {
 }
 
 part_kept : (begins : List ℕ → Type 0) (old mid new : Option (List ℕ)) →
-    WritesPart begins old mid → Keeps mid new → WritesPart begins old new
+    GainsNothingOr begins old mid → Keeps mid new → GainsNothingOr begins old new
 part_kept begins old mid new wrote kept = record {
   text = wrote.text;
   written = Appends-kept old mid new wrote.text wrote.written kept;
@@ -67,8 +67,8 @@ samples_kept old mid new wrote kept = record {
 }
 
 first_kept : (forms : List ℕ) (task : Task) {Still Now : Type 0} (rest left old mid new : Option (List ℕ)) →
-    (Still → Now) → TaskTellsFirst forms task Still rest left old mid → Keeps mid new →
-    TaskTellsFirst forms task Now rest left old new
+    (Still → Now) → TaskWritesTaken forms task Still rest left old mid → Keeps mid new →
+    TaskWritesTaken forms task Now rest left old new
 first_kept forms (Receive r limits) None left old mid new grows first kept = tt
 first_kept forms (Receive r limits) (Some bytes) left old mid new grows first kept =
     λ header taken n opened consumed long enough some.
@@ -77,7 +77,7 @@ first_kept forms (Make width) rest left old mid new grows first kept = grows fir
 first_kept forms (Trial number workers) rest left old mid new grows first kept = tt
 
 all_kept : (forms : List ℕ) (task : Task) (rest old mid new : Option (List ℕ)) →
-    TaskTellsAll forms task rest old mid → Keeps mid new → TaskTellsAll forms task rest old new
+    TaskWritesWhole forms task rest old mid → Keeps mid new → TaskWritesWhole forms task rest old new
 all_kept forms (Receive r limits) None old mid new all kept = tt
 all_kept forms (Receive r limits) (Some bytes) old mid new all kept =
     λ header opened. samples_kept old mid new (all header opened) kept
@@ -176,7 +176,7 @@ module _ {forms : List ℕ} {named : Option Job} {rest left old mid new : Option
         exact = λ job bytes held reply is told was owed reads writes.
             subst
             (λ (k : Option (List ℕ)).
-            (before ≡ Status.NoMemory) ⊎ AnswersBehind held reply before k) (known job held is was)
+            (before ≡ Status.NoMemory) ⊎ AnswersAfter held reply before k) (known job held is was)
             (run.exact job bytes held reply is told was owed reads (went writes));
         clean = λ width script bytes held plan span workers fingers paging traffic limits header
             samples is told was file enough clean reads writes.

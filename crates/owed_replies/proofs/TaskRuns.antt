@@ -2,7 +2,7 @@
 -- and one that does a job's task does the job.
 use Rattle.owed_replies.proofs.Common.{◌≡◌, ℕ, ◌≤◌, ◌⊎◌, inl, inr, List, refl, subst, arith, Option, None, Some, IfSome, Result, Err}
 use Rattle.owed_replies.proofs.Common.{IfSome_then, Appends, Width, Rose, KeptTap, Job, Reception, Status, Task, Make, Receive, Trial}
-use Rattle.owed_replies.proofs.Common.{IsOfFiles, ended, AnswersBehind, IsAnswered, IsFileEnd, IsFileReply, IsScriptEnd, IsScriptReply}
+use Rattle.owed_replies.proofs.Common.{IsOfFiles, ended, AnswersAfter, IsAnswered, IsFileEnd, IsFileReply, IsScriptEnd, IsScriptReply}
 use Rattle.owed_replies.proofs.Common.{IsTaskReply, IsTrialEnd, IsVerdict, Reply, taps_by, MakesFile, ReceivesFile, RunsTask, task_of}
 use Rattle.owed_replies.proofs.Common.{trial_line}
 use Rattle.owed_replies.proofs.Bounds.{none_most}
@@ -126,7 +126,7 @@ module _ {rest left : Option (List ℕ)} {misread misread_now : ℕ} {SameSource
       miswritten_now SameSink → (bytes held : List ℕ) (reply : Reply) → rest ≡ Some bytes →
       old ≡ Some held → IsTaskReply forms task bytes reply → ¬ (Rose misread misread_now) →
       ¬ (Rose miswritten miswritten_now) →
-      (status ≡ Status.NoMemory) ⊎ AnswersBehind held reply status new
+      (status ≡ Status.NoMemory) ⊎ AnswersAfter held reply status new
   exact_answer forms task Status.BadWords run bytes held reply is was owed reads writes =
       absurd (named_well task run.kind)
   exact_answer forms task Status.ReadFault run bytes held reply is was owed reads writes =

@@ -11,7 +11,7 @@ use Rattle.chip_core.specs.declared.width.Width.{Width}
 use Rattle.cdma_io.specs.SampleFile.{HasBits, IsLawfulHeader, header_spelling, opening, sample_len}
 use Rattle.cdma_io.specs.SampleFile.{sample_spelling, width_of}
 use Rattle.event_tap.specs.Taps.{KeptTap}
-use Rattle.owed_replies.specs.Hearing.{Listening, TellsMore, file_text}
+use Rattle.owed_replies.specs.Hearing.{Listening, GainsText, file_text}
 use Rattle.owed_replies.specs.declared.reception.Reception.{Reception}
 use Rattle.owed_replies.specs.declared.status.Status.{Status}
 use Rattle.owed_replies.specs.declared.status.Status.TheVariants.{BadFile, ReadFault}
@@ -85,4 +85,4 @@ pub record HearsFirst (l : Listening) (width : Width) (counted : ℕ → Type 0)
   pub in_range : All (HasBits width) samples
   pub few : length more ≤ most
   pub consumed : Consumes rest left (flat_map (sample_spelling width) samples ++ more)
-  pub tells : TellsMore l heard (heard ++ samples) old new
+  pub tells : GainsText l heard (heard ++ samples) old new

@@ -160,14 +160,14 @@ AreReady near =
 -- ---- what a sink got of it
 
 -- a sink got what is told of these samples beyond what is told of those before
-pub record TellsMore (l : Listening) (before heard : List Sample) (old new : Option (List ℕ)) :
+pub record GainsText (l : Listening) (before heard : List Sample) (old new : Option (List ℕ)) :
     Type 0 where
   pub text : List ℕ
   pub written : Appends old new text
   pub all : told l before ++ text ≡ told l heard
 
 -- a sink got a beginning of that
-pub record TellsPart (l : Listening) (before heard : List Sample) (old new : Option (List ℕ)) :
+pub record GainsPrefix (l : Listening) (before heard : List Sample) (old new : Option (List ℕ)) :
     Type 0 where
   pub text : List ℕ
   pub written : Appends old new text
@@ -175,11 +175,11 @@ pub record TellsPart (l : Listening) (before heard : List Sample) (old new : Opt
 
 -- a source lost the spellings of samples, at most so many, each within its width, with more bytes
 -- or none; and a sink got a beginning of what is told of them
-pub record HearsPart (l : Listening) (width : Width) (most : ℕ) (heard : List Sample)
+pub record LosesSamples (l : Listening) (width : Width) (most : ℕ) (heard : List Sample)
     (rest left old new : Option (List ℕ)) : Type 0 where
   pub samples : List Sample
   pub more : List ℕ
   pub number : length samples ≤ most
   pub in_range : All (HasBits width) samples
   pub consumed : Consumes rest left (flat_map (sample_spelling width) samples ++ more)
-  pub tells : TellsPart l heard (heard ++ samples) old new
+  pub tells : GainsPrefix l heard (heard ++ samples) old new

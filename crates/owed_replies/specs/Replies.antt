@@ -115,17 +115,17 @@ TaskBegins forms (Trial number workers) = λ rest left text. StartsWith (trial_l
 -- what was written where the input breaks off, or a read failed: the text of the first of the
 -- samples that were taken; and nothing of a script, which is read before anything is written, as
 -- this type says
-abbrev pub TaskTellsFirst : List ℕ → Task → Type 0 → Option (List ℕ) → Option (List ℕ) →
+abbrev pub TaskWritesTaken : List ℕ → Task → Type 0 → Option (List ℕ) → Option (List ℕ) →
     Option (List ℕ) → Option (List ℕ) → Type 0
-TaskTellsFirst forms (Receive r limits) Unwritten = WritesFirst (taps_by limits forms) r
-TaskTellsFirst forms (Make width) Unwritten = λ rest left old new. Unwritten
-TaskTellsFirst forms (Trial number workers) Unwritten = λ rest left old new. Unit {0}
+TaskWritesTaken forms (Receive r limits) Unwritten = WritesFirst (taps_by limits forms) r
+TaskWritesTaken forms (Make width) Unwritten = λ rest left old new. Unwritten
+TaskWritesTaken forms (Trial number workers) Unwritten = λ rest left old new. Unit {0}
 
 -- and where it goes on after its samples: their whole text
-abbrev pub TaskTellsAll : List ℕ → Task → Option (List ℕ) → Option (List ℕ) → Option (List ℕ) →
+abbrev pub TaskWritesWhole : List ℕ → Task → Option (List ℕ) → Option (List ℕ) → Option (List ℕ) →
     Type 0
-TaskTellsAll forms (Receive r limits) = WritesAll (taps_by limits forms) r
-TaskTellsAll forms task = λ rest old new. Unit {0}
+TaskWritesWhole forms (Receive r limits) = WritesAll (taps_by limits forms) r
+TaskWritesWhole forms task = λ rest old new. Unit {0}
 
 -- how many bytes are taken of the input at most, however the run ends: of a file a byte more than
 -- its header counts, of a script a byte more than it may have, and for a trial none
@@ -203,12 +203,12 @@ ReadsInput job = TaskReadsInput (task_of job)
 abbrev pub Begins : List ℕ → Job → Option (List ℕ) → Option (List ℕ) → List ℕ → Type 0
 Begins forms job = TaskBegins forms (task_of job)
 
-abbrev pub TellsFirst : List ℕ → Job → Type 0 → Option (List ℕ) → Option (List ℕ) →
+abbrev pub WritesTaken : List ℕ → Job → Type 0 → Option (List ℕ) → Option (List ℕ) →
     Option (List ℕ) → Option (List ℕ) → Type 0
-TellsFirst forms job = TaskTellsFirst forms (task_of job)
+WritesTaken forms job = TaskWritesTaken forms (task_of job)
 
-abbrev pub TellsAll : List ℕ → Job → Option (List ℕ) → Option (List ℕ) → Option (List ℕ) → Type 0
-TellsAll forms job = TaskTellsAll forms (task_of job)
+abbrev pub WritesWhole : List ℕ → Job → Option (List ℕ) → Option (List ℕ) → Option (List ℕ) → Type 0
+WritesWhole forms job = TaskWritesWhole forms (task_of job)
 
 abbrev pub BoundsInput : Job → Option (List ℕ) → Option (List ℕ) → Type 0
 BoundsInput job = TaskTakesNoMore (task_of job)
@@ -244,9 +244,9 @@ Answers (Ok whole) status old new = (status ≡ whole.1) × Appends old new whol
 Answers (Err end) status old new = status ≡ end
 
 -- the sink held these bytes
-abbrev pub AnswersBehind : List ℕ → Reply → Status → Option (List ℕ) → Type 0
-AnswersBehind held (Ok whole) status new = (status ≡ whole.1) × (new ≡ Some (held ++ whole.0))
-AnswersBehind held (Err end) status new = status ≡ end
+abbrev pub AnswersAfter : List ℕ → Reply → Status → Option (List ℕ) → Type 0
+AnswersAfter held (Ok whole) status new = (status ≡ whole.1) × (new ≡ Some (held ++ whole.0))
+AnswersAfter held (Err end) status new = status ≡ end
 
 -- a run answered what it owes
 pub record IsAnswered (owes : Reply → Type 0) (status : Status) (old new : Option (List ℕ)) :
@@ -256,7 +256,7 @@ pub record IsAnswered (owes : Reply → Type 0) (status : Status) (old new : Opt
   pub answers : Answers reply status old new
 
 -- known bytes grew by nothing, or by such a text
-pub record WritesPart (begins : List ℕ → Type 0) (old new : Option (List ℕ)) : Type 0 where
+pub record GainsNothingOr (begins : List ℕ → Type 0) (old new : Option (List ℕ)) : Type 0 where
   pub text : List ℕ
   pub written : Appends old new text
   pub part : (text ≡ []) ⊎ begins text

@@ -24,9 +24,9 @@ use Rattle.owed_replies.specs.CleanFiles.{IsCleanLink}
 use Rattle.owed_replies.specs.CleanLinks.{WritesEach}
 use Rattle.owed_replies.specs.Find.{IsEnd, IsHeaderFault}
 use Rattle.owed_replies.specs.Hearing.{clean_end, clean_events}
-use Rattle.owed_replies.specs.Replies.{AnswersBehind, Begins, BoundsInput, IsAnswered, IsEarlyFault}
+use Rattle.owed_replies.specs.Replies.{AnswersAfter, Begins, BoundsInput, IsAnswered, IsEarlyFault}
 use Rattle.owed_replies.specs.Replies.{IsEndOf, IsPromising, IsReply, IsVerdict, ReadsInput}
-use Rattle.owed_replies.specs.Replies.{ReadsWell, Reply, TellsAll, TellsFirst, WritesPart}
+use Rattle.owed_replies.specs.Replies.{ReadsWell, Reply, WritesWhole, WritesTaken, GainsNothingOr}
 use Rattle.owed_replies.specs.Status.{code_of, end_line}
 use Rattle.owed_replies.specs.Trials.{trial_line}
 
@@ -46,7 +46,7 @@ pub record RunsCommand (forms : List ℕ) (named : Option Job) (status : Status)
   pub exact : (job : Job) (bytes held : List ℕ) (reply : Reply) → named ≡ Some job →
       rest ≡ Some bytes → old ≡ Some held → IsReply forms job bytes reply →
       ¬ (Rose misread misread_now) → ¬ (Rose miswritten miswritten_now) →
-      (status ≡ ends.NoMemory) ⊎ AnswersBehind held reply status new
+      (status ≡ ends.NoMemory) ⊎ AnswersAfter held reply status new
   -- On a clean link, one of one cell over one path, without noise, where one finger lies on it and
   -- no message directs a handoff, that is the text of the pilot at the cell's phase and of a list
   -- of events. Those of the sync channel are just the transmissions that lie in the file whole.
@@ -109,13 +109,13 @@ pub record RunsCommand (forms : List ℕ) (named : Option Job) (status : Status)
   -- Of a file at most a byte more is taken than its header counts, of a script at most a byte more
   -- than it may have, after a failed write too.
   pub bound : (job : Job) → named ≡ Some job → BoundsInput job rest left
-  pub written : (job : Job) → named ≡ Some job → WritesPart (Begins forms job rest left) old new
+  pub written : (job : Job) → named ≡ Some job → GainsNothingOr (Begins forms job rest left) old new
   -- Where a sample file breaks off or a read of it failed, the text of the samples that were taken
   -- was written, but for the last 4,096 or fewer; and where it goes on after its samples, all
   -- text.
   pub cut : (job : Job) → named ≡ Some job → IsCut status →
-      TellsFirst forms job Unwritten rest left old new
-  pub long : (job : Job) → named ≡ Some job → IsLong status → TellsAll forms job rest old new
+      WritesTaken forms job Unwritten rest left old new
+  pub long : (job : Job) → named ≡ Some job → IsLong status → WritesWhole forms job rest old new
   pub later_source : misread ≤ misread_now
   pub later_sink : miswritten ≤ miswritten_now
 

@@ -24,7 +24,7 @@ use Rattle.owed_replies.specs.Hearing.{PurposeIsUnheard}
 use Rattle.owed_replies.specs.Make.{WritesMadeFile, WritesNoMoreMade}
 use Rattle.owed_replies.specs.Replies.{IsAnswered, IsEarlyFault, IsTaskEnd, IsTaskPromising}
 use Rattle.owed_replies.specs.Replies.{IsTaskReply, IsVerdict, TaskBegins, TaskReadsInput}
-use Rattle.owed_replies.specs.Replies.{TaskTakesNoMore, TaskTellsAll, TaskTellsFirst, WritesPart}
+use Rattle.owed_replies.specs.Replies.{TaskTakesNoMore, TaskWritesWhole, TaskWritesTaken, GainsNothingOr}
 use Rattle.owed_replies.specs.Trials.{trial_line}
 
 -- a sample file was received, with these taps
@@ -97,8 +97,8 @@ pub record RunsTask (forms : List ℕ) (task : Task) (status : Status)
   pub bound : TaskTakesNoMore task rest left
   pub trial : (number workers : ℕ) → task ≡ Trial number workers → status ≡ ends.Done →
       Appends old new (trial_line number)
-  pub written : WritesPart (TaskBegins forms task rest left) old new
-  pub cut : IsCut status → TaskTellsFirst forms task SameSink rest left old new
-  pub long : IsLong status → TaskTellsAll forms task rest old new
+  pub written : GainsNothingOr (TaskBegins forms task rest left) old new
+  pub cut : IsCut status → TaskWritesTaken forms task SameSink rest left old new
+  pub long : IsLong status → TaskWritesWhole forms task rest old new
   pub later_source : misread ≤ misread_now
   pub later_sink : miswritten ≤ miswritten_now

@@ -179,8 +179,8 @@ unfolding admits message_at
 placed bits k =
     let s = paging_shape_of k in
     let typed = le-leb 8 (8 + length bits) (omega arith) in
-    let behind : 8 + length bits - 8 ≡ length bits = omega arith in
-    rw (typed, behind)
+    let later : 8 + length bits - 8 ≡ length bits = omega arith in
+    rw (typed, later)
     (ap (λ (r : MessageShape). mapped (message_from k) (reading r bits)) (plain k)
     ∙ ap (mapped (message_from k)) (plain_reading s.fixed s.records s.least s.most bits)
     ∙ mapped_cond (message_from k) (has_length s (length bits)) (list_said s.fixed s.records bits))

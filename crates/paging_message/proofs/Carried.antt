@@ -7,7 +7,7 @@ use Rattle.paging_message.proofs.Common.{flat_map_ext_places, length-take-le, le
 use Rattle.paging_message.proofs.LaidRuns.{AreChainedRuns, first_put_begins, first_puts_chained, first_puts_laid, lawful_some, none_padded}
 use Rattle.paging_message.proofs.LaidRuns.{put-begins, put-follows, runs_pieces, runs_put}
 use Rattle.paging_message.proofs.Layings.{framed_whole}
-use Rattle.paging_message.proofs.Runs.{AreChained, ended-behind, ended_of, fills, first_bits_told, joined, length-padded, run_bits}
+use Rattle.paging_message.proofs.Runs.{AreChained, ended-after, ended_of, fills, first_bits_told, joined, length-padded, run_bits}
 use Rattle.paging_message.proofs.Runs.{run_piece, run_pieces, run_scanned, run_width}
 use Rattle.paging_message.proofs.Scans.{AreWhole, bits_of, ended_by-append, ended_by_bits, half_frame_ends, scan, scan-append, stream}
 use Rattle.paging_message.proofs.Scans.{told_in, whole-append, whole-map, with_number}
@@ -84,7 +84,7 @@ run_ends size at (c ∷ cs) bits chained room =
     ∙ ap (λ (l : List (List Bool)). l ++ flat_map (λ i. g (suc d + i)) (places b)) own
     ∙ ap (λ (l : List (List Bool)). c ∷ l)
     (flat_map_ext_places (λ i. g (suc d + i)) (λ m. option_to_list (ended_of cs (suc m))) b
-    (λ k lt. ap option_to_list (ended-behind c cs (suc (suc d + k)) k (omega (arith, long))))
+    (λ k lt. ap option_to_list (ended-after c cs (suc (suc d + k)) k (omega (arith, long))))
     ∙ run_ends size (at + n) cs b chained.2 (omega (arith, room, all, long)))
 
 -- so do all half-frames of runs, whatever was heard before

@@ -216,7 +216,7 @@ open_more zero size count bits b room = absurd (omega (arith, room))
 open_more (suc fuel) size count bits b room =
     let st = stated_bits bits in
     let more = bits ++ b ∷ [] in
-    let behind = count + length more in
+    let later = count + length more in
     elim (cases_Bool (is_there bits)) [
       | inl t ↦
           let m = there-more bits b t in
@@ -231,33 +231,33 @@ open_more (suc fuel) size count bits b room =
           (drop-append-le st bits (b ∷ []) m.4) in
           let long : length rest ≡ length more - st =
           omega (arith, one (drop st bits) b, length-drop st bits, one bits b, m.4) in
-          let same : count + st + length rest ≡ behind = omega (arith, long, m.2) in
+          let same : count + st + length rest ≡ later = omega (arith, long, m.2) in
           let own = open_chain fuel size (count + st) (drop st bits) in
           there_now ∙ ap (λ (o : Option (List Bool)). cond left o None)
           (open_more fuel size (count + st) (drop st bits) b (omega (arith, room, long, m.3, m.2))
           ∙ ap (λ (n : ℕ). step size n own b) same)
-          ∙ step_cond left size behind own b
-          ∙ ap (λ (o : Option (List Bool)). step size behind o b) (sym (open-past fuel size count bits t))
+          ∙ step_cond left size later own b
+          ∙ ap (λ (o : Option (List Bool)). step size later o b) (sym (open-past fuel size count bits t))
       | inr f ↦
           let before = open-short fuel size count bits f in
           elim (cases_Bool (awaits_more bits)) [
             | inl waits ↦
                 let own : open_chain (suc fuel) size count bits ≡ Some bits = before
                 ∙ opened.still_open-awaits bits waits in
-                let known : step size behind (open_chain (suc fuel) size count bits) b
-                ≡ follow size behind (front_capsule more) (still_open more) =
-                ap (λ (o : Option (List Bool)). step size behind o b) own in
+                let known : step size later (open_chain (suc fuel) size count bits) b
+                ≡ follow size later (front_capsule more) (still_open more) =
+                ap (λ (o : Option (List Bool)). step size later o b) own in
                 elim (cases_Bool (is_there more)) [
                   | inl t ↦ now_there fuel size count bits b waits t room ∙ sym known
                   | inr n ↦
                       open-short fuel size count more n
-                      ∙ ap (λ (w : Option (List Bool)). follow size behind w (still_open more))
+                      ∙ ap (λ (w : Option (List Bool)). follow size later w (still_open more))
                       (sym (front-there more n)) ∙ sym known
                 ]
             | inr over ↦
                 open-short fuel size count more (never-there bits b f over)
                 ∙ opened.still_open-over more (opened.over-awaits bits (b ∷ []) over)
-                ∙ sym (step-none size behind (open_chain (suc fuel) size count bits) b (before
+                ∙ sym (step-none size later (open_chain (suc fuel) size count bits) b (before
                 ∙ opened.still_open-over bits over))
           ]
     ]

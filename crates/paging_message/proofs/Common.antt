@@ -21,7 +21,7 @@ pub use Rattle.chip_core.proofs.Counted.{flat_map-add, flat_map-next, flat_map-n
 pub use Rattle.chip_core.proofs.FieldLists.{length-binary}
 pub use Rattle.chip_core.proofs.Places.{length-map-places, map-places-all, map-places-more, places-none}
 pub use Rattle.chip_core.proofs.Ranges.{flat_map-places-more, flat_map_ext_places, map_ext_places}
-pub use Rattle.chip_core.proofs.ValueLists.{behind_front, front, number_front}
+pub use Rattle.chip_core.proofs.ValueLists.{after_front, front, number_front}
 pub use Rattle.chip_core.specs.Bits.{binary, number}
 unfoldable pub use Rattle.chip_core.specs.Bits.{places}
 pub use Rattle.chip_core.specs.Readings.{number_at}

@@ -56,10 +56,10 @@ whole_rows size n count large e =
 -- ---- the half-frames of one more run
 
 -- padding, after whole half-frames
-padded_behind : (size n : ℕ) (front bits : List Bool) → length front ≡ size * n →
+padded_after : (size n : ℕ) (front bits : List Bool) → length front ≡ size * n →
     laying.padded_to size (front ++ bits) ≡ front ++ laying.padded_to size bits
 unfolding laying.fill
-padded_behind size n front bits long =
+padded_after size n front bits long =
     let count = length bits in
     let all : length (front ++ bits) ≡ size * n + count =
     omega (arith, length-append front bits, long) in
@@ -155,7 +155,7 @@ laid-begins : (size : ℕ) (starts : List ℕ) (n w : ℕ) (front bits c : List 
 unfolding laying.laid_on
 laid-begins size starts n w front bits c follow large f long own =
     let padded' = front ++ laying.padded_to size bits in
-    let same = padded_behind size n front bits long in
+    let same = padded_after size n front bits long in
     let rows : length padded' / size ≡ n + w =
     whole_rows size (n + w) (length padded') large
     (omega (arith, length-append front (laying.padded_to size bits), long, own)) in
@@ -203,7 +203,7 @@ last_run_laid size starts n front cs large begun long =
       length-padded size (joined cs 0) large,
     ) in
     ap (λ (l : List Bool). laying.framed size (record { body = l; starts = starts ++ n ∷ [] }))
-    (padded_behind size n front (joined cs 0) long)
+    (padded_after size n front (joined cs 0) long)
     ∙ framed_whole size (n + w) (starts ++ n ∷ []) all large count
     ∙ run_laid size n starts front cs begun long
 

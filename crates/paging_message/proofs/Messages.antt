@@ -2,7 +2,7 @@
 use Rattle.paging_message.proofs.Common.{◌≡◌, ℕ, ◌+◌, ◌%◌, ◌^◌, ◌<◌, ◌≤◌, ◌==◌, ◌&&◌, Bool, true, List, ◌++◌, length, drop, take, refl, sym}
 use Rattle.paging_message.proofs.Common.{ap, subst, ◌∙◌, arith, nat_le, inl, inr, Option, Some, None, IfSome, and_parts, and_from}
 use Rattle.paging_message.proofs.Common.{cases_Bool, cases_lt, eq-eqb, eqb-true, le-leb, leb-true, length-append, binary, number}
-use Rattle.paging_message.proofs.Common.{length-binary, behind_front, front, number_front, number_at, FillsCapsule, M30, guard_some}
+use Rattle.paging_message.proofs.Common.{length-binary, after_front, front, number_front, number_at, FillsCapsule, M30, guard_some}
 use Rattle.paging_message.proofs.Common.{not_both, number_again, number_part, number_there, mapped, mapped_some, reading, reading_again}
 use Rattle.paging_message.proofs.Common.{reading_there, spelling, IsOf, Contents, MessageShape, admits, HasMessage, message_body}
 use Rattle.paging_message.proofs.Common.{IsPagingMessage, PagingMessage, contents_of, paging_kind_of, message_from, paging_shape_of}
@@ -23,7 +23,7 @@ typed_reading k w small fills =
     omega (arith, length-append (binary 8 k) w, length-binary 8 k) in
     let whole = eq-eqb (length body % 8) 2 (omega (arith, fills.whole)) in
     let most = le-leb (length body) 1146 (omega (arith, fills.whole, fills.most)) in
-    rw (whole, most, number_front 8 k w small, behind_front 8 k w, long) (sym (placed w k))
+    rw (whole, most, number_front 8 k w small, after_front 8 k w, long) (sym (placed w k))
 
 -- what was spelled is read again
 pub reads_body : (m : PagingMessage) → IsPagingMessage m → body_reading (message_body m) ≡ Some m

@@ -56,10 +56,10 @@ first_starts f at n here none =
     rw (rest, here) refl
 
 -- pieces in front of a message change nothing
-pub started_behind : (xs l : List Piece) → from_last_start l ≡ l → 0 < length l →
+pub started_after : (xs l : List Piece) → from_last_start l ≡ l → 0 < length l →
     from_last_start (xs ++ l) ≡ l
-started_behind [] l e some = e
-started_behind (p ∷ xs) l e some =
-    let rest = started_behind xs l e some in
+started_after [] l e some = e
+started_after (p ∷ xs) l e some =
+    let rest = started_after xs l e some in
     let t = lt-ltb 0 (length l) some in
     rw (rest, t) refl

@@ -118,9 +118,9 @@ stated-front c more m whole enough =
     ∙ sym whole.all
 
 -- the bits after the first capsule
-behind_first : (c more : List Bool) (m : ℕ) → length c ≤ m →
+after_first : (c more : List Bool) (m : ℕ) → length c ≤ m →
     drop (length c) (take m (c ++ more)) ≡ take (m - length c) more
-behind_first c more m le =
+after_first c more m le =
     let e : m ≡ length c + (m - length c) = omega (arith, le) in
     ap (λ (k : ℕ). drop (length c) (take k (c ++ more))) e
     ∙ drop-take (length c) (m - length c) (c ++ more)
@@ -187,7 +187,7 @@ chain_ends (c ∷ cs) (suc fuel) size at pads m chained enough room =
           let rest = take (m - n) more in
           ends-later fuel size at bits n s least most (omega (arith, long, over))
           ∙ ap (λ (l : List Bool). cond (nat_le 8 (bits_left size (at + n)))
-          (ends_chain fuel size (at + n) l) None) (behind_first c more m (omega (arith, over)))
+          (ends_chain fuel size (at + n) l) None) (after_first c more m (omega (arith, over)))
           ∙ with_room cs size (at + n) (m - n) (ends_chain fuel size (at + n) rest) chained.1
           (chain_ends cs fuel size (at + n) pads (m - n) chained.2
           (omega (arith, enough, told, over)) (omega (arith, room, over, length-append c more)))
@@ -450,9 +450,9 @@ pub ended-before : (c : List Bool) (cs : List (List Bool)) (m : ℕ) → m < len
 ended-before c cs m less =
     let a : nat_lt m (length c) ≡ true = lt-ltb m (length c) less in rw a refl
 
-pub ended-behind : (c : List Bool) (cs : List (List Bool)) (m k : ℕ) → m ≡ length c + suc k →
+pub ended-after : (c : List Bool) (cs : List (List Bool)) (m k : ℕ) → m ≡ length c + suc k →
     ended_of (c ∷ cs) m ≡ ended_of cs (suc k)
-ended-behind c cs m k e =
+ended-after c cs m k e =
     let a : nat_lt m (length c) ≡ false = le-ltb m (length c) (omega (arith, e)) in
     let b : nat_le m (length c) ≡ false = lt-leb m (length c) (omega (arith, e)) in
     let d : m - length c ≡ suc k = omega (arith, e) in
@@ -479,5 +479,5 @@ ended-past [] m past = refl
 ended-past (c ∷ cs) m past =
     let long = length-append c (joined cs 0) in
     let k = m - length c in
-    ended-behind c cs (suc m) k (omega (arith, long, past))
+    ended-after c cs (suc m) k (omega (arith, long, past))
     ∙ ended-past cs k (omega (arith, long, past))

@@ -7,7 +7,7 @@ use Rattle.paging_message.proofs.Common.{half_frame_capsule_ending, flat_map_ext
 use Rattle.paging_message.proofs.Common.{flat_map-zero, map-next, map-zero, true, cond, drop, replicate, piece, get_or, drop-drop}
 use Rattle.paging_message.proofs.Common.{drop_at, take_at, map-places-all}
 use Rattle.paging_message.proofs.Cutting.{halves_more, mark_ends, part}
-use Rattle.paging_message.proofs.Pieces.{started_behind}
+use Rattle.paging_message.proofs.Pieces.{started_after}
 
 -- ---- the bits
 
@@ -112,7 +112,7 @@ pub from_start_of_run : (before : List Piece) (p : Piece) (pieces : List Piece) 
 from_start_of_run before p pieces begins none =
     let rest = from_no_start pieces none in
     let own : from_last_start (p ∷ pieces) ≡ p ∷ pieces = rw (rest, begins) refl in
-    started_behind before (p ∷ pieces) own (omega arith)
+    started_after before (p ∷ pieces) own (omega arith)
 
 -- ---- the capsules that half-frames end
 

@@ -35,11 +35,11 @@ bits_left size count = (size - count % size) % size
 unfoldable pub ends_chain : ℕ → ℕ → ℕ → List Bool → Option (List Bool)
 ends_chain zero size count bits = None
 ends_chain (suc fuel) size count bits =
-    let behind = count + stated_bits bits in
+    let later = count + stated_bits bits in
     let rest = drop (stated_bits bits) bits in
     if is_stated bits && nat_le (stated_bits bits) (length bits)
     then (if nat_le (length bits) (stated_bits bits) then Some bits
-    else (if nat_le 8 (bits_left size behind) then ends_chain fuel size behind rest else None))
+    else (if nat_le 8 (bits_left size later) then ends_chain fuel size later rest else None))
     else None
 
 -- the half-frames of a stream of bits; the last may be cut short
@@ -65,10 +65,10 @@ capsules_in size bits =
 unfoldable pub open_chain : ℕ → ℕ → ℕ → List Bool → Option (List Bool)
 open_chain zero size count bits = None
 open_chain (suc fuel) size count bits =
-    let behind = count + stated_bits bits in
+    let later = count + stated_bits bits in
     let rest = drop (stated_bits bits) bits in
     if is_stated bits && nat_le (stated_bits bits) (length bits)
-    then (if nat_le 8 (bits_left size behind) then open_chain fuel size behind rest else None)
+    then (if nat_le 8 (bits_left size later) then open_chain fuel size later rest else None)
     else still_open bits
 
 abbrev pub opened : ℕ → List Piece → Option (List Bool)

@@ -69,7 +69,7 @@ impl HalfFramer {
         let left = self.size - self.place;
         self.place = if left == 0 { 0 } else { self.place + 1 };
         let whole = self.capsule.push(bit);
-        self.capsule = behind(whole.is_some(), left, self.capsule);
+        self.capsule = later(whole.is_some(), left, self.capsule);
         whole
     }
 }
@@ -97,7 +97,7 @@ fn from_mark(sci: bool, capsule: OpenCapsule) -> OpenCapsule
 
 /// The capsule that is open after a body bit: a new one where a capsule ended and so many bits of
 /// the half-frame are left.
-fn behind(ended: bool, left: u16, capsule: OpenCapsule) -> OpenCapsule
+fn later(ended: bool, left: u16, capsule: OpenCapsule) -> OpenCapsule
     ensures { result ≡ (if ended then (if nat_le 8 left then Some [] else capsule) else capsule) }
 {
     if ended && left >= 8 {

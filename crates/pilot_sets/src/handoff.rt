@@ -5,7 +5,7 @@ ghost use Rattle.pilot_sets.specs.Handoffs.{with_search as with_search_by, pilot
 ghost use Rattle.pilot_sets.specs.Handoffs.{candidates_without as candidates_left};
 ghost use Rattle.pilot_sets.specs.Handoffs.{actives_without as actives_left};
 ghost use Rattle.pilot_sets.specs.Handoffs.{timer_of as timer_among, active_of as active_by};
-ghost use Rattle.pilot_sets.specs.Handoffs.{subchannel_after as subchannel_behind};
+ghost use Rattle.pilot_sets.specs.Handoffs.{subchannel_after as defined_subchannel_after};
 ghost use Rattle.pilot_sets.specs.Handoffs.{actives_after as actives_by, fresh as fresh_candidate};
 ghost use Rattle.pilot_sets.specs.Handoffs.{left, all_left, handed_off};
 
@@ -100,7 +100,7 @@ fn active_of(old: &[ActivePilot], subchannel: u8, named: &NamedPilot) -> ActiveP
 /// The power control subchannel after another.
 fn subchannel_after(before: u8, combined: bool) -> u8
     requires { before < 255 }
-    ensures value { result ≡ subchannel_behind before combined }
+    ensures value { result ≡ defined_subchannel_after before combined }
     ensures most { result ≤ before + 1 }
 {
     if combined { before } else { before + 1 }

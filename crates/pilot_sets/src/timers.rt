@@ -3,7 +3,7 @@
 ghost use Rattle.std.specs.Prelude.{◌≡◌, ◌<◌, ◌≤◌, ◌^◌, ◌*◌};
 ghost use Rattle.pilot_sets.specs.Tables.{ratio as ratio_of};
 ghost use Rattle.pilot_sets.specs.Timers.{is_strong as is_strong_by, is_expired as is_expired_by};
-ghost use Rattle.pilot_sets.specs.Timers.{timer_after as timer_behind};
+ghost use Rattle.pilot_sets.specs.Timers.{timer_after as defined_timer_after};
 
 use crate::tables::{drop_timer_ms, ratio};
 use crate::thresholds::Thresholds;
@@ -56,7 +56,7 @@ pub(crate) fn is_expired(thresholds: &Thresholds, time: u64, timer: Option<u64>)
 /// A timer after a moment at which its pilot is strong, or isn't: it stops, or it starts or goes
 /// on.
 pub(crate) fn timer_after(is_strong: bool, time: u64, timer: Option<u64>) -> Option<u64>
-    ensures { result ≡ timer_behind is_strong time timer }
+    ensures { result ≡ defined_timer_after is_strong time timer }
 {
     if is_strong {
         None

@@ -53,9 +53,9 @@ next_free e n ps k is lt =
     (sym (same ∙ get_or-take k ps i d low) ∙ sym own)))
 
 -- a number that isn't among the first ones comes at the place itself or after it
-free_behind : (ps : List ℕ) (k q i : ℕ) → k ≤ length ps → i < length ps → get_or ps i q ≡ q →
+free_after : (ps : List ℕ) (k q i : ℕ) → k ≤ length ps → i < length ps → get_or ps i q ≡ q →
     list_any (nat_eq q) (take k ps) ≡ false → i < k → ⊥
-free_behind ps k q i room lt here free low =
+free_after ps k q i room lt here free low =
     let taken : list_any (nat_eq q) (take k ps) ≡ true =
     list_any_at (nat_eq q) (take k ps) i q
     (let l = length-take-le k ps room in omega (arith, l, low))
@@ -63,10 +63,10 @@ free_behind ps k q i room lt here free low =
     free_taken (list_any (nat_eq q) (take k ps)) free taken
 
 -- it is the place's own number, or the place's number comes before it
-own_or_behind : (e : ℕ → ℕ) (n : ℕ) (ps : List ℕ) (k q : ℕ) → IsOrdering e n ps → k < n → q < n →
+own_or_after : (e : ℕ → ℕ) (n : ℕ) (ps : List ℕ) (k q : ℕ) → IsOrdering e n ps → k < n → q < n →
     list_any (nat_eq q) (take k ps) ≡ false →
     (get_or ps k 0 ≡ q) ⊎ Leads e (get_or ps k 0) q
-own_or_behind e n ps k q is lt below free =
+own_or_after e n ps k q is lt below free =
     let at = is.each q below in
     let i : ℕ = at.0 in
     let l = is.long in
@@ -75,7 +75,7 @@ own_or_behind e n ps k q is lt below free =
     ⊎_elim
     (λ same. inl (sym own ∙ ap (λ (j : ℕ). get_or ps j q) (sym same) ∙ at.2))
     (⊎_elim
-    (λ low. absurd (free_behind ps k q i (omega (arith, l, lt)) at.1 at.2 free low))
+    (λ low. absurd (free_after ps k q i (omega (arith, l, lt)) at.1 at.2 free low))
     (λ high.
     let leads = is.order k i q high in' in
     inr (subst (λ (p : ℕ). Leads e p q) own
@@ -90,11 +90,11 @@ next_greatest e n ps k is lt = record {
   greatest = λ q under free. ⊎_elim
       (λ same. let eq = ap e same in omega (arith, ints, eq))
       (λ leads. leads_most e (get_or ps k 0) q leads)
-      (own_or_behind e n ps k q is lt under free);
+      (own_or_after e n ps k q is lt under free);
   first = λ q under free. ⊎_elim
       (λ same. absurd (omega (arith, same, under)))
       (λ leads. leads_first e (get_or ps k 0) q leads under)
-      (own_or_behind e n ps k q is lt (let b = is.below k 0 lt in omega (arith, b, under)) free);
+      (own_or_after e n ps k q is lt (let b = is.below k 0 lt in omega (arith, b, under)) free);
 }
 
 -- The first k numbers of an ordering by falling value are its first places. By induction over k:

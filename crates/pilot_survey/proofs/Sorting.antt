@@ -54,9 +54,9 @@ placed : (x y : Rank) (ys zs : List Rank) (t : Bool) → is_late x y ≡ t → R
     (NotAfter y x → All (NotAfter y) zs) →
     Rises zs → Rises (if t then y ∷ zs else x ∷ y ∷ ys)
 unfolding Rises
-placed x y ys zs true e up behind rest =
-    (behind (turned x.energy y.energy x.pilot y.pilot e), rest)
-placed x y ys zs false e up behind rest =
+placed x y ys zs true e up following rest =
+    (following (turned x.energy y.energy x.pilot y.pilot e), rest)
+placed x y ys zs false e up following rest =
     let own : NotAfter x y = neighbours x.energy y.energy x.pilot y.pilot e in (
       All-cons (NotAfter x) y ys own
           (All-weaker (NotAfter y) (NotAfter x) (λ z h. chained x y z own h) ys up.0),

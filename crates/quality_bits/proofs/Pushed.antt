@@ -18,12 +18,12 @@ pushed_all below register [] = register
 pushed_all below register (bit ∷ bits) = pushed_all below (pushed below register bit) bits
 
 -- a zero after the second list changes nothing where the first is longer
-behind : (xs rest : List Bool) → length rest < length xs →
+following : (xs rest : List Bool) → length rest < length xs →
     plus_at_front xs (rest ++ false ∷ []) ≡ plus_at_front xs rest
-behind [] rest h = absurd (omega (arith, h))
-behind (x ∷ xs) [] h = ap (λ b. b ∷ xs) (xor_false x)
-behind (x ∷ xs) (r ∷ rest) h =
-    ap (λ (ys : List Bool). xor x r ∷ ys) (behind xs rest (omega (arith, h)))
+following [] rest h = absurd (omega (arith, h))
+following (x ∷ xs) [] h = ap (λ b. b ∷ xs) (xor_false x)
+following (x ∷ xs) (r ∷ rest) h =
+    ap (λ (ys : List Bool). xor x r ∷ ys) (following xs rest (omega (arith, h)))
 
 -- two sums at the front are one
 twice : (xs a b : List Bool) → length a ≡ length b →
@@ -54,9 +54,9 @@ one_lead : (below xs rest : List Bool) (x : Bool) → length (rest ++ false ∷ 
     cond x (plus_at_front (plus_at_front xs rest) below) (plus_at_front xs rest) ≡
     plus_at_front xs (cond x (add (rest ++ false ∷ []) below) (rest ++ false ∷ []))
 one_lead below xs rest true long room =
-    ap (λ (ys : List Bool). plus_at_front ys below) (sym (behind xs rest room)) ∙
+    ap (λ (ys : List Bool). plus_at_front ys below) (sym (following xs rest room)) ∙
     twice xs (rest ++ false ∷ []) below long
-one_lead below xs rest false long room = sym (behind xs rest room)
+one_lead below xs rest false long room = sym (following xs rest room)
 
 -- long division of the bits and zeros after them, with the register added at the front
 pub divided_pushed : (below bits register : List Bool) → 0 < length below →

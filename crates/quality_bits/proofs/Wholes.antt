@@ -95,10 +95,10 @@ inner-capsule kind form body =
       length-front kind body,
       length-sent_check kind form front,
     ) in
-    let behind : drop 8 (front ++ check) ≡ body ++ check =
+    let following : drop 8 (front ++ check) ≡ body ++ check =
     ap (drop 8) (append_assoc count body check) ∙
     drop_at count (body ++ check) 8 (length-binary 8 (octets kind body)) in
-    ap (λ (n : ℕ). take n (drop 8 (front ++ check))) long ∙ ap (take (length body)) behind ∙
+    ap (λ (n : ℕ). take n (drop 8 (front ++ check))) long ∙ ap (take (length body)) following ∙
     take_at body check (length body) refl
 
 eighth : (m n : ℕ) → m ≡ 8 * n → m / 8 ≡ n

@@ -26,7 +26,7 @@ pub(crate) fn samples_before(ring: &SampleRing, end: u64) -> [Sample; MOMENT_SAM
     let mut samples = [Sample { i: 0, q: 0 }; MOMENT_SAMPLES];
     for k in 0..MOMENT_SAMPLES {
         samples[k] = ring.get(cell);
-        cell = ring.cell_behind(cell);
+        cell = ring.cell_after(cell);
     }
     samples
 }

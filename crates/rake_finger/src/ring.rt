@@ -91,7 +91,7 @@ impl SampleRing {
         let mut cell = self.cell_of(self.taken);
         for sample in more {
             self.put(cell, *sample);
-            cell = self.cell_behind(cell);
+            cell = self.cell_after(cell);
         }
     }
 
@@ -104,7 +104,7 @@ impl SampleRing {
     }
 
     /// The cell after a cell.
-    pub(crate) fn cell_behind(&self, cell: usize) -> usize
+    pub(crate) fn cell_after(&self, cell: usize) -> usize
         requires { cell < self.now.room }
         ensures value { result ≡ (cell + 1) % self.now.room }
         ensures below { result < self.now.room }

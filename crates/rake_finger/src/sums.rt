@@ -65,7 +65,7 @@ pub(crate) fn covered_sum(
         let product = covered(sample, code, row_chip);
         sum.i += product.i;
         sum.q += product.q;
-        cell = ring.cell_behind(cell);
+        cell = ring.cell_after(cell);
     }
     sum
 }

@@ -45,7 +45,7 @@ clock_new count s near = record {
     have_most = omega arith;
     within = omega arith;
     ended = λ k a b. absurd (omega (arith, a, b));
-    behind = omega arith;
+    following = omega arith;
     begun = λ w e. inl refl;
     late = λ h. omega arith;
   };
@@ -82,8 +82,8 @@ module _ {C : Type 0} {count : ℕ} {s : StreamOf C} {c : FrameClock} {n : ℕ} 
         | inr parts ↦
             elim (cases_lt (c.next + 1) c.have) [
               | inl less ↦
-                  let behind = r.ended (c.next + 1) (omega (arith, r.low_next)) less in
-                  omega (arith, parts.2, late, behind)
+                  let following = r.ended (c.next + 1) (omega (arith, r.low_next)) less in
+                  omega (arith, parts.2, late, following)
               | inr more ↦
                   let same : c.have ≡ c.next + 1 = omega (arith, more, d.0) in
                   let end = is.end_is ∙ ap (stream_end s) same in
@@ -179,7 +179,7 @@ module _ {C : Type 0} {count : ℕ} {s : StreamOf C} {c : FrameClock} {n : ℕ} 
           have_most = r.have_most;
           within = most;
           ended = λ k a b. let ended = r.ended k a b in omega (arith, ended, more);
-          behind = omega (arith, ends, end);
+          following = omega (arith, ends, end);
           begun = r.begun;
           late = λ h. from_next m none ends c.next (omega arith) h;
         };
@@ -219,7 +219,7 @@ module _ {C : Type 0} {count : ℕ} {s : StreamOf C} {c : FrameClock} {n : ℕ} 
                     let same : k ≡ c.have = omega (arith, b, more) in
                     rw same (omega (arith, end, ended))
               ];
-          behind = omega (arith, step, some, end, ended);
+          following = omega (arith, step, some, end, ended);
           begun = λ w same. absurd (omega (arith, same, r.next_have));
           late = r.late;
         };
@@ -243,7 +243,7 @@ module _ {C : Type 0} {count : ℕ} {s : StreamOf C} {c : FrameClock} {n : ℕ} 
           have_most = omega (arith, r.have_most);
           within = r.within;
           ended = r.ended;
-          behind = r.behind;
+          following = r.following;
           begun =
               λ w same.
               elim (d.1 (is.waits_is ∙ w)) [

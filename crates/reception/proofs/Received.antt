@@ -90,9 +90,9 @@ module _ {C : Type 0} {count : ℕ} {s : StreamOf C} {c : Continued} {heard : Li
       let F : ℕ → List ℤ = λ j. frame_softs heard s (have - m + j) in
       let front : flat_map G (places m) ≡ flat_map F (places m) =
       ap (λ n. flat_map (λ j. frame_softs heard s (n + j)) (places m)) f in
-      let behind : G m ≡ fresh = ap (frame_softs heard s) last ∙ sym e in
+      let following : G m ≡ fresh = ap (frame_softs heard s) last ∙ sym e in
       let all : flat_map G (places (suc m)) ≡ flat_map F (places m) ++ fresh =
-      flat_map-next G m ∙ rw (front, behind) refl in
+      flat_map-next G m ∙ rw (front, following) refl in
       last_more size m c.softs fresh long (omega (arith, room))
       ∙ ap (λ (xs : List ℤ). xs ++ fresh) had
       ∙ sym all

@@ -11,6 +11,6 @@ pub record IsReached {C : Type 0} (count : ℕ) (s : StreamOf C) (low next have 
   pub have_most : have ≤ next + 2
   pub within : n ≤ count
   pub ended : (k : ℕ) → low ≤ k → k < have → stream_end s k ≤ n
-  pub behind : n ≤ stream_end s have
+  pub following : n ≤ stream_end s have
   pub begun : s.waits ≡ true → next ≡ have → (have ≡ low) ⊎ (count < stream_end s have)
   pub late : is_in_file count s next ≡ true → n ≤ known_at count s next

@@ -26,7 +26,7 @@ pub use Rattle.pilot_search.proofs.Common.{All-from_get_or, IsBestIn, length-dro
 unfoldable pub use Rattle.pilot_search.proofs.Common.{first_places, near_deltas}
 pub use Rattle.rake_finger.proofs.Common.{is_near}
 pub use Rattle.tuned_listener.proofs.Common.{all_near, channel_stream, frames_text, listed_text, mark_set, nil_from_length, rate2_text}
-pub use Rattle.tuned_listener.proofs.Common.{text_behind, text_from, timed_of}
+pub use Rattle.tuned_listener.proofs.Common.{text_if_marked, text_from, timed_of}
 unfoldable pub use Rattle.tuned_listener.proofs.Common.{tuned_text}
 pub use Rattle.reply_laws.specs.Common.{Channel, Done, IsFingers, IsMargin, Listed, Paging, RateSetTwo, Reception, Slots, Status, Tuned}
 pub use Rattle.reply_laws.specs.Common.{TunedText, cell, cell_beside, codes, file, header_of, reference_alone, slots_after, sync_with}
@@ -42,16 +42,16 @@ pub use Rattle.cell_script.proofs.NamedPlans.{named_plan}
 pub use Rattle.chip_core.proofs.Unless.{free_taken, scanned}
 pub use Rattle.chip_core.specs.Sums.{greatest_unless}
 pub use Rattle.clean_link.proofs.frames.ChannelFrames.{near_frame, near_paging}
-pub use Rattle.clean_link.proofs.messages.EachChannel.{channels_by_signs, frames_behind_all, no_event_directed, tells_the_mark}
+pub use Rattle.clean_link.proofs.messages.EachChannel.{channels_by_signs, frames_after_all, no_event_directed, tells_the_mark}
 pub use Rattle.clean_link.proofs.messages.MessagesBack.{all_by_signs}
 pub use Rattle.clean_link.proofs.noise.FileAtMargin.{pages_told, sync_told}
 pub use Rattle.clean_link.proofs.noise.MarginFile.{meets_premises}
 pub use Rattle.clean_link.proofs.traffic.Back.{one_near}
 pub use Rattle.clean_link.proofs.traffic.Frames.{one_taken, one_there}
-pub use Rattle.clean_link.proofs.traffic.Received.{frames_behind_mark, set_two_behind_mark}
+pub use Rattle.clean_link.proofs.traffic.Received.{frames_after_mark, set_two_after_mark}
 pub use Rattle.clean_link.proofs.traffic.Signs.{clean_sent, power_pairs, set_one_sends}
 pub use Rattle.clean_link.specs.NoisyFile.{noisy_paging_plan}
-pub use Rattle.clean_link.specs.ReceivedLaws.{HoldsBehindMark}
+pub use Rattle.clean_link.specs.ReceivedLaws.{HoldsAfterMark}
 pub use Rattle.clean_signal.proofs.noise.Near.{less_borne}
 pub use Rattle.clean_signal.proofs.noise.Rounding.{IsSmall, sample_small}
 pub use Rattle.clean_signal.proofs.noise.Search.{files_found}

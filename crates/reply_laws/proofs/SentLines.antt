@@ -1,10 +1,10 @@
 -- The lines of a traffic channel's frames come back.
 use Rattle.reply_laws.proofs.Common.{◌≡◌, ◌≤◌, ℕ, ◌*◌, refl, sym, ap, ◌∙◌, subst, arith, List, [], ◌∷◌, length, Option, ℤ, None, Some}
 use Rattle.reply_laws.proofs.Common.{Contains, flat_map, Sample, Width, decoded2, sent_frame_state, Header, CellPlan, TrafficPlan}
-use Rattle.reply_laws.proofs.Common.{event_line, frame2_line, traffic_channel, mark, Tuning, Mark, Traffic, IsReceivable, HoldsBehindMark}
-use Rattle.reply_laws.proofs.Common.{MarkIsAt, TrafficFrameHasSigns, frames_behind_mark, near_frame, set_two_behind_mark, SendsSetOne}
+use Rattle.reply_laws.proofs.Common.{event_line, frame2_line, traffic_channel, mark, Tuning, Mark, Traffic, IsReceivable, HoldsAfterMark}
+use Rattle.reply_laws.proofs.Common.{MarkIsAt, TrafficFrameHasSigns, frames_after_mark, near_frame, set_two_after_mark, SendsSetOne}
 use Rattle.reply_laws.proofs.Common.{SendsSetTwo, power_pairs, one_taken, one_there, lawful_traffic, set_one_sends, listed_texts}
-use Rattle.reply_laws.proofs.Common.{rate2_texts, decoded_line, frames_text, listed_text, rate2_text, text_behind, tuned_text, TunedText}
+use Rattle.reply_laws.proofs.Common.{rate2_texts, decoded_line, frames_text, listed_text, rate2_text, text_if_marked, tuned_text, TunedText}
 use Rattle.reply_laws.proofs.Common.{Listed, RateSetTwo, IsLineOfSetOne, IsLineOfSetTwo, LinesComeBack, Bears, Decoded2, signs_frame_listed}
 use Rattle.reply_laws.proofs.Common.{good_frame2, traffic_sent, listed, IsBorneFile, long, nat_le, places, decoded_by_one_codeword}
 use Rattle.reply_laws.proofs.Common.{channel_stream, reference_alone, decoded_alone, power_alone, text_from}
@@ -34,12 +34,12 @@ module _ {plan : CellPlan} {p : TrafficPlan} (t : Tuning) (traffic : Traffic) (s
     (back : (frame : ℕ) (soft : SoftFrame) → Says frame soft → Is frame (line soft))
   where
     -- after the mark that is set, and where none is
-    behind_last : (last : Option Mark) → MarkIsAt plan last at →
-        IsSentText plan p Is at (text_behind form t (traffic_channel traffic) samples last)
-    behind_last None none = subst (λ (o : Option ℕ). IsSentText plan p Is o []) (sym none) refl
-    behind_last (Some m) set =
+    after_last : (last : Option Mark) → MarkIsAt plan last at →
+        IsSentText plan p Is at (text_if_marked form t (traffic_channel traffic) samples last)
+    after_last None none = subst (λ (o : Option ℕ). IsSentText plan p Is o []) (sym none) refl
+    after_last (Some m) set =
         let some = all m set in
-        let text = text_behind form t (traffic_channel traffic) samples (Some m) in
+        let text = text_if_marked form t (traffic_channel traffic) samples (Some m) in
         let sent : AreSentLines plan p Is some.superframes text = record {
           line = λ frame. line (some.soft frame);
           each = lines t.check30 m (soft_frames t (traffic_channel traffic) m samples)
@@ -53,23 +53,23 @@ module _ {plan : CellPlan} {p : TrafficPlan} (t : Tuning) (traffic : Traffic) (s
     text_back : MarkIsAt plan (mark t samples (length samples)) at →
         IsSentText plan p Is at (tuned_text form t (traffic_channel traffic) samples)
     unfolding tuned_text
-    text_back set = behind_last (mark t samples (length samples)) set
+    text_back set = after_last (mark t samples (length samples)) set
 
 signed_lines : (form : TunedText) (line : SoftFrame → List ℕ) → IsLineByLine form line →
     (Sends : TrafficPlan → Type 0) (Is : CellPlan → TrafficPlan → ℕ → List ℕ → Type 0)
     (Says : CellPlan → TrafficPlan → ℕ → SoftFrame → Type 0) →
-    HoldsBehindMark (λ plan p at samples frames. Sends p → AreReceivedFrom plan p at
+    HoldsAfterMark (λ plan p at samples frames. Sends p → AreReceivedFrom plan p at
     (λ frame soft. TrafficFrameHasSigns plan p samples frame → Says plan p frame soft) frames) →
     ((width : Width) (plan : CellPlan) (p : TrafficPlan) (frame : ℕ) (soft : SoftFrame) →
     IsReceivable width plan → Contains plan.traffic p → Sends p → Says plan p frame soft →
     Is plan p frame (line soft)) →
     LinesComeBack form Sends Is
-signed_lines form line lines Sends Is Says behind back width plan p t traffic samples at is long on set
+signed_lines form line lines Sends Is Says following back width plan p t traffic samples at is long on set
     has assigned some =
     text_back t traffic samples at form line lines
     (λ frame soft. TrafficFrameHasSigns plan p samples frame → Says plan p frame soft)
     (λ frame line. TrafficFrameHasSigns plan p samples frame → Is plan p frame line)
-    (λ m here. behind width plan p t traffic m at samples is long on has assigned here some)
+    (λ m here. following width plan p t traffic m at samples is long on has assigned here some)
     (λ frame soft says signs. back width plan p frame soft is has some (says signs)) set
 
 -- all lines are so where all frames have something
@@ -194,7 +194,7 @@ listed_lines k most =
     signed_lines (Listed k) (listed_of k) (λ check m frames. listed_texts check m [] frames k)
     SendsSetOne IsLineOfSetOne ShowsSent
     (λ width plan p t traffic m at samples is long on has assigned set some.
-    frames_behind_mark width plan p t traffic m at samples is long on has assigned set)
+    frames_after_mark width plan p t traffic m at samples is long on has assigned set)
     (λ width plan p frame soft is has some shows.
     let (f, here, sized) = frame_there width plan p frame is has some in (
       f,
@@ -206,7 +206,7 @@ listed_lines k most =
 pub set_two_lines : SetTwoLinesComeBack
 set_two_lines =
     signed_lines RateSetTwo rate2_of (λ check m frames. rate2_texts check m [] frames) SendsSetTwo
-    IsLineOfSetTwo IsSent2 set_two_behind_mark
+    IsLineOfSetTwo IsSent2 set_two_after_mark
     (λ width plan p frame soft is has some sent.
     (sent.0, sent.1, line_back plan p frame sent.0 soft sent.2))
 
@@ -247,5 +247,5 @@ pub one_codeword_follows : OneCodewordFollows
 unfolding tuned_text
 one_codeword_follows t traffic m samples set =
     ap
-    (λ (last : Option Mark). text_behind (Listed 1) t (traffic_channel traffic) samples last) set
+    (λ (last : Option Mark). text_if_marked (Listed 1) t (traffic_channel traffic) samples last) set
     ∙ each_frame t traffic m samples

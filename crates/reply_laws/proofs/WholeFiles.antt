@@ -10,12 +10,12 @@ use Rattle.reply_laws.proofs.Common.{IsHeardThrough, All-cons, All-head, All-tai
 use Rattle.reply_laws.proofs.MadeLinks.{clean_links, enough, louder_follow, readable, lawful_readable}
 use Rattle.reply_laws.proofs.NoisyReplies.{noisy_whole, comes_back}
 use Rattle.reply_laws.proofs.Owed.{follow_owes}
-use Rattle.clean_link.proofs.Common.{IsNotDirected, IsFreeOf, heard_behind, sending_ends, capsule, check_bits, sync_body, sync_capsule}
+use Rattle.clean_link.proofs.Common.{IsNotDirected, IsFreeOf, heard_after, sending_ends, capsule, check_bits, sync_body, sync_capsule}
 use Rattle.clean_link.proofs.Common.{signaling_sent}
 use Rattle.cell_script.proofs.Common.{admits, binary, bits_in_text, bits_left, cell_in, draft_after, fill, freq_in, hex_bits, hex_from}
 use Rattle.cell_script.proofs.Common.{is_body, is_line, length_before, lines, link_in, number_up_to, numbers_in, page_stage, paging_in}
 use Rattle.cell_script.proofs.Common.{past, past_freq, past_numbers, pilot_in, script_field, signed_in, state_in, stated, stated_page_in}
-use Rattle.cell_script.proofs.Common.{stated_plan, statement_in, sync_behind, sync_in, with_line, with_next}
+use Rattle.cell_script.proofs.Common.{stated_plan, statement_in, sync_after, sync_in, with_line, with_next}
 use Rattle.reply_laws.specs.WholeFiles.{ComesBackThroughAnyNoise, loud_cell, script_with_pilot, second_messages, second_paging, second_with}
 use Rattle.reply_laws.specs.WholeFiles.{MeetsEachPremise, MeetsEachNoisePremise, margin_bytes, second_cell, second_file, second_header}
 use Rattle.reply_laws.specs.WholeFiles.{second_script, second_text}
@@ -27,7 +27,7 @@ use Rattle.command_line.specs.declared.job.Job.TheVariants as jobs
 scripts_named : (plan_named Sixteen second_script ≡ Ok second_cell)
     × (plan_named Sixteen (script_with_pilot (codes "2000")) ≡ Ok loud_cell)
 unfolding script_with_pilot plan_named stated_plan stated draft_after lines is_line with_line with_next
-    statement_in cell_in link_in pilot_in sync_in sync_behind freq_in past_freq paging_in
+    statement_in cell_in link_in pilot_in sync_in sync_after freq_in past_freq paging_in
     stated_page_in numbers_in past_numbers script_field past length_before number_up_to digits_from
     signed_in state_in hex_from bits_in_text hex_bits decode_pairs binary is_body admits page_stage
     bits_left fill
@@ -54,7 +54,7 @@ none_directed gain = All-nil IsNotDirected
 
 abbrev ends_at : ℕ → ℕ → ℕ
 ends_at gain sending =
-    heard_behind 32768 1228800 (sending_ends (second_with gain) (some_message 0) sending - 0)
+    heard_after 32768 1228800 (sending_ends (second_with gain) (some_message 0) sending - 0)
 
 whole_are : (gain : ℕ) → (whole_sendings (second_with gain) (some_message 0) ≡ 0 ∷ 1 ∷ 2 ∷ 3 ∷ [])
     × (ends_at gain 0 ≡ 294848) × (ends_at gain 1 ≡ 589760) × (ends_at gain 2 ≡ 884672)

@@ -43,7 +43,7 @@ pub use Rattle.owed_replies.specs.Hearing.{clean_end, clean_events, end_when, se
 pub use Rattle.owed_replies.specs.Hearing.{tuning_for, waiting}
 pub use Rattle.owed_replies.specs.Make.{made_file}
 pub use Rattle.owed_replies.specs.Ranks.{survey_text}
-pub use Rattle.owed_replies.specs.Replies.{AnswersBehind, IsFileReply, IsReply, Reply}
+pub use Rattle.owed_replies.specs.Replies.{AnswersAfter, IsFileReply, IsReply, Reply}
 pub use Rattle.owed_replies.specs.Tasks.{traffic_channel_with}
 pub use Rattle.owed_replies.specs.Trials.{trial_line}
 pub use Rattle.owed_replies.specs.TuningLaw.{HandsetsAreTuned, HandsetsLieOnThePath}

@@ -6,7 +6,7 @@ use Rattle.reply_laws.specs.Common.{IsFreeOf, made_samples, header_of, phase_at,
 use Rattle.reply_laws.specs.Common.{PagingPlan, plan_named, sync_sent, cell, cell_beside, file}
 use Rattle.reply_laws.specs.Common.{last_page, sync_event, sync_with, FollowsSent, paging_sent}
 use Rattle.reply_laws.specs.Common.{sent_events, IsMargin, cell_with, kept_by, run_text, Event}
-use Rattle.reply_laws.specs.Common.{IsCleanLink, clean_events, made_file, AnswersBehind, IsReply}
+use Rattle.reply_laws.specs.Common.{IsCleanLink, clean_events, made_file, AnswersAfter, IsReply}
 use Rattle.reply_laws.specs.Common.{Reply, Status, Done, NoMemory, energy}
 use Rattle.reply_laws.specs.HeardThrough.{ComesBackThrough, HoldsOfNearReplies}
 use Rattle.reply_laws.specs.MadeLinks.{HasLouderPilot}
@@ -97,7 +97,7 @@ pub record MeetsEachPremise : Type 0 where
       (new : Option (List ℕ)) →
       ((reply : Reply) →
       IsReply forms (jobs.Follow 2048 workers 1 1 None limits) second_file reply →
-      (status ≡ NoMemory) ⊎ AnswersBehind held reply status new) →
+      (status ≡ NoMemory) ⊎ AnswersAfter held reply status new) →
       (status ≡ NoMemory)
       ⊎ ((status ≡ Done) × (new ≡ Some (held ++ second_text forms limits)))
 

@@ -24,7 +24,7 @@ use Rattle.cell_script.specs.ScriptDrafts.{Draft, empty_draft, plan_at, with_lin
 use Rattle.cell_script.specs.ScriptFields.{script_field, past}
 use Rattle.cell_script.specs.ScriptLines.{cell_in, traffic_frame_in, link_in, stated_page_in, pilot_in, statement_in}
 use Rattle.cell_script.specs.ScriptStages.{page_stage}
-use Rattle.line_text.specs.StatedValues.{bits_in_text, hex_bits, hex_from, length_before, power_bits_in, digits_behind, number_up_to}
+use Rattle.line_text.specs.StatedValues.{bits_in_text, hex_bits, hex_from, length_before, power_bits_in, digits_after, number_up_to}
 use Rattle.line_text.specs.StatedValues.{signed_in, state_in}
 use Rattle.cell_script.specs.declared.script_fault.ScriptFault.{ScriptFault}
 use Rattle.cell_script.specs.declared.script_fault.ScriptFault.TheVariants.{Line, Walsh, Gain, TooLoud, TooLong, TooBig}
@@ -72,7 +72,7 @@ first_frame_completed : (plan : CellPlan) (n : ℕ) →
     IsOk (stated (record { stage = FirstFrame; plan = plan }) n (lines frame_text))
 unfolding stated draft_after lines is_line with_line with_next statement_in traffic_frame_in script_field past
     length_before number_up_to digits_from bits_in_text hex_bits decode_pairs binary power_bits_in
-    digits_behind
+    digits_after
 first_frame_completed plan n = refl
 
 completed_at : (stage : Stage) (plan : CellPlan) (n : ℕ) →
@@ -172,16 +172,16 @@ abbrev joined : List (List ℕ) → List ℕ
 joined [] = []
 joined (line ∷ ls) = line ++ joined ls
 
-lines-joined : (ls : List (List ℕ)) (behind : List ℕ) → AreLines ls →
-    lines (joined ls ++ behind) ≡ ls ++ lines behind
-lines-joined [] behind are = refl
-lines-joined (line ∷ ls) behind are =
-    ap lines (append_assoc line (joined ls) behind)
-    ∙ lines-append line (joined ls ++ behind) are.0
-    ∙ ap (λ (r : List (List ℕ)). line ∷ r) (lines-joined ls behind are.1)
+lines-joined : (ls : List (List ℕ)) (following : List ℕ) → AreLines ls →
+    lines (joined ls ++ following) ≡ ls ++ lines following
+lines-joined [] following are = refl
+lines-joined (line ∷ ls) following are =
+    ap lines (append_assoc line (joined ls) following)
+    ∙ lines-append line (joined ls ++ following) are.0
+    ∙ ap (λ (r : List (List ℕ)). line ∷ r) (lines-joined ls following are.1)
 
 abbrev Begun : Draft → ℕ → List (List ℕ) → Type 0
-Begun draft k ls = (behind : List ℕ) × IsOk (stated draft k (ls ++ lines behind)) × AreLines ls
+Begun draft k ls = (following : List ℕ) × IsOk (stated draft k (ls ++ lines following)) × AreLines ls
 
 stood : (draft next : Draft) (line : List ℕ) (whole : Bool) → is_line line ≡ whole →
     draft_after draft line ≡ Some next → is_line line ≡ true

@@ -26,14 +26,14 @@ use Rattle.clean_signal.proofs.frames.Heard.{order_of}
 use Rattle.clean_signal.proofs.frames.Scores.{ShowCodeword, shown_codeword_own, whole_frames, frame_at, length-before, sent_as_one}
 use Rattle.clean_signal.proofs.frames.Times.{IsAlone}
 use Rattle.clean_signal.proofs.noise.Near.{zipped_frames}
-use Rattle.event_tap.specs.SlotLines.{frame_of_slot, frame_of_slot_end, is_heard, is_slot_within, lines_behind, lines_by_times}
+use Rattle.event_tap.specs.SlotLines.{frame_of_slot, frame_of_slot_end, is_heard, is_slot_within, lines_if_marked, lines_by_times}
 use Rattle.event_tap.specs.SlotLines.{lines_of_slot, slot_bound, slot_lines, slot_softs, slot_pages}
 use Rattle.frame_decoder.specs.Spans.{paging_channel}
 use Rattle.heard_events.specs.declared.channel.Channel.TheVariants.{Paging}
 use Rattle.slot_mode.specs.Frames.{slot_bits, slot_frame_bits}
 use Rattle.slot_mode.specs.Slots.{is_monitored}
 use Rattle.slot_link.specs.Laws.{HearsSlots, SlotTextsComeBack, AreSlotPages, SlotsComeBack, SlotBitsComeBackBySigns, SpansComeBackBySigns}
-use Rattle.slot_link.specs.Laws.{SlotPagesComeBack, monitored_slots, sent_slot, slots_behind_mark, slots_after, slots_to_end, sent_in_span}
+use Rattle.slot_link.specs.Laws.{SlotPagesComeBack, monitored_slots, sent_slot, slots_after_mark, slots_after, slots_to_end, sent_in_span}
 use Rattle.slot_link.specs.Laws.{pages_in_slot, bits_in_slot, placed_message, round_in_slot}
 use Rattle.heard_events.specs.PagingStreams as streams
 use Rattle.frame_decoder.specs.declared.span_format.FrameKind.TheVariants as kinds
@@ -117,8 +117,8 @@ module _ (rate : Rate) (bits_of : ℕ → List Bool) (first : ℕ) (softs : List
       ∙ flat_map_ext_places (λ j. order (a + j))
       (λ j. sent data_shape (repeats_of rate) (continued_symbols bits_of (first + a + j))) n
       (λ j lt.
-      let behind : first + (a + j) ≡ first + a + j = omega arith in
-      ap (λ (k : ℕ). sent data_shape (repeats_of rate) (continued_symbols bits_of k)) behind)
+      let following : first + (a + j) ≡ first + a + j = omega arith in
+      ap (λ (k : ℕ). sent data_shape (repeats_of rate) (continued_symbols bits_of k)) following)
 
   -- a frame of the slot, by the span of these
   frame_of_span : (a n b own : ℕ) → a + (n + b) ≡ 4 → own < n →
@@ -421,7 +421,7 @@ module _ (width : Width) (plan : CellPlan) (p : PagingPlan) (t : Tuning)
   -- so is the whole text, at either rate of a paging channel, and none at another one
   text_low : (key cycle : ℕ) → nat_lt m.prat 2 ≡ true →
       lines_by_times key cycle t p.number m samples ≡
-      slots_behind_mark key cycle plan p (Some superframes)
+      slots_after_mark key cycle plan p (Some superframes)
   text_low key cycle low =
       let lines = lines_of_slot t.check30 m samples (channel_stream t (Paging p.number) m) in
       ap (flat_map lines)
@@ -445,7 +445,7 @@ module _ (width : Width) (plan : CellPlan) (p : PagingPlan) (t : Tuning)
       let same : nat_lt m.prat 2 ≡ nat_lt sync.message.prat 2 =
       ap (λ (n : ℕ). nat_lt n 2) is.cell.rate in
       let text : Bool → List ℕ =
-      λ rated. if rated then slots_behind_mark key cycle plan p (Some superframes) else [] in
+      λ rated. if rated then slots_after_mark key cycle plan p (Some superframes) else [] in
       let sent : slots_after key cycle plan p at plan.sync ≡ text (nat_lt sync.message.prat 2) =
       ap (slots_after key cycle plan p at) is.cell.sends
       ∙ ap (λ (o : Option ℕ). slots_after key cycle plan p o (Some sync)) told in
@@ -460,7 +460,7 @@ none_after : (key cycle : ℕ) (plan : CellPlan) (p : PagingPlan) (at : Option �
     (sync : Option SyncPlan) → at ≡ None → slots_after key cycle plan p at sync ≡ []
 none_after key cycle plan p at None none = refl
 none_after key cycle plan p at (Some sync) none =
-    either_none (nat_lt sync.message.prat 2) (ap (slots_behind_mark key cycle plan p) none)
+    either_none (nat_lt sync.message.prat 2) (ap (slots_after_mark key cycle plan p) none)
   where
     either_none : (b : Bool) {xs : List ℕ} → xs ≡ [] → (if b then xs else []) ≡ []
     either_none true none = none
@@ -472,7 +472,7 @@ module _ {width : Width} {plan : CellPlan} {p : PagingPlan} {t : Tuning} (key cy
     (long : length samples ≡ plan.link.samples) (tuned : IsOnPath plan t)
     (sent : Contains plan.paging p) (signs : FromMark (PagingFrameHasSigns plan p samples) at) where
   by_mark : (set : Option Mark) → MarkIsAt plan set at →
-      lines_behind key cycle t p.number samples set ≡ slots_after key cycle plan p at plan.sync
+      lines_if_marked key cycle t p.number samples set ≡ slots_after key cycle plan p at plan.sync
   by_mark None none = sym (none_after key cycle plan p at plan.sync none)
   by_mark (Some m) (superframes, told, cell) =
       text_back width plan p t m superframes

@@ -66,16 +66,16 @@ monitored_slots key cycle plan first =
     (places (slots_to_end plan first))
 
 -- what is written of these after a mark at the first chip of slot `first`, where one is set
-abbrev pub slots_behind_mark : ℕ → ℕ → CellPlan → PagingPlan → Option ℕ → List ℕ
-slots_behind_mark key cycle plan p None = []
-slots_behind_mark key cycle plan p (Some first) =
+abbrev pub slots_after_mark : ℕ → ℕ → CellPlan → PagingPlan → Option ℕ → List ℕ
+slots_after_mark key cycle plan p None = []
+slots_after_mark key cycle plan p (Some first) =
     flat_map (λ i. sent_slot plan p (first + i)) (monitored_slots key cycle plan first)
 
 -- with the values 2 and 3 of PRAT no paging channel is heard
 abbrev pub slots_after : ℕ → ℕ → CellPlan → PagingPlan → Option ℕ → Option SyncPlan → List ℕ
 slots_after key cycle plan p at None = []
 slots_after key cycle plan p at (Some sync) =
-    if nat_lt sync.message.prat 2 then slots_behind_mark key cycle plan p at else []
+    if nat_lt sync.message.prat 2 then slots_after_mark key cycle plan p at else []
 
 -- What is written for the handset of a key that monitors one of the cell's paging channels in a
 -- cycle: the first whole transmission of the sync channel tells the mark.

@@ -46,8 +46,8 @@ comes_in_time from key cycle =
     let some = has_slots cycle in
     let low = mod_below (slot_of key) p some in
     let d = (r + p - from % p) % p in
-    let behind : from ≤ from + d = omega arith in (
-      behind,
+    let following : from ≤ from + d = omega arith in (
+      following,
       comes_before from p d (mod_below (r + p - from % p) p some),
       eq-eqb ((from + d) % p) r (has_remainder from p r some low),
     )

@@ -48,7 +48,7 @@ IsOfNeighbours =
 -- before it and the one after it.
 abbrev pub IsHeardAsEver : Type 0
 IsHeardAsEver =
-    (rate : Rate) (before softs behind : List ℤ) (frame : ℕ) → length softs ≡ 1536 →
+    (rate : Rate) (before softs following : List ℤ) (frame : ℕ) → length softs ≡ 1536 →
     1 ≤ frame → frame ≤ 2 →
     slot_frame_bits rate softs frame ≡ own_bits (paging_channel rate) 3 1
-    (take 1152 (drop (length before + 384 * (frame - 1)) (before ++ softs ++ behind)))
+    (take 1152 (drop (length before + 384 * (frame - 1)) (before ++ softs ++ following)))

@@ -9,7 +9,7 @@ use Rattle.chip_core.proofs.FieldLists.{length-binary}
 use Rattle.chip_core.proofs.Places.{map-places-all}
 use Rattle.message_layout.specs.Reading.{mapped, number_part, reading}
 use Rattle.message_layout.specs.Shapes.{is_lawful}
-use Rattle.message_layout.specs.Spelling.{behind_group, spelling, IsGroup, IsOf}
+use Rattle.message_layout.specs.Spelling.{after_group, spelling, IsGroup, IsOf}
 use Rattle.message_layout.specs.declared.contents.Contents.{Contents}
 use Rattle.message_layout.specs.declared.layout.Presence.TheVariants.{UnlessLeft}
 use Rattle.message_layout.proofs.Messages.{ByLayout, contents_in, no_columns, no_octets, one_value, read_again, read_there}
@@ -27,15 +27,15 @@ sync_lawful = refl
 
 -- THE FREQUENCY
 -- one that the layout has fits
-group_fits : (freq : Option ℕ) (behind : ℕ) →
-    IsGroup (UnlessLeft 3) (11 ∷ []) (freq_group freq) behind → IfSome freq (λ n. n < 2 ^ 11)
-group_fits None behind is = tt
-group_fits (Some freq) behind is = is.fit.0
+group_fits : (freq : Option ℕ) (following : ℕ) →
+    IsGroup (UnlessLeft 3) (11 ∷ []) (freq_group freq) following → IfSome freq (λ n. n < 2 ^ 11)
+group_fits None following is = tt
+group_fits (Some freq) following is = is.fit.0
 
-group_back : (group : Option (List ℕ)) (behind : ℕ) →
-    IsGroup (UnlessLeft 3) (11 ∷ []) group behind → freq_group (freq_from group) ≡ group
-group_back None behind is = refl
-group_back (Some vs) behind is = ap Some (one_value vs is.all)
+group_back : (group : Option (List ℕ)) (following : ℕ) →
+    IsGroup (UnlessLeft 3) (11 ∷ []) group following → freq_group (freq_from group) ≡ group
+group_back None following is = refl
+group_back (Some vs) following is = ap Some (one_value vs is.all)
 
 freq_made : (freq : Option ℕ) → freq_from (freq_group freq) ≡ freq
 freq_made None = refl
@@ -48,7 +48,7 @@ unfolding sync_of places
 sync_back c is =
     let values : sync_values (sync_from c) ≡ c.fixed =
     sym (map-places-all (λ k. get_or c.fixed k 0) c.fixed 11 0 is.fixed.all (λ k lt. refl)) in
-    let group = group_back c.group (length (behind_group sync_message_shape c)) is.group in
+    let group = group_back c.group (length (after_group sync_message_shape c)) is.group in
     let none : c.octets ≡ [] = no_octets c.octets is.whole is.counted in
     rw (values, group, ← none, no_columns c.columns is.columns) refl
 
@@ -69,7 +69,7 @@ fields_fit c is =
     let m = sync_from c in
     let there = contents_in sync_message_shape sync_contents sync_from by_layout c is in (
       there.fixed.fit,
-      group_fits m.freq (length (behind_group sync_message_shape (sync_contents m))) there.group,
+      group_fits m.freq (length (after_group sync_message_shape (sync_contents m))) there.group,
     )
 
 -- what was spelled is read again
@@ -107,8 +107,8 @@ body_there body m fills e =
 pub body_written : (m : SyncFields) (one after : List Bool) → one ≡ binary 8 1 →
     after ≡ one ++ spelling sync_message_shape (sync_contents m) → after ≡ sync_body m
 unfolding sync_body
-body_written m one after first behind =
-    behind ∙ ap (λ (r : List Bool). r ++ spelling sync_message_shape (sync_contents m)) first
+body_written m one after first following =
+    following ∙ ap (λ (r : List Bool). r ++ spelling sync_message_shape (sync_contents m)) first
 
 -- there is room after the message type
 pub body_room : (m : SyncFields) → IsSyncMessage m →

@@ -330,7 +330,7 @@ pub record AreParts (body : List Bool) (vs : List ℕ) (rest : List Bool) : Type
   pub small : get_or vs 0 0 < 2 ^ 8
   pub head : head_in vs ≡ reading.head_at body
   pub fit : FieldsFit (messages.head_fields (head_in vs))
-  pub behind : rest ≡ drop 17 body
+  pub following : rest ≡ drop 17 body
 
 abbrev head_said : List Bool → List ℕ × List Bool
 head_said body = (values_at typed_widths body, drop 17 body)
@@ -367,7 +367,7 @@ are_parts body vs rest t read =
       small = subst (λ (ns : List ℕ). get_or ns 0 0 < 2 ^ 8) (sym values) v.1.0;
       head = ap head_in values;
       fit = subst (λ (ns : List ℕ). FieldsFit (messages.head_fields (head_in ns))) (sym values) fit;
-      behind = ap (λ (x : List ℕ × List Bool). x.1) same;
+      following = ap (λ (x : List ℕ × List Bool). x.1) same;
     }
 
 -- what was read after a head
@@ -381,7 +381,7 @@ part_read body vs rest k h read t parts typed head e =
     let n = number_at 0 8 body in
     let kind = typed ∙ parts.kind in
     let heads = head ∙ parts.head in
-    rw (t, ← kind, ← heads, ← parts.behind, e) refl
+    rw (t, ← kind, ← heads, ← parts.following, e) refl
 
 pub message_written : (m : messages.Message) (c : Contents) (one after : List Bool) →
     messages.IsTrafficMessage m → c ≡ head_contents (messages.kind_of m.body) m.head →

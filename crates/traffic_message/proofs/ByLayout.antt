@@ -2,7 +2,7 @@
 use Rattle.traffic_message.proofs.Common.{◌≡◌, Bool, Option, ap, arith, length, refl, subst, sym, true, ◌<◌, ◌^◌, ◌∙◌, ◌∷◌, append-nil}
 use Rattle.traffic_message.proofs.Common.{map-places-all, places, FieldsFit, in_widths, spelled, all_columns, first_column, no_columns}
 use Rattle.traffic_message.proofs.Common.{one_value, record_fit, plain_back, plain_of, plain_spelled, rest_back, mapped, reading, is_lawful}
-use Rattle.traffic_message.proofs.Common.{IsGroup, IsOf, behind_group, spelling, Contents, Flagged, bits_of, head_fields, head_values}
+use Rattle.traffic_message.proofs.Common.{IsGroup, IsOf, after_group, spelling, Contents, Flagged, bits_of, head_fields, head_values}
 use Rattle.traffic_message.proofs.Common.{kind_of, part_reading, in_traffic_widths, search_widths, TrafficBody, DirectionFields, Head}
 use Rattle.traffic_message.proofs.Common.{Search, UpdateFields, List, None, Some, [], get_or, ℕ, MessageShape, Form}
 use Rattle.traffic_message.specs.Handoff as handoff
@@ -28,12 +28,12 @@ update_back c is =
     rw (values, first_column 9 c.columns is.columns)
     (plain_back (4 ∷ []) (9 ∷ []) 1 (Some 7) c is)
 
-group_back : (group : Option (List ℕ)) (behind : ℕ) →
-    IsGroup Flagged search_widths group behind →
+group_back : (group : Option (List ℕ)) (following : ℕ) →
+    IsGroup Flagged search_widths group following →
     handoff.search_group (handoff.search_from group) ≡ group
 unfolding handoff.search_of places
-group_back None behind is = refl
-group_back (Some vs) behind is =
+group_back None following is = refl
+group_back (Some vs) following is =
     ap Some (sym (map-places-all (λ k. get_or vs k 0) vs 5 0 is.all (λ k lt. refl)))
 
 direction_back : (c : Contents) → IsOf handoff.direction_shape c →
@@ -42,7 +42,7 @@ unfolding handoff.direction_of places
 direction_back c is =
     let values : get_or c.fixed 0 0 ∷ get_or c.fixed 1 0 ∷ get_or c.fixed 2 0 ∷ [] ≡ c.fixed =
     sym (map-places-all (λ k. get_or c.fixed k 0) c.fixed 3 0 is.fixed.all (λ k lt. refl)) in
-    let group = group_back c.group (length (behind_group handoff.direction_shape c)) is.group in
+    let group = group_back c.group (length (after_group handoff.direction_shape c)) is.group in
     rw (values, group, all_columns 9 1 8 c.columns is.columns) refl
 
 search_made : (search : Option Search) →
@@ -76,10 +76,10 @@ record_fits m i is h =
     let fit = record_fit (9 ∷ 1 ∷ 8 ∷ []) (length m.pns) i (m.pns ∷ m.combs ∷ m.rows ∷ []) h is.records in
     (fit.0, fit.1.0, fit.1.1.0)
 
-pub search_fits : (search : Option Search) (behind : ℕ) →
-    IsGroup Flagged search_widths (handoff.search_group search) behind → handoff.SearchFits search
-search_fits None behind is = tt
-search_fits (Some search) behind is = is.fit
+pub search_fits : (search : Option Search) (following : ℕ) →
+    IsGroup Flagged search_widths (handoff.search_group search) following → handoff.SearchFits search
+search_fits None following is = tt
+search_fits (Some search) following is = is.fit
 
 -- WHAT STANDS AFTER A HEAD
 pub lawful : (f : Form) → is_lawful (layouts.traffic_shape_of f) ≡ true

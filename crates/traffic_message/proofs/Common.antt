@@ -9,7 +9,7 @@ pub use Rattle.std.proofs.lemmas.Option.{get_or_from_slice_get}
 pub use Rattle.std.specs.Prelude.{IfSome}
 pub use Rattle.chip_core.proofs.FieldLists.{length-binary, slice_get-drop}
 pub use Rattle.chip_core.proofs.Places.{map-places-all}
-pub use Rattle.chip_core.proofs.ValueLists.{behind_front, dropped, length-in_widths, number_front, values_again, values_there}
+pub use Rattle.chip_core.proofs.ValueLists.{after_front, dropped, length-in_widths, number_front, values_again, values_there}
 pub use Rattle.chip_core.specs.Bits.{digit, number}
 unfoldable pub use Rattle.chip_core.specs.Bits.{binary, places}
 pub use Rattle.chip_core.specs.Fields.{FieldsFit, in_widths, spelled}
@@ -27,7 +27,7 @@ pub use Rattle.message_layout.specs.Reading.{mapped}
 unfoldable pub use Rattle.message_layout.specs.Reading.{fields_at, reading}
 pub use Rattle.message_layout.specs.Shapes.{MessageShape}
 unfoldable pub use Rattle.message_layout.specs.Shapes.{is_lawful}
-pub use Rattle.message_layout.specs.Spelling.{IsGroup, IsOf, behind_group, group_fields}
+pub use Rattle.message_layout.specs.Spelling.{IsGroup, IsOf, after_group, group_fields}
 unfoldable pub use Rattle.message_layout.specs.Spelling.{spelling}
 pub use Rattle.message_layout.specs.declared.contents.Contents.{Contents}
 pub use Rattle.message_layout.specs.declared.layout.Presence.TheVariants.{Flagged}

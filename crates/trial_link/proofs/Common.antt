@@ -24,8 +24,8 @@ pub use Rattle.cell_script.specs.ScriptDrafts.{Draft, draft_at, empty_draft, emp
 unfoldable pub use Rattle.cell_script.specs.ScriptDrafts.{with_next}
 unfoldable pub use Rattle.cell_script.specs.Rows.{numbers_in, past_numbers}
 unfoldable pub use Rattle.cell_script.specs.ScriptFields.{script_field, past}
-unfoldable pub use Rattle.cell_script.specs.ScriptLines.{freq_in, link_in, past_freq, statement_in, sync_behind, sync_in}
-pub use Rattle.cell_script.specs.ScriptStages.{after_frame, after_traffic, count_behind, frames_stage}
+unfoldable pub use Rattle.cell_script.specs.ScriptLines.{freq_in, link_in, past_freq, statement_in, sync_after, sync_in}
+pub use Rattle.cell_script.specs.ScriptStages.{after_frame, after_traffic, count_after, frames_stage}
 unfoldable pub use Rattle.cell_script.specs.ScriptStages.{page_stage}
 unfoldable pub use Rattle.line_text.specs.StatedValues.{bits_in_text, hex_bits, length_before, number_up_to, signed_in}
 pub use Rattle.cell_script.specs.declared.stage.Stage.{Stage}
@@ -46,9 +46,9 @@ unfoldable pub use Rattle.paging_message.specs.HalfFrames.{bits_left}
 unfoldable pub use Rattle.paging_message.specs.Laying.{fill}
 unfoldable pub use Rattle.paging_message.specs.Reading.{is_body}
 pub use Rattle.quality_bits.specs.declared.rate.Rate.TheVariants.{R9600}
-pub use Rattle.trial_link.specs.Trial.{behind_draw, behind_frame, bits_of_frame, drawn, followed_line, frame_drawn, second_line}
+pub use Rattle.trial_link.specs.Trial.{past_draw, past_frame, bits_of_frame, drawn, followed_line, frame_drawn, second_line}
 pub use Rattle.trial_link.specs.Trial.{state_of_draws, third_line, traffic_plan_of, trial_link, trial_paging, trial_traffic}
-unfoldable pub use Rattle.trial_link.specs.Trial.{behind_draws, behind_frames, bits_drawn, frames_drawn, other_frame, trial_cell}
+unfoldable pub use Rattle.trial_link.specs.Trial.{past_draws, past_frames, bits_drawn, frames_drawn, other_frame, trial_cell}
 unfoldable pub use Rattle.trial_link.specs.Trial.{trial_frames, trial_page, trial_plan, trial_serial_number, trial_sync, trial_text}
 pub use Rattle.cell_script.specs.Spelling.{lines_of, statement_line, statement_text, statements_of}
 unfoldable pub use Rattle.cell_script.specs.Spelling.{script_of, written_cell, written_frame, written_link, written_page, written_paging}

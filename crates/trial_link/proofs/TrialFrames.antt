@@ -3,8 +3,8 @@ use Rattle.trial_link.proofs.Common.{◌≡◌, ℕ, ◌+◌, ◌*◌, ◌<◌, 
 use Rattle.trial_link.proofs.Common.{append_assoc, append-nil, length-append, option_map, length-map-range_with_len, places, CellPlan}
 use Rattle.trial_link.proofs.Common.{TrafficPlan, Stage, FirstFrame, Frames, TrafficLine, TrafficFrame, Draft, draft_at, Statement}
 use Rattle.trial_link.proofs.Common.{with_frame, with_next, one_frame_more, rate_set, One, SetOne, SetTwo, FrameRate, RateSet, frames_stage}
-use Rattle.trial_link.proofs.Common.{IsTrafficFrame, after_frame, after_traffic, lines_of, statement_line, statement_text, behind_draw}
-use Rattle.trial_link.proofs.Common.{behind_draws, behind_frames, bits_of_frame, traffic_plan_of, frame_drawn, frames_drawn, on_last-last}
+use Rattle.trial_link.proofs.Common.{IsTrafficFrame, after_frame, after_traffic, lines_of, statement_line, statement_text, past_draw}
+use Rattle.trial_link.proofs.Common.{past_draws, past_frames, bits_of_frame, traffic_plan_of, frame_drawn, frames_drawn, on_last-last}
 use Rattle.trial_link.proofs.TrialLengths.{written_frame_short, written_traffic_short}
 use Rattle.cell_script.proofs.SpelledLines.{IsWritableTraffic, frame_writable}
 use Rattle.cell_script.proofs.StatedLines.{Leads}
@@ -20,9 +20,9 @@ AreToldFrames (f ∷ frames) =
     × AreToldFrames frames
 
 -- one may stand after another
-one_behind : (rate : FrameRate) → rate_set rate ≡ One → frames_stage One rate ≡ Some (Frames One)
-one_behind (SetOne rate) is = refl
-one_behind (SetTwo rate) is = absurd (cc is)
+one_after : (rate : FrameRate) → rate_set rate ≡ One → frames_stage One rate ≡ Some (Frames One)
+one_after (SetOne rate) is = refl
+one_after (SetTwo rate) is = absurd (cc is)
 
 -- a plan whose last traffic channel has these frames
 abbrev pub with_last : CellPlan → List TrafficPlan → TrafficLine → List TrafficFrame → CellPlan
@@ -62,7 +62,7 @@ frames_lead plan before line got [] more last are rest =
 frames_lead plan before line got (f ∷ frames) more last are rest =
     first_leads (on_frames plan before line got) (on_frames plan before line (got ++ f ∷ [])) last
     (statements.Frame f) (map statements.Frame frames ++ more) (frame_writable f are.0 are.1)
-    (frame_added plan before line got f (Frames One) (one_behind f.rate are.2))
+    (frame_added plan before line got f (Frames One) (one_after f.rate are.2))
     (frames_lead plan before line (got ++ f ∷ []) frames more last are.3
     (subst (λ (fs : List TrafficFrame). Leads (on_frames plan before line fs) (lines_of more) last)
     (sym (append_assoc got (f ∷ []) frames)) rest))
@@ -135,12 +135,12 @@ channel_short line frames more is are =
 -- ---- frames that are drawn
 
 drawn_are : (state : ℕ) (ks : List ℕ) →
-    AreToldFrames (map (λ k. frame_drawn (behind_frames state k)) ks)
+    AreToldFrames (map (λ k. frame_drawn (past_frames state k)) ks)
 drawn_are state [] = tt
 drawn_are state (k ∷ ks) =
-    let from = behind_frames state k in (
-      length-bits_drawn (behind_draw from) (bits_of_frame from),
-      length-bits_drawn (behind_draws (behind_draw from) (bits_of_frame from)) 16,
+    let from = past_frames state k in (
+      length-bits_drawn (past_draw from) (bits_of_frame from),
+      length-bits_drawn (past_draws (past_draw from) (bits_of_frame from)) 16,
       refl,
       drawn_are state ks,
     )
@@ -153,4 +153,4 @@ frames_drawn_are state n = drawn_are state (places n)
 pub frames_drawn-long : (state n : ℕ) → length (frames_drawn state n) ≡ n
 unfolding frames_drawn places
 frames_drawn-long state n =
-    length-map-range_with_len (λ k. frame_drawn (behind_frames state k)) 0 n
+    length-map-range_with_len (λ k. frame_drawn (past_frames state k)) 0 n

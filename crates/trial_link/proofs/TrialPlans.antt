@@ -5,10 +5,10 @@ use Rattle.trial_link.proofs.Common.{binary, digits_from, decode_pairs, IsState,
 use Rattle.trial_link.proofs.Common.{CellPlan, Stage, Link, Pilot, Sync, Paging, FirstPage, Pages, Frames, One, Draft, PagingLine}
 use Rattle.trial_link.proofs.Common.{Statement, named, plan_fault, plan_named, stated_plan, unless, draft_at, empty_draft, empty_plan}
 use Rattle.trial_link.proofs.Common.{opened_paging, with_next, script_field, numbers_in, past, past_numbers, freq_in, link_in, past_freq}
-use Rattle.trial_link.proofs.Common.{statement_in, sync_behind, sync_in, IsStatedCell, count_behind, page_stage, bits_in_text, hex_bits}
+use Rattle.trial_link.proofs.Common.{statement_in, sync_after, sync_in, IsStatedCell, count_after, page_stage, bits_in_text, hex_bits}
 use Rattle.trial_link.proofs.Common.{length_before, number_up_to, signed_in, lines_of, script_of, statements_of, written_link}
 use Rattle.trial_link.proofs.Common.{written_paging, written_pilot, written_sync, bit_text, padded, packed_octets, encode_with, digits}
-use Rattle.trial_link.proofs.Common.{drawn, behind_draws, followed_line, other_frame, second_line, state_of_draws, third_line, trial_cell}
+use Rattle.trial_link.proofs.Common.{drawn, past_draws, followed_line, other_frame, second_line, state_of_draws, third_line, trial_cell}
 use Rattle.trial_link.proofs.Common.{trial_frames, trial_link, trial_page, trial_plan, trial_serial_number, trial_sync, trial_text}
 use Rattle.trial_link.proofs.TrialFrames.{AreToldFrames, channel_leads, channel_short, frames_drawn-long, frames_drawn_are, lines_long}
 use Rattle.trial_link.proofs.TrialFrames.{with_last}
@@ -35,7 +35,7 @@ abbrev sync_line : List ℕ
 sync_line = codes "sync gain=30 prev=3 min=1 sid=1 nid=2 lp=13 ltm=0 daylt=0 prat=0 rest=3:00"
 
 sync_stated : statement_in sync_line ≡ Some (statements.Sync trial_sync)
-unfolding trial_sync statement_in sync_in sync_behind freq_in past_freq numbers_in past_numbers
+unfolding trial_sync statement_in sync_in sync_after freq_in past_freq numbers_in past_numbers
     script_field past length_before number_up_to digits_from bits_in_text hex_bits decode_pairs binary
 sync_stated = refl
 
@@ -58,7 +58,7 @@ unfolding is_body admits trial_page binary
 page_is_body pn = refl
 
 page_fits : (pn : ℕ) → page_stage R9600 0 (trial_page pn)
-    ≡ Some (Pages R9600 (count_behind R9600 0 (trial_page pn)))
+    ≡ Some (Pages R9600 (count_after R9600 0 (trial_page pn)))
 unfolding page_stage bits_left fill trial_page binary
 page_fits pn = refl
 
@@ -82,20 +82,20 @@ state_not_none high low false is small =
 pub trial_cell_stated : (number : ℕ) → IsStatedCell (trial_cell number)
 unfolding trial_cell
 trial_cell_stated number =
-    let high = drawn (behind_draws number 2) in
-    let low = drawn (behind_draws number 3) in
+    let high = drawn (past_draws number 2) in
+    let low = drawn (past_draws number 3) in
     record {
       pn = omega arith;
-      time = omega (arith, drawn_small (behind_draws number 1));
+      time = omega (arith, drawn_small (past_draws number 1));
       lc = state_not_none high low (high * 1024 + low % 1024 == 0) refl
-          (drawn_small (behind_draws number 2));
+          (drawn_small (past_draws number 2));
     }
 
 -- and so is the channel that the handset follows
 pub followed_stated : (number : ℕ) → IsWritableTraffic (followed_line (trial_serial_number number))
 unfolding trial_serial_number
 followed_stated number = record {
-  ranged = (omega arith, (drawn_small (behind_draws number 4), (omega arith, (omega arith, tt))));
+  ranged = (omega arith, (drawn_small (past_draws number 4), (omega arith, (omega arith, tt))));
   lawful = refl;
   same = refl;
 }
@@ -153,12 +153,12 @@ paging_next : (cell : CellIdentity) →
 unfolding with_next
 paging_next cell = refl
 
-abbrev behind_page : ℕ → Stage
-behind_page pn = Pages R9600 (count_behind R9600 0 (trial_page pn))
+abbrev stage_after_pages : ℕ → Stage
+stage_after_pages pn = Pages R9600 (count_after R9600 0 (trial_page pn))
 
 page_next : (cell : CellIdentity) →
     with_next (draft_at (with_paging cell) (FirstPage R9600)) (statements.Page (trial_page cell.pn))
-    ≡ Some (draft_at (with_page cell) (behind_page cell.pn))
+    ≡ Some (draft_at (with_page cell) (stage_after_pages cell.pn))
 unfolding with_next
 page_next cell = ap (option_map (draft_at (with_page cell))) (page_fits cell.pn)
 
@@ -174,7 +174,7 @@ head_statements cell more =
 -- them: each of cell, link, pilot, sync, paging and page is told as a script may tell it and comes
 -- where it may come.
 head_leads : (cell : CellIdentity) (more : List Statement) (last : Draft) → IsStatedCell cell →
-    Leads (draft_at (with_page cell) (behind_page cell.pn)) (lines_of more) last →
+    Leads (draft_at (with_page cell) (stage_after_pages cell.pn)) (lines_of more) last →
     Leads empty_draft (lines_of (head_statements cell more)) last
 head_leads cell more last is rest =
     let page = statements.Page (trial_page cell.pn) ∷ more in
@@ -193,7 +193,7 @@ head_leads cell more last is rest =
     (draft_at (with_paging cell) (FirstPage R9600)) last (statements.Paging trial_paging_line) page
     paging_told (paging_next cell)
     (first_leads (draft_at (with_paging cell) (FirstPage R9600))
-    (draft_at (with_page cell) (behind_page cell.pn)) last (statements.Page (trial_page cell.pn))
+    (draft_at (with_page cell) (stage_after_pages cell.pn)) last (statements.Page (trial_page cell.pn))
     more (page_writable (trial_page cell.pn) (page_is_body cell.pn)) (page_next cell) rest)))))
 
 -- ---- and after each of these
@@ -204,11 +204,11 @@ other_are = (refl, refl, refl, tt)
 
 trial_frames_are : (number : ℕ) → AreToldFrames (trial_frames number)
 unfolding trial_frames
-trial_frames_are number = frames_drawn_are (behind_draws number 5) 100
+trial_frames_are number = frames_drawn_are (past_draws number 5) 100
 
 trial_frames-long : (number : ℕ) → length (trial_frames number) ≡ 100
 unfolding trial_frames
-trial_frames-long number = frames_drawn-long (behind_draws number 5) 100
+trial_frames-long number = frames_drawn-long (past_draws number 5) 100
 
 second_stated : IsWritableTraffic second_line
 second_stated = record {
@@ -259,12 +259,12 @@ first_statements number =
 -- plan: each channel's line is followed by its frames, first the followed channel with the drawn
 -- ones and then the two others with one frame each.
 traffic_leads : (number : ℕ) →
-    Leads (draft_at (with_page (trial_cell number)) (behind_page (trial_cell number).pn))
+    Leads (draft_at (with_page (trial_cell number)) (stage_after_pages (trial_cell number).pn))
     (lines_of (first_statements number)) (draft_at (with_third number) (Frames One))
 traffic_leads number =
     let cell = trial_cell number in
     let last = draft_at (with_third number) (Frames One) in
-    channel_leads (with_page cell) (behind_page cell.pn)
+    channel_leads (with_page cell) (stage_after_pages cell.pn)
     (followed_line (trial_serial_number number)) (trial_frames number) second_statements last refl
     (followed_stated number) (trial_frames_are number) (omega (arith, trial_frames-long number))
     (channel_leads (with_first number) (Frames One) second_line (other_frame ∷ []) third_statements last

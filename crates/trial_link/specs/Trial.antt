@@ -22,21 +22,21 @@ use Rattle.cell_script.specs.Spelling.{script_of}
 -- ---- draws
 
 -- the generator's state after a draw: a linear congruence of 64 bits
-abbrev pub behind_draw : ℕ → ℕ
-behind_draw state = (6364136223846793005 * state + 1442695040888963407) % 2 ^ 64
+abbrev pub past_draw : ℕ → ℕ
+past_draw state = (6364136223846793005 * state + 1442695040888963407) % 2 ^ 64
 
 -- what a draw from a state gives: the upper 32 bits of the state after it
 abbrev pub drawn : ℕ → ℕ
-drawn state = behind_draw state / 2 ^ 32
+drawn state = past_draw state / 2 ^ 32
 
 -- the state after so many draws
-unfoldable pub behind_draws : ℕ → ℕ → ℕ
-behind_draws state zero = state
-behind_draws state (suc n) = behind_draw (behind_draws state n)
+unfoldable pub past_draws : ℕ → ℕ → ℕ
+past_draws state zero = state
+past_draws state (suc n) = past_draw (past_draws state n)
 
 -- so many bits, each the lowest of a draw
 unfoldable pub bits_drawn : ℕ → ℕ → List Bool
-bits_drawn state n = map (λ k. drawn (behind_draws state k) % 2 == 1) (places n)
+bits_drawn state n = map (λ k. drawn (past_draws state k) % 2 == 1) (places n)
 
 -- ---- frames
 
@@ -56,22 +56,22 @@ bits_of_frame state = information_of (rate_drawn state)
 abbrev pub frame_drawn : ℕ → TrafficFrame
 frame_drawn state = record {
   rate = SetOne (rate_drawn state);
-  information = bits_drawn (behind_draw state) (bits_of_frame state);
-  power_bits = bits_drawn (behind_draws (behind_draw state) (bits_of_frame state)) 16;
+  information = bits_drawn (past_draw state) (bits_of_frame state);
+  power_bits = bits_drawn (past_draws (past_draw state) (bits_of_frame state)) 16;
 }
 
 -- the state after it
-abbrev pub behind_frame : ℕ → ℕ
-behind_frame state = behind_draws (behind_draws (behind_draw state) (bits_of_frame state)) 16
+abbrev pub past_frame : ℕ → ℕ
+past_frame state = past_draws (past_draws (past_draw state) (bits_of_frame state)) 16
 
 -- the state after so many frames
-unfoldable pub behind_frames : ℕ → ℕ → ℕ
-behind_frames state zero = state
-behind_frames state (suc n) = behind_frame (behind_frames state n)
+unfoldable pub past_frames : ℕ → ℕ → ℕ
+past_frames state zero = state
+past_frames state (suc n) = past_frame (past_frames state n)
 
 -- so many frames, one after another
 unfoldable pub frames_drawn : ℕ → ℕ → List TrafficFrame
-frames_drawn state n = map (λ k. frame_drawn (behind_frames state k)) (places n)
+frames_drawn state n = map (λ k. frame_drawn (past_frames state k)) (places n)
 
 -- ---- what a number tells
 
@@ -85,19 +85,19 @@ state_of_draws high low =
 unfoldable pub trial_cell : ℕ → CellIdentity
 trial_cell number = record {
   pn = drawn number % 512;
-  time = drawn (behind_draws number 1);
-  lc = state_of_draws (drawn (behind_draws number 2)) (drawn (behind_draws number 3));
+  time = drawn (past_draws number 1);
+  lc = state_of_draws (drawn (past_draws number 2)) (drawn (past_draws number 3));
   check30 = Complemented;
   check16 = Complemented;
 }
 
 -- the electronic serial number of the handset that follows it
 unfoldable pub trial_serial_number : ℕ → ℕ
-trial_serial_number number = drawn (behind_draws number 4)
+trial_serial_number number = drawn (past_draws number 4)
 
 -- the hundred frames that are sent to it
 unfoldable pub trial_frames : ℕ → List TrafficFrame
-trial_frames number = frames_drawn (behind_draws number 5) 100
+trial_frames number = frames_drawn (past_draws number 5) 100
 
 -- a CDMA Channel List message of a cell, with one channel (TIA/EIA-95-B, 7.7.2.3.2.4)
 unfoldable pub trial_page : ℕ → Page

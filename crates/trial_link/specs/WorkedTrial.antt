@@ -7,7 +7,7 @@ use Rattle.line_text.specs.Texts.{state_digits}
 use Rattle.chip_core.specs.Bits.{binary, places}
 use Rattle.cell_script.specs.Spelling.{written_cell, written_frame, written_link, written_page}
 use Rattle.cell_script.specs.Spelling.{written_paging, written_pilot, written_sync, written_traffic}
-use Rattle.trial_link.specs.Trial.{behind_draws, bits_drawn, drawn, frame_drawn, behind_frames}
+use Rattle.trial_link.specs.Trial.{past_draws, bits_drawn, drawn, frame_drawn, past_frames}
 use Rattle.trial_link.specs.Trial.{other_frame, trial_cell, trial_link, trial_page, trial_sync}
 use Rattle.trial_link.specs.Trial.{followed_line, trial_serial_number}
 
@@ -20,7 +20,7 @@ last_number = refl
 
 cell_of_0 : written_cell (trial_cell 0)
     ≡ codes "cell pn=382 time=436792849 lc=26bd9e08ae9 checks=3"
-unfolding written_cell trial_cell behind_draws state_digits encode_with digits
+unfolding written_cell trial_cell past_draws state_digits encode_with digits
 cell_of_0 = refl
 
 link_of_trial : written_link trial_link ≡ codes "link re=1 im=0 start=0 samples=2457600"
@@ -47,18 +47,18 @@ page_of_0 = refl
 
 channel_of_0 : written_traffic (followed_line (trial_serial_number 0))
     ≡ codes "traffic row=8 esn=62354cda offset=0 gain=40"
-unfolding written_traffic trial_serial_number behind_draws serial_digits encode_with digits
+unfolding written_traffic trial_serial_number past_draws serial_digits encode_with digits
 channel_of_0 = refl
 
-first_frame : written_frame (frame_drawn (behind_draws 0 5))
+first_frame : written_frame (frame_drawn (past_draws 0 5))
     ≡ codes "frame 2400 40:322ec20495 0011110011001001"
-unfolding written_frame behind_draws bits_drawn bit_text padded packed_octets digits_of places
+unfolding written_frame past_draws bits_drawn bit_text padded packed_octets digits_of places
     encode_with digits
 first_frame = refl
 
-second_frame : written_frame (frame_drawn (behind_frames (behind_draws 0 5) 1))
+second_frame : written_frame (frame_drawn (past_frames (past_draws 0 5) 1))
     ≡ codes "frame 1200 16:18d3 0100100000001110"
-unfolding written_frame behind_draws behind_frames bits_drawn bit_text padded packed_octets digits_of
+unfolding written_frame past_draws past_frames bits_drawn bit_text padded packed_octets digits_of
     places encode_with digits
 second_frame = refl
 

@@ -27,7 +27,7 @@ impl Draws {
     /// The next number.
     fn draw(&mut self) -> u32
         ensures value { result ≡ trial.drawn self.old.state }
-        ensures state { self.new.state ≡ trial.behind_draw self.old.state }
+        ensures state { self.new.state ≡ trial.past_draw self.old.state }
     {
         self.state = self
             .state
@@ -39,7 +39,7 @@ impl Draws {
     /// The next bit: the lowest of a draw.
     fn bit(&mut self) -> bool
         ensures value { result ≡ (trial.drawn self.old.state % 2 == 1) }
-        ensures state { self.new.state ≡ trial.behind_draw self.old.state }
+        ensures state { self.new.state ≡ trial.past_draw self.old.state }
     {
         self.draw() % 2 == 1
     }
@@ -49,7 +49,7 @@ impl Draws {
         requires { count ≤ 1184 }
         ensures value { result ≡ trial.bits_drawn self.old.state count }
         ensures count { length result ≡ count }
-        ensures state { self.new.state ≡ trial.behind_draws self.old.state count }
+        ensures state { self.new.state ≡ trial.past_draws self.old.state count }
     {
         let mut bits = Bits::empty();
         for _bit in 0..count {
@@ -61,7 +61,7 @@ impl Draws {
     /// The next power control bits, sixteen.
     fn power_bits(&mut self) -> PowerBits
         ensures value { result ≡ trial.bits_drawn self.old.state 16 }
-        ensures state { self.new.state ≡ trial.behind_draws self.old.state 16 }
+        ensures state { self.new.state ≡ trial.past_draws self.old.state 16 }
     {
         sixteen(&self.bits(16))
     }
@@ -69,7 +69,7 @@ impl Draws {
     /// The next rate.
     fn rate(&mut self) -> Rate
         ensures value { result ≡ trial.rate_drawn self.old.state }
-        ensures state { self.new.state ≡ trial.behind_draw self.old.state }
+        ensures state { self.new.state ≡ trial.past_draw self.old.state }
     {
         match self.draw() % 4 {
             0 => Rate::R9600,
@@ -82,7 +82,7 @@ impl Draws {
     /// The next frame: its rate, its information bits and its power control bits.
     fn frame(&mut self) -> TrafficFrame
         ensures value { result ≡ trial.frame_drawn self.old.state }
-        ensures state { self.new.state ≡ trial.behind_frame self.old.state }
+        ensures state { self.new.state ≡ trial.past_frame self.old.state }
     {
         let rate = self.rate();
         let information = self.bits(rate.information_bits());
@@ -97,8 +97,8 @@ impl Draws {
     /// The next state of the long code: of 42 bits, and not 0.
     fn state(&mut self) -> u64
         ensures value { result ≡ trial.state_of_draws (trial.drawn self.old.state)
-            (trial.drawn (trial.behind_draw self.old.state)) }
-        ensures state { self.new.state ≡ trial.behind_draw (trial.behind_draw self.old.state) }
+            (trial.drawn (trial.past_draw self.old.state)) }
+        ensures state { self.new.state ≡ trial.past_draw (trial.past_draw self.old.state) }
     {
         let high = u64::from(self.draw());
         let state = high * 1024 + u64::from(self.draw() % 1024);
@@ -106,11 +106,11 @@ impl Draws {
     }
 
     /// The cell, with which the draws begin.
-    #[tactic(auto, unfolding(crate::specs::Trial::trial_cell, crate::specs::Trial::behind_draws))]
+    #[tactic(auto, unfolding(crate::specs::Trial::trial_cell, crate::specs::Trial::past_draws))]
     fn cell(&mut self) -> CellIdentity
         ensures value { result ≡ trial.trial_cell self.old.state }
         ensures lawful { IsStatedCell result }
-        ensures state { self.new.state ≡ trial.behind_draws self.old.state 4 }
+        ensures state { self.new.state ≡ trial.past_draws self.old.state 4 }
     {
         CellIdentity {
             pn: (self.draw() % 512) as u16,

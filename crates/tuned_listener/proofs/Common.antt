@@ -29,7 +29,7 @@ unfoldable pub use Rattle.chip_core.specs.Bits.{places}
 pub use Rattle.chip_core.specs.declared.check_form.CheckForm.{CheckForm}
 pub use Rattle.chip_core.specs.declared.sample.Sample.{Sample}
 pub use Rattle.event_tap.specs.PagingLines.{paging_line, slot_line}
-pub use Rattle.event_tap.specs.SlotLines.{frame_of_slot, frame_of_slot_end, is_heard, is_slot_within, lines_behind, lines_by_times}
+pub use Rattle.event_tap.specs.SlotLines.{frame_of_slot, frame_of_slot_end, is_heard, is_slot_within, lines_if_marked, lines_by_times}
 pub use Rattle.event_tap.specs.SlotLines.{lines_of_slot, lines_of_slots, slot_bound, slot_lines}
 unfoldable pub use Rattle.event_tap.specs.SlotLines.{slot_pages}
 pub use Rattle.rake_finger.proofs.CloseFingers.{close_begun, near_are_close, near_parts}
@@ -38,7 +38,7 @@ pub use Rattle.heard_events.proofs.Growth.{timed_of}
 pub use Rattle.heard_events.proofs.ChannelFrames.{frame_same, frames_sooner}
 pub use Rattle.rake_finger.proofs.FrameTimes.{ends_lt, inside_from, inside_to, known_between, known_own}
 pub use Rattle.heard_events.proofs.MarkLater.{mark_later}
-pub use Rattle.heard_events.proofs.MarkStays.{mark_behind, mark_set, mark_sooner, mark_stays, paging_near}
+pub use Rattle.heard_events.proofs.MarkStays.{mark_after, mark_set, mark_sooner, mark_stays, paging_near}
 pub use Rattle.mobile_core.proofs.MarkAhead.{marked_all}
 pub use Rattle.heard_events.specs.Channels.{IsLawful, channel_stream, has_power_control, mask_of, state_at}
 pub use Rattle.heard_events.specs.Events.{events}
@@ -95,11 +95,11 @@ pub use Rattle.tuned_listener.specs.Marking.{HasNoMark, HearsUntold, IsMarkedAt,
 pub use Rattle.tuned_listener.specs.SlotLaws.{AgreeInSlot, IsWrittenByTimes, NeedsMark, SleepsThroughTheRest}
 pub use Rattle.tuned_listener.specs.SlotWriting.{HoldsSlot, IsReadyForSlots, page_list, pages_ending}
 pub use Rattle.event_tap.specs.Slots.{slot_more, slot_text}
-unfoldable pub use Rattle.event_tap.specs.Slots.{slot_behind}
+unfoldable pub use Rattle.event_tap.specs.Slots.{slot_after}
 pub use Rattle.tuned_listener.specs.SoundListener.{CanOpen, CanOpenFor, IsSoundHearer}
 pub use Rattle.tuned_listener.specs.TunedListening.{ListensAfter, ListensFrom, ListensTuned, OpensFor, TellsTuned, TellsTunedPart}
 pub use Rattle.tuned_listener.specs.TunedListening.{WaitsFor, WasTold}
-pub use Rattle.event_tap.specs.TunedTexts.{behind_mark, tuned_frame_text, frames_from, listed_text, rate2_text, text_behind, text_from}
+pub use Rattle.event_tap.specs.TunedTexts.{after_mark, tuned_frame_text, frames_from, listed_text, rate2_text, text_if_marked, text_from}
 unfoldable pub use Rattle.event_tap.specs.TunedTexts.{frames_text, tuned_text}
 pub use Rattle.tuned_listener.specs.declared.channel_receiver.ChannelReceiver.{ChannelReceiver}
 pub use Rattle.tuned_listener.specs.declared.frame_writer.FrameWriter.{FrameWriter}

@@ -1,37 +1,37 @@
 -- What is written of frames in order, and what they leave of a slot, as frames go on.
 use Rattle.tuned_listener.proofs.Common.{◌≡◌, ℕ, List, [], ◌∷◌, ◌++◌, refl, sym, ap, ◌∙◌, append-nil, append_assoc, flat_map, CheckForm}
-use Rattle.tuned_listener.proofs.Common.{Mark, SoftFrame, slot_behind, slot_more, tuned_frame_text, frames_text, listed_text, rate2_text}
+use Rattle.tuned_listener.proofs.Common.{Mark, SoftFrame, slot_after, slot_more, tuned_frame_text, frames_text, listed_text, rate2_text}
 use Rattle.tuned_listener.proofs.Common.{TunedText, Listed, RateSetTwo}
 
 -- what frames leave of a slot
-pub kept_behind : (kept xs ys : List SoftFrame) →
-    slot_behind kept (xs ++ ys) ≡ slot_behind (slot_behind kept xs) ys
-unfolding slot_behind
-kept_behind kept [] ys = refl
-kept_behind kept (frame ∷ xs) ys = kept_behind (slot_more kept frame) xs ys
+pub kept_after : (kept xs ys : List SoftFrame) →
+    slot_after kept (xs ++ ys) ≡ slot_after (slot_after kept xs) ys
+unfolding slot_after
+kept_after kept [] ys = refl
+kept_after kept (frame ∷ xs) ys = kept_after (slot_more kept frame) xs ys
 
-pub kept_behind_one : (kept : List SoftFrame) (frame : SoftFrame) →
-    slot_behind kept (frame ∷ []) ≡ slot_more kept frame
-unfolding slot_behind
-kept_behind_one kept frame = refl
+pub kept_after_one : (kept : List SoftFrame) (frame : SoftFrame) →
+    slot_after kept (frame ∷ []) ≡ slot_more kept frame
+unfolding slot_after
+kept_after_one kept frame = refl
 
-pub kept_behind_none : (kept : List SoftFrame) → slot_behind kept [] ≡ kept
-unfolding slot_behind
-kept_behind_none kept = refl
+pub kept_after_none : (kept : List SoftFrame) → slot_after kept [] ≡ kept
+unfolding slot_after
+kept_after_none kept = refl
 
 module _ (form : TunedText) (check : CheckForm) (m : Mark) where
   -- the text of frames, and of those after them
   pub texts_joined : (kept xs ys : List SoftFrame) →
       frames_text form check m kept (xs ++ ys)
-      ≡ frames_text form check m kept xs ++ frames_text form check m (slot_behind kept xs) ys
-  unfolding frames_text slot_behind
+      ≡ frames_text form check m kept xs ++ frames_text form check m (slot_after kept xs) ys
+  unfolding frames_text slot_after
   texts_joined kept [] ys = refl
   texts_joined kept (frame ∷ xs) ys =
       let slot = slot_more kept frame in
       let first = tuned_frame_text form check m slot frame in
       ap (λ (text : List ℕ). first ++ text) (texts_joined slot xs ys)
       ∙ sym (append_assoc first (frames_text form check m slot xs)
-      (frames_text form check m (slot_behind slot xs) ys))
+      (frames_text form check m (slot_after slot xs) ys))
 
   pub text_of_one : (kept : List SoftFrame) (frame : SoftFrame) →
       frames_text form check m kept (frame ∷ [])

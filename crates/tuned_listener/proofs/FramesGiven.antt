@@ -150,8 +150,8 @@ module _ {t : Tuning} {channel : Channel} {m : Mark} {r : ChannelReceiver} (hear
       HasGiven t channel m r (length (heard ++ more))
       × (soft_frames t channel m (heard ++ more) ≡ soft_frames t channel m heard)
   step_none later =
-      let behind = on (omega (arith, later)) in
-      (behind, all_given behind given (heard ++ more) (omega (arith, long, later)) ∙ given_sooner)
+      let following = on (omega (arith, later)) in
+      (following, all_given following given (heard ++ more) (omega (arith, long, later)) ∙ given_sooner)
 
   -- with the frame that ends there
   pub step_frame : length heard + length more ≡ r.frames.clock.end →
@@ -165,14 +165,14 @@ module _ {t : Tuning} {channel : Channel} {m : Mark} {r : ChannelReceiver} (hear
       let frame : ℕ → SoftFrame = soft_frame t channel m (heard ++ more) in
       let here : r.frames.clock.end ≡ length (heard ++ more) = sym (long ∙ ended) in
       let all = on (omega (arith, ended)) in
-      let behind = frame_given all given here in
+      let following = frame_given all given here in
       let some = has.clocked.timed.some in
       let chips = ap frame_chips has.clocked.form_is in
       let later : length (heard ++ more) < r.frames.clock.end + frame_chips r.frames.clock.form =
       omega (arith, some, chips, here) in (
         all,
-        behind,
-        all_given behind (ap (λ (k : ℕ). k + 1) given) (heard ++ more) later
+        following,
+        all_given following (ap (λ (k : ℕ). k + 1) given) (heard ++ more) later
             ∙ ap (map frame) (ranges.filter-places-more inside next (here_inside all given here))
             ∙ map-append frame (filter inside (places next)) (next ∷ [])
             ∙ ap (λ (fs : List SoftFrame). fs ++ frame next ∷ []) given_sooner

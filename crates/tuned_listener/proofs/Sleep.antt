@@ -4,7 +4,7 @@ use Rattle.tuned_listener.proofs.Common.{inl, inr, ℤ, pos, ◌-ℤ◌, Option,
 use Rattle.tuned_listener.proofs.Common.{unsigned_abs, and_parts, cases_lt, ints, drop-drop, drop-take, take-append-drop, take-take}
 use Rattle.tuned_listener.proofs.Common.{take_all, places, Sample, Data, channel_stream, AgreeIn, mark, AreNear, all_near, has_reference}
 use Rattle.tuned_listener.proofs.Common.{low_of, paging_rate, Stream, frame_softs, frame_start, Tuning, finger_of, fingers_of, sync_stream}
-use Rattle.tuned_listener.proofs.Common.{Paging, Mark, SoftFrame, near_parts, timed_of, frame_same, mark_behind, mark_sooner, mark_stays}
+use Rattle.tuned_listener.proofs.Common.{Paging, Mark, SoftFrame, near_parts, timed_of, frame_same, mark_after, mark_sooner, mark_stays}
 use Rattle.tuned_listener.proofs.Common.{paging_near, slot_bits, frame_of_slot, frame_of_slot_end, is_heard, lines_of_slot, slot_bound}
 use Rattle.tuned_listener.proofs.Common.{slot_lines, slot_pages, AgreeInSlot, SleepsThroughTheRest}
 use Rattle.std.specs.List.{flat_map}
@@ -88,7 +88,7 @@ module _ (t : Tuning) (near : AreNear (sync_stream t).fingers) (m : Mark) (one o
     where
       by_mark : (found : Option Mark) → mark t one m.sample ≡ found → found ≡ Some m
       by_mark None none =
-          let less = mark_behind t (low_of t) (timed_of t near) near one m.sample (length one) m
+          let less = mark_after t (low_of t) (timed_of t near) near one m.sample (length one) m
           none marked in
           absurd (omega (arith, less))
       by_mark (Some found) is =

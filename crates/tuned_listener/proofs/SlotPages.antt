@@ -7,7 +7,7 @@ use Rattle.tuned_listener.proofs.Common.{flat_map_ext_places, AppendsPrefix, pag
 use Rattle.tuned_listener.proofs.Common.{half_frame_capsule_ending, paging_reading, PagingMessage, Rate, slot_pages, page_list}
 use Rattle.tuned_listener.proofs.Common.{pages_ending, Page}
 use Rattle.std.proofs.lemmas.List.{length-take-le}
-use Rattle.event_tap.proofs.Prefixes.{prefix_before, prefix_behind}
+use Rattle.event_tap.proofs.Prefixes.{prefix_before, prefix_after}
 
 -- what stands at the front of the pieces of more numbers
 pieces_begin : {X : Type 0} (f : ℕ → List X) (n d : ℕ) →
@@ -141,4 +141,4 @@ module _ (check : CheckForm) (rate : Rate) (bits : List Bool) where
           ∙ ap (λ (text : List ℕ). text ++ last)
           (flat_map-append (paging_line at) first (page_list page))))
           (prefix_before old new (flat_map (paging_line at) first ++ line) last
-          (prefix_behind old mid new (flat_map (paging_line at) first) line lines part))
+          (prefix_after old mid new (flat_map (paging_line at) first) line lines part))

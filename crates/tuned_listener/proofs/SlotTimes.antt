@@ -7,9 +7,9 @@ use Rattle.tuned_listener.proofs.Common.{channel_stream, mark, AreNear, all_begu
 use Rattle.tuned_listener.proofs.Common.{soft_frame, soft_frames, Stream, is_in_file, known_at, IsTimed, stream_end, Tuning, sync_stream}
 use Rattle.tuned_listener.proofs.Common.{Paging, Mark, SoftFrame, close_begun, near_are_close, timed_in, timed_of, ends_lt, inside_from}
 use Rattle.tuned_listener.proofs.Common.{inside_to, known_between, known_own, mark_later, mark_set, paging_near, slot_bits, is_monitored}
-use Rattle.tuned_listener.proofs.Common.{frame_of_slot, frame_of_slot_end, is_heard, is_slot_within, lines_behind, lines_by_times}
+use Rattle.tuned_listener.proofs.Common.{frame_of_slot, frame_of_slot_end, is_heard, is_slot_within, lines_if_marked, lines_by_times}
 use Rattle.tuned_listener.proofs.Common.{lines_of_slot, lines_of_slots, slot_bound, slot_lines, slot_pages, IsWrittenByTimes, NeedsMark}
-use Rattle.tuned_listener.proofs.Common.{slot_more, slot_text, frames_text, text_behind, tuned_text, Slots}
+use Rattle.tuned_listener.proofs.Common.{slot_more, slot_text, frames_text, text_if_marked, tuned_text, Slots}
 use Rattle.std.specs.List.{flat_map}
 use Rattle.chip_core.proofs.Ranges as ranges
 
@@ -152,7 +152,7 @@ module _ (key cycle : ℕ) (check : CheckForm) (m : Mark) where
         let second : frame (k + 1) ≡ frame (4 * slot + 1) = ap frame (omega (arith, is)) in
         let third : frame (k + 1 + 1) ≡ frame (4 * slot + 2) = ap frame (omega (arith, is)) in
         let last : frame (k + 1 + 1 + 1) ≡ frame (4 * slot + 3) = ap frame (omega (arith, is)) in
-        let behind = range_with_len (k + 1 + 1 + 1 + 1) n in
+        let following = range_with_len (k + 1 + 1 + 1 + 1) n in
         let a = frame (4 * slot + 0) in
         let b = frame (4 * slot + 1) in
         let c = frame (4 * slot + 2) in
@@ -160,7 +160,7 @@ module _ (key cycle : ℕ) (check : CheckForm) (m : Mark) where
         let rest = slot_by_slot (a ∷ b ∷ c ∷ d ∷ []) (k + 1 + 1 + 1 + 1) n (slot + 1) slots more
         (omega (arith, is)) (omega (arith, long)) few in
         rw (first, second, third, last)
-        (text_of_four kept a b c d (map frame behind) slot (omega (arith, numbered (4 * slot + 0)))
+        (text_of_four kept a b c d (map frame following) slot (omega (arith, numbered (4 * slot + 0)))
         (numbered (4 * slot + 1)) (numbered (4 * slot + 2)) (numbered (4 * slot + 3))
         ∙ ap (λ (xs : List ℕ). (if is_awake key cycle m slot then lines_at slot else []) ++ xs) rest
         ∙ kept_more lines_at (is_awake key cycle m) slot (range_with_len (slot + 1) slots))
@@ -213,18 +213,18 @@ module _ (p : ℕ → Bool) (down : (j k : ℕ) → j < k → p k ≡ true → p
               },
             )
         | inr none ↦
-            let behind : (k : ℕ) → bound ≤ k → p k ≡ false = λ k le.
+            let following : (k : ℕ) → bound ≤ k → p k ≡ false = λ k le.
             elim (cases_lt bound k) [
               | inl more ↦ past k (omega (arith, more))
               | inr here ↦
                   let same : bound ≡ k = omega (arith, le, here) in
                   ap p (sym same) ∙ none
             ] in
-            let (count, is) = front bound behind in (
+            let (count, is) = front bound following in (
               count,
               record {
                 passes = is.passes;
-                kept = ranges.filter_enough p (suc bound) bound past behind ∙ is.kept;
+                kept = ranges.filter_enough p (suc bound) bound past following ∙ is.kept;
               },
             )
       ]
@@ -408,13 +408,13 @@ pub written_by_times : IsWrittenByTimes
 unfolding tuned_text
 written_by_times key cycle t number m samples near marked =
     let (count, is) = known_front t near samples m marked number in
-    ap (text_behind (Slots key cycle) t (Paging number) samples) marked
+    ap (text_if_marked (Slots key cycle) t (Paging number) samples) marked
     ∙ text_by_times t near samples m marked number count is key cycle
 
 pub needs_mark : NeedsMark
 unfolding tuned_text
 needs_mark key cycle t number samples unmarked =
-    ap (text_behind (Slots key cycle) t (Paging number) samples) unmarked
+    ap (text_if_marked (Slots key cycle) t (Paging number) samples) unmarked
 
 -- both in one: what is written are the lines after the mark, where one is set
 pub written_of_slots : (key cycle : ℕ) (t : Tuning) (number : ℕ) (samples : List Sample) →
@@ -425,6 +425,6 @@ written_of_slots key cycle t number samples near = by_mark (mark t samples (leng
   where
     by_mark : (set : Option Mark) → mark t samples (length samples) ≡ set →
         tuned_text (Slots key cycle) t (Paging number) samples
-        ≡ lines_behind key cycle t number samples set
+        ≡ lines_if_marked key cycle t number samples set
     by_mark None unset = needs_mark key cycle t number samples unset
     by_mark (Some m) set = written_by_times key cycle t number m samples near set

@@ -6,9 +6,9 @@ use Rattle.tuned_listener.proofs.Common.{Appends-trans, and_from, cases_Bool, ca
 use Rattle.tuned_listener.proofs.Common.{take-append-drop, take_all, places, Sample, AppendsPrefix, channel_stream, paging_bound}
 use Rattle.tuned_listener.proofs.Common.{frames_within, soft_frame, soft_frames, IsTimed, IsTunedTo, IsTunerStep, Tuning, Channel, Mark}
 use Rattle.tuned_listener.proofs.Common.{SoftFrame, Tuner, TunerStep, frames_sooner, HoldsFrames, WritesFrames, WritesFramesPart}
-use Rattle.tuned_listener.proofs.Common.{slot_behind, slot_more, tuned_frame_text, frames_text, text_from, FrameWriter, TunedText}
-use Rattle.tuned_listener.proofs.FrameTexts.{kept_behind, kept_behind_none, kept_behind_one, text_of_none, text_of_one, texts_joined}
-use Rattle.event_tap.proofs.Prefixes.{begins_more, prefix_before, prefix_behind, taken_begins}
+use Rattle.tuned_listener.proofs.Common.{slot_after, slot_more, tuned_frame_text, frames_text, text_from, FrameWriter, TunedText}
+use Rattle.tuned_listener.proofs.FrameTexts.{kept_after, kept_after_none, kept_after_one, text_of_none, text_of_one, texts_joined}
+use Rattle.event_tap.proofs.Prefixes.{begins_more, prefix_before, prefix_after, taken_begins}
 use Rattle.heard_events.proofs.Arrivals.{Arrivals, by_parts, frames_in, is_by}
 use Rattle.heard_events.proofs.ChannelFrames.{channel_ordered}
 use Rattle.chip_core.proofs.Ranges as ranges
@@ -99,7 +99,7 @@ module _ (t : Tuning) (channel : Channel) (m : Mark) {low : ℕ}
   text_goes_on form xs ys =
       let (frames, more) = frames_go_on xs ys in
       let first = soft_frames t channel m xs in (
-        frames_text form t.check30 m (slot_behind [] first) frames,
+        frames_text form t.check30 m (slot_after [] first) frames,
         ap (frames_text form t.check30 m []) more
             ∙ texts_joined form t.check30 m [] first frames,
       )
@@ -116,7 +116,7 @@ step_joined heard samples next taken n left =
 
 -- what a writer keeps of a slot after these samples
 abbrev kept_of : Tuning → Channel → Mark → List Sample → List SoftFrame
-kept_of t channel m heard = slot_behind [] (soft_frames t channel m heard)
+kept_of t channel m heard = slot_after [] (soft_frames t channel m heard)
 
 -- the text of the frame that is shown after those
 abbrev shown_text : TunedText → Tuning → Channel → Mark → List Sample → Option SoftFrame → List ℕ
@@ -126,7 +126,7 @@ shown_text form t channel m heard shown =
 -- what it keeps then
 abbrev kept_with : Tuning → Channel → Mark → List Sample → Option SoftFrame → List SoftFrame
 kept_with t channel m heard shown =
-    slot_behind (kept_of t channel m heard) (option_to_list shown)
+    slot_after (kept_of t channel m heard) (option_to_list shown)
 
 module _ (t : Tuning) (channel : Channel) (m : Mark) (form : TunedText) where
   module _ (heard : List Sample) (shown : Option SoftFrame) where
@@ -166,7 +166,7 @@ module _ (t : Tuning) (channel : Channel) (m : Mark) (form : TunedText) where
     frame_kept frame writer is =
         subst (HoldsFrames writer t.check30)
         (sym (ap (kept_with t channel m heard) is
-        ∙ kept_behind_one (kept_of t channel m heard) frame))
+        ∙ kept_after_one (kept_of t channel m heard) frame))
 
     pub none_kept : (writer : FrameWriter) → shown ≡ None →
         HoldsFrames writer t.check30 (kept_of t channel m heard) →
@@ -174,7 +174,7 @@ module _ (t : Tuning) (channel : Channel) (m : Mark) (form : TunedText) where
     none_kept writer is =
         subst (HoldsFrames writer t.check30)
         (sym (ap (kept_with t channel m heard) is
-        ∙ kept_behind_none (kept_of t channel m heard)))
+        ∙ kept_after_none (kept_of t channel m heard)))
 
   module _ (one other : Tuner) (writer : FrameWriter) (heard samples next : List Sample)
       (taken : ℕ) (step : TunerStep) (old mid new : Option (List ℕ))
@@ -213,8 +213,8 @@ module _ (t : Tuning) (channel : Channel) (m : Mark) (form : TunedText) where
       step_kept : kept_with t channel m so_many step.frame
           ≡ kept_of t channel m (heard ++ take (taken + step.taken) samples)
       step_kept =
-          sym (kept_behind [] (soft_frames t channel m so_many) (option_to_list step.frame))
-          ∙ ap (slot_behind []) (sym frames_then)
+          sym (kept_after [] (soft_frames t channel m so_many) (option_to_list step.frame))
+          ∙ ap (slot_after []) (sym frames_then)
 
       -- it was written
       pub writes_more : (writer' : FrameWriter) →
@@ -253,7 +253,7 @@ module _ (t : Tuning) (channel : Channel) (m : Mark) (form : TunedText) where
           ∙ append_assoc before (so_far.text ++ text) rest
           ∙ ap (λ (bytes : List ℕ). before ++ bytes) (append_assoc so_far.text text rest) in
           let cut : AppendsPrefix old new all =
-          prefix_behind old mid new so_far.text (text ++ rest) so_far.written
+          prefix_after old mid new so_far.text (text ++ rest) so_far.written
           (prefix_before mid new text rest part) in
           record {
             text = take cut.count all;

@@ -5,11 +5,11 @@ use Rattle.tuned_listener.proofs.Common.{Appends-nil, take-append-drop, take_all
 use Rattle.tuned_listener.proofs.Common.{soft_frames, frame_most, IsTunedTo, Tuning, sync_stream, Channel, Paging, Traffic, Mark, Mobile}
 use Rattle.tuned_listener.proofs.Common.{SoftFrame, Tuner, HoldsFrames, IsReady, WritesFrames, WritesFramesPart, tuned_text_of}
 use Rattle.tuned_listener.proofs.Common.{nil_from_length, ListensAfter, ListensFrom, ListensTuned, TellsTuned, WaitsFor}
-use Rattle.tuned_listener.proofs.Common.{TellsTunedPart, IsReadyForSlots, slot_behind, behind_mark, frames_from, text_from, tuned_text}
+use Rattle.tuned_listener.proofs.Common.{TellsTunedPart, IsReadyForSlots, slot_after, after_mark, frames_from, text_from, tuned_text}
 use Rattle.tuned_listener.proofs.Common.{CanOpen, CanOpenFor, IsMarkedAt, IsSoundHearer, IsSoundMark, IsUntold, OpensFor, WasTold}
 use Rattle.tuned_listener.proofs.Common.{samples_taken}
 use Rattle.tuned_listener.proofs.Common.{FrameWriter, SlotWriter, Hearer, After, Ahead, TunedListener, TunedText}
-use Rattle.tuned_listener.proofs.FrameTexts.{kept_behind_none}
+use Rattle.tuned_listener.proofs.FrameTexts.{kept_after_none}
 use Rattle.heard_events.proofs.MarkGrowth.{none_marked}
 use Rattle.tuned_listener.proofs.TunedMarks.{mark_kept, there_eq, there_le}
 use Rattle.tuned_listener.proofs.TunedTexts.{text_at_mark, text_marked, text_unmarked}
@@ -74,22 +74,22 @@ was_told t channel hearer m heard mobile for_channel phase near is told =
 
 module _ (t : Tuning) (channel : Channel) (heard : List Sample) where
   -- there are none before the mark
-  pub frames_unmarked : mark t heard (length heard) ≡ None → behind_mark t channel heard ≡ []
+  pub frames_unmarked : mark t heard (length heard) ≡ None → after_mark t channel heard ≡ []
   frames_unmarked none = ap (frames_from t channel heard) none
 
   -- and after it those from there on
   pub frames_marked : (m : Mark) → mark t heard (length heard) ≡ Some m →
-      behind_mark t channel heard ≡ soft_frames t channel m heard
+      after_mark t channel heard ≡ soft_frames t channel m heard
   frames_marked m is = ap (frames_from t channel heard) is
 
 -- a writer keeps nothing before any sample is taken
 pub holds_nothing : (t : Tuning) (channel : Channel) (writer : FrameWriter) (check : CheckForm) →
     AreNear (sync_stream t).fingers → t.check30 ≡ check → HoldsFrames writer check [] →
-    HoldsFrames writer t.check30 (slot_behind [] (behind_mark t channel []))
+    HoldsFrames writer t.check30 (slot_after [] (after_mark t channel []))
 holds_nothing t channel writer check near same holds =
     subst (HoldsFrames writer t.check30)
-    (sym (ap (slot_behind []) (frames_unmarked t channel [] (none_marked t near))
-    ∙ kept_behind_none []))
+    (sym (ap (slot_after []) (frames_unmarked t channel [] (none_marked t near))
+    ∙ kept_after_none []))
     (subst (λ (c : CheckForm). HoldsFrames writer c []) (sym same) holds)
 
 module _ (t : Tuning) (channel : Channel) (form : TunedText) (l : TunedListener)
@@ -97,7 +97,7 @@ module _ (t : Tuning) (channel : Channel) (form : TunedText) (l : TunedListener)
   -- another takes its place, for the same text
   pub listens_on : (l' : TunedListener) (heard' : List Sample) →
       tuned_text_of l'.writer ≡ tuned_text_of l.writer →
-      HoldsFrames l'.writer t.check30 (slot_behind [] (behind_mark t channel heard')) →
+      HoldsFrames l'.writer t.check30 (slot_after [] (after_mark t channel heard')) →
       ListensFrom t channel l'.hearer heard' → ListensTuned t channel form l' heard'
   listens_on l' heard' text holds from = record {
     form_is = text ∙ is.form_is;
@@ -108,13 +108,13 @@ module _ (t : Tuning) (channel : Channel) (form : TunedText) (l : TunedListener)
 
   -- its writer keeps the same where no frame has ended since
   listens_silent : (l' : TunedListener) (heard' : List Sample) → l'.writer ≡ l.writer →
-      behind_mark t channel heard' ≡ behind_mark t channel heard →
+      after_mark t channel heard' ≡ after_mark t channel heard →
       ListensFrom t channel l'.hearer heard' → ListensTuned t channel form l' heard'
   listens_silent l' heard' writer silent =
       listens_on l' heard' (ap tuned_text_of writer)
-      (subst (λ (w : FrameWriter). HoldsFrames w t.check30 (slot_behind [] (behind_mark t channel heard')))
+      (subst (λ (w : FrameWriter). HoldsFrames w t.check30 (slot_after [] (after_mark t channel heard')))
       (sym writer)
-      (subst (λ (fs : List SoftFrame). HoldsFrames l.writer t.check30 (slot_behind [] fs)) (sym silent)
+      (subst (λ (fs : List SoftFrame). HoldsFrames l.writer t.check30 (slot_after [] fs)) (sym silent)
       is.holds))
 
   -- a handset hears on ahead of the mark
@@ -159,10 +159,10 @@ pub silent_ahead : (t : Tuning) (channel : Channel) (form : TunedText)
     mark t heard (length heard) ≡ None →
     mark t (heard ++ samples) (length (heard ++ samples)) ≡ None →
     tuned_text form t channel (heard ++ take taken samples) ≡ tuned_text form t channel heard
-silent_ahead t channel form heard samples taken all before behind =
+silent_ahead t channel form heard samples taken all before following =
     ap (λ (xs : List Sample). tuned_text form t channel (heard ++ xs))
     (take_all taken samples (omega (arith, all)))
-    ∙ text_unmarked form t channel (heard ++ samples) behind
+    ∙ text_unmarked form t channel (heard ++ samples) following
     ∙ sym (text_unmarked form t channel heard before)
 
 -- ---- what is there
@@ -216,24 +216,24 @@ module _ (t : Tuning) (channel : Channel) (form : TunedText) (l : TunedListener)
     marked = mark_kept t is.close heard samples m from.marked
 
     -- what the writer keeps, by the frames from the mark on
-    pub keeps_behind : HoldsFrames l.writer t.check30
-        (slot_behind [] (soft_frames t channel m heard))
-    keeps_behind =
-        subst (λ (fs : List SoftFrame). HoldsFrames l.writer t.check30 (slot_behind [] fs))
+    pub keeps_after : HoldsFrames l.writer t.check30
+        (slot_after [] (soft_frames t channel m heard))
+    keeps_after =
+        subst (λ (fs : List SoftFrame). HoldsFrames l.writer t.check30 (slot_after [] fs))
         (frames_marked t channel heard m from.marked) is.holds
 
     -- the frames were written
-    pub tells_behind : (l' : TunedListener) (tuner' : Tuner) →
+    pub tells_frames_after : (l' : TunedListener) (tuner' : Tuner) →
         tuned_text_of l'.writer ≡ tuned_text_of l.writer → l'.hearer ≡ After m tuner' →
         ((t : Tuning) (channel : Channel) (heard : List Sample) →
         IsTunedTo t channel m tuner heard →
-        HoldsFrames l.writer t.check30 (slot_behind [] (soft_frames t channel m heard)) →
+        HoldsFrames l.writer t.check30 (slot_after [] (soft_frames t channel m heard)) →
         WritesFrames t channel m (tuned_text_of l.writer) tuner' l'.writer heard (heard ++ samples)
         old new) →
         TellsTuned t channel form l' heard (heard ++ samples) old new
-    tells_behind l' tuner' text after writes =
+    tells_frames_after l' tuner' text after writes =
         let wrote = subst (λ (f : TunedText). WritesFrames t channel m f tuner' l'.writer heard now
-        old new) is.form_is (writes t channel heard from.tuned keeps_behind) in
+        old new) is.form_is (writes t channel heard from.tuned keeps_after) in
         let there : ListensFrom t channel (After m tuner') now =
         record { marked = marked; tuned = wrote.tuned } in
         record {
@@ -245,7 +245,7 @@ module _ (t : Tuning) (channel : Channel) (form : TunedText) (l : TunedListener)
               ∙ sym (text_marked form t channel now m marked);
           listens =
               listens_on t channel form l heard is l' now text
-              (subst (λ (fs : List SoftFrame). HoldsFrames l'.writer t.check30 (slot_behind [] fs))
+              (subst (λ (fs : List SoftFrame). HoldsFrames l'.writer t.check30 (slot_after [] fs))
               (sym (frames_marked t channel now m marked)) wrote.holds)
               (subst (λ (h : Hearer). ListensFrom t channel h now) (sym after) there);
         }
@@ -253,12 +253,12 @@ module _ (t : Tuning) (channel : Channel) (form : TunedText) (l : TunedListener)
     -- a write failed
     pub tells_cut : ((t : Tuning) (channel : Channel) (heard : List Sample) →
         IsTunedTo t channel m tuner heard →
-        HoldsFrames l.writer t.check30 (slot_behind [] (soft_frames t channel m heard)) →
+        HoldsFrames l.writer t.check30 (slot_after [] (soft_frames t channel m heard)) →
         WritesFramesPart t channel m (tuned_text_of l.writer) heard (heard ++ samples) old new) →
         TellsTunedPart t channel form heard (heard ++ samples) old new
     tells_cut writes =
         let wrote = subst (λ (f : TunedText). WritesFramesPart t channel m f heard now old new)
-        is.form_is (writes t channel heard from.tuned keeps_behind) in
+        is.form_is (writes t channel heard from.tuned keeps_after) in
         record {
           text = wrote.text;
           written = wrote.written;

@@ -1,6 +1,6 @@
 -- The text of a channel's frames, as samples go on.
 use Rattle.tuned_listener.proofs.Common.{◌≡◌, List, [], length, ap, ◌∙◌, Some, None, Sample, mark, AreNear, soft_frames, Tuning}
-use Rattle.tuned_listener.proofs.Common.{sync_stream, Channel, Mark, frames_text, text_behind, text_from, tuned_text, TunedText}
+use Rattle.tuned_listener.proofs.Common.{sync_stream, Channel, Mark, frames_text, text_if_marked, text_from, tuned_text, TunedText}
 use Rattle.tuned_listener.proofs.FrameTexts.{text_of_none}
 use Rattle.heard_events.proofs.MarkGrowth.{none_marked}
 pub use Rattle.tuned_listener.proofs.FrameTexts.{listed_texts, rate2_texts, texts_by_frame}
@@ -9,13 +9,13 @@ module _ (form : TunedText) (t : Tuning) (channel : Channel) (heard : List Sampl
   -- there is none before the mark
   pub text_unmarked : mark t heard (length heard) ≡ None → tuned_text form t channel heard ≡ []
   unfolding tuned_text
-  text_unmarked none = ap (text_behind form t channel heard) none
+  text_unmarked none = ap (text_if_marked form t channel heard) none
 
   -- and after it that of the frames from there on
   pub text_marked : (m : Mark) → mark t heard (length heard) ≡ Some m →
       tuned_text form t channel heard ≡ text_from form t channel m heard
   unfolding tuned_text
-  text_marked m is = ap (text_behind form t channel heard) is
+  text_marked m is = ap (text_if_marked form t channel heard) is
 
   -- where the mark is set no frame has ended
   pub text_at_mark : (m : Mark) → mark t heard (length heard) ≡ Some m →

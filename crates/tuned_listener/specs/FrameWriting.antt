@@ -13,7 +13,7 @@ use Rattle.heard_events.specs.declared.mark.Mark.{Mark}
 use Rattle.heard_events.specs.declared.soft_frame.SoftFrame.{SoftFrame}
 use Rattle.tuned_listener.specs.declared.tuner.Tuner.{Tuner}
 use Rattle.tuned_listener.specs.SlotWriting.{HoldsSlot, IsReadyForSlots}
-use Rattle.event_tap.specs.Slots.{slot_behind}
+use Rattle.event_tap.specs.Slots.{slot_after}
 use Rattle.event_tap.specs.TunedTexts.{text_from}
 use Rattle.tuned_listener.specs.declared.frame_writer.FrameWriter.{FrameWriter}
 use Rattle.tuned_listener.specs.declared.frame_writer.FrameWriter.TheVariants as writers
@@ -53,7 +53,7 @@ pub record WritesFrames (t : Tuning) (channel : Channel) (m : Mark) (form : Tune
   pub written : Appends old new text
   pub all : text_from form t channel m before ++ text ≡ text_from form t channel m heard
   pub tuned : IsTunedTo t channel m tuner heard
-  pub holds : HoldsFrames writer t.check30 (slot_behind [] (soft_frames t channel m heard))
+  pub holds : HoldsFrames writer t.check30 (slot_after [] (soft_frames t channel m heard))
 
 -- a sink got a beginning of that text
 pub record WritesFramesPart (t : Tuning) (channel : Channel) (m : Mark) (form : TunedText)

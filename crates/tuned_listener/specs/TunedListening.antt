@@ -14,8 +14,8 @@ use Rattle.mobile_core.specs.declared.mobile.Mobile.{Mobile}
 use Rattle.pilot_search.specs.declared.paths.Near.{Near}
 use Rattle.tuned_listener.specs.FrameWriting.{HoldsFrames, tuned_text_of}
 use Rattle.tuned_listener.specs.Marking.{IsMarkedAt, ListensAhead}
-use Rattle.event_tap.specs.Slots.{slot_behind}
-use Rattle.event_tap.specs.TunedTexts.{behind_mark, tuned_text}
+use Rattle.event_tap.specs.Slots.{slot_after}
+use Rattle.event_tap.specs.TunedTexts.{after_mark, tuned_text}
 use Rattle.tuned_listener.specs.declared.tuned.Hearer.{Hearer}
 use Rattle.tuned_listener.specs.declared.tuned.Hearer.TheVariants.{Ahead, After}
 use Rattle.tuned_listener.specs.declared.tuned.TunedListener.{TunedListener}
@@ -59,7 +59,7 @@ pub record ListensTuned (t : Tuning) (channel : Channel) (form : TunedText) (l :
     (heard : List Sample) : Type 0 where
   pub form_is : tuned_text_of l.writer ≡ form
   pub close : AreNear (sync_stream t).fingers
-  pub holds : HoldsFrames l.writer t.check30 (slot_behind [] (behind_mark t channel heard))
+  pub holds : HoldsFrames l.writer t.check30 (slot_after [] (after_mark t channel heard))
   pub listens : ListensFrom t channel l.hearer heard
 
 -- a handset waits for the mark

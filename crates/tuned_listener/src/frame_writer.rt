@@ -15,7 +15,7 @@ ghost use Rattle.heard_events.specs.declared.channel.Channel.{Channel as TheChan
 ghost use Rattle.heard_events.specs.declared.soft_frame.SoftFrame.{SoftFrame as TheFrame};
 ghost use Rattle.tuned_listener.specs.FrameWriting.{HoldsFrames, IsLawfulText, IsReady};
 ghost use Rattle.tuned_listener.specs.FrameWriting.{tuned_text_of, WritesFrames, WritesFramesPart};
-ghost use Rattle.event_tap.specs.Slots.{slot_behind, slot_more};
+ghost use Rattle.event_tap.specs.Slots.{slot_after, slot_more};
 ghost use Rattle.event_tap.specs.TunedTexts.{listed_text, rate2_text, tuned_frame_text};
 
 use crate::slot_writer::SlotWriter;
@@ -173,12 +173,12 @@ pub(crate) fn hear_frames<K: Sink>(
     ensures text { tuned_text_of writer.new ≡ tuned_text_of writer.old }
     ensures ok { OnOk result ((t : Tuning) (channel : TheChannel) (heard : List TheSample) →
         IsTunedTo t channel mark.now tuner.old heard →
-        HoldsFrames writer.old t.check30 (slot_behind [] (soft_frames t channel mark.now heard)) →
+        HoldsFrames writer.old t.check30 (slot_after [] (soft_frames t channel mark.now heard)) →
         WritesFrames t channel mark.now (tuned_text_of writer.old) tuner.new writer.new heard
         (heard ++ samples.now) (K.written sink.old) (K.written sink.new)) }
     ensures err { OnErr result ((t : Tuning) (channel : TheChannel) (heard : List TheSample) →
         IsTunedTo t channel mark.now tuner.old heard →
-        HoldsFrames writer.old t.check30 (slot_behind [] (soft_frames t channel mark.now heard)) →
+        HoldsFrames writer.old t.check30 (slot_after [] (soft_frames t channel mark.now heard)) →
         WritesFramesPart t channel mark.now (tuned_text_of writer.old) heard (heard ++ samples.now)
         (K.written sink.old) (K.written sink.new)) }
     ensures cause { HasCause (K.faults sink.old) (K.faults sink.new) result }

@@ -75,7 +75,7 @@ struct Page {
 
 /// Lets the framer take the next bit of a slot, and gives the message that this completes; `None`
 /// where it completes none, or one that has a fault.
-fn page_behind(framer: &mut HalfFramer, bit: bool, check: CheckForm) -> Option<Page>
+fn page_after(framer: &mut HalfFramer, bit: bool, check: CheckForm) -> Option<Page>
     ensures size { framer.new.size ≡ framer.old.size }
     ensures stands { (bits : List Bool) → HalfFramesStandFor framer.old bits →
         HalfFramesStandFor framer.new (bits ++ bit ∷ []) }
@@ -97,7 +97,7 @@ fn count_pages(bits: &HalfBits, rate: Rate, check: CheckForm) -> u16
     let mut framer = HalfFramer::new(rate);
     let mut count = 0;
     for i in 0..bits.len() {
-        let page = page_behind(&mut framer, bits.get(i), check);
+        let page = page_after(&mut framer, bits.get(i), check);
         count += u16::from(page.is_some());
     }
     count
@@ -144,7 +144,7 @@ fn write_pages<K: Sink>(
 {
     let mut framer = HalfFramer::new(rate);
     for i in 0..bits.len() {
-        let page = page_behind(&mut framer, bits.get(i), check);
+        let page = page_after(&mut framer, bits.get(i), check);
         write_page(at, &page, sink)?;
     }
     Ok(())

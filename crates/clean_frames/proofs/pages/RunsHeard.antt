@@ -5,7 +5,7 @@ use Rattle.clean_frames.proofs.Common.{option_to_list, and_left, and_right, case
 use Rattle.clean_frames.proofs.Common.{drop_at, map-append, take-append-le, filter-append, div_below, le-div, mul-le-mul_left}
 use Rattle.clean_frames.proofs.Common.{take-append-add, take-nil, places, length-map-places, Piece, Page, flat_map_ext_places, Placed}
 use Rattle.clean_frames.proofs.Common.{flat_map-add, flat_map-nothing, map-add, take-map-places, filter, ended_of, joined, AreChained}
-use Rattle.clean_frames.proofs.Common.{ended-before, ended-behind, ended-past, ending_at, fills, later_begins_none, run_piece, run_pieces}
+use Rattle.clean_frames.proofs.Common.{ended-before, ended-after, ended-past, ending_at, fills, later_begins_none, run_piece, run_pieces}
 use Rattle.clean_frames.proofs.Common.{run_scanned, run_width, first_bits_told, none_starts-map, NoneStarts, scan, scan-append, scan_silent}
 use Rattle.clean_frames.proofs.Common.{with_number, AreChainedRuns}
 
@@ -73,8 +73,8 @@ module _ (size : ℕ) (spell : Page → List Bool) (large : 0 < size) where
   last_before high count some le =
       div_below (count - 1) size high large (omega (arith, some, le))
 
-  last_behind : (high count : ℕ) → size * high < count → high ≤ (count - 1) / size
-  last_behind high count less = le-div high (count - 1) size large (omega (arith, less))
+  last_after : (high count : ℕ) → size * high < count → high ≤ (count - 1) / size
+  last_after high count less = le-div high (count - 1) size large (omega (arith, less))
 
   -- a run that begins too early
   too_early : (low high run at : ℕ) (pages : List Page) →
@@ -97,7 +97,7 @@ module _ (size : ℕ) (spell : Page → List Bool) (large : 0 < size) where
       let next = at + n in
       let p : Placed = record { run = run; last = (next - 1) / size; page = page } in
       let whole = chained.0 in
-      let late : high ≤ p.last = last_behind high next (omega (arith, whole.told, le)) in
+      let late : high ≤ p.last = last_after high next (omega (arith, whole.told, le)) in
       selected-not spell low high p (placed_run size spell run next pages)
       (and_right (nat_le low run) (nat_lt p.last high) (le-ltb p.last high late))
       ∙ too_late low high run next (x + n) pages chained.2 (omega (arith, le))
@@ -137,7 +137,7 @@ module _ (size : ℕ) (spell : Page → List Bool) (large : 0 < size) where
       let begun : nat_le low run ≡ true = le-leb low run early in
       elim (cases_lt bits n) [
         | inl less ↦
-            let late : high ≤ p.last = last_behind high next (omega (arith, ends, less)) in
+            let late : high ≤ p.last = last_after high next (omega (arith, ends, less)) in
             flat_map-nothing g bits
             (λ k lt. ap (λ o. with_number ((at + k) / size) (option_to_list o))
             (ended-before c cs (suc k) (omega (arith, lt, less))))
@@ -164,7 +164,7 @@ module _ (size : ℕ) (spell : Page → List Bool) (large : 0 < size) where
             ap (λ (m : ℕ). with_number (m / size) (option_to_list
             (ended_of (c ∷ cs) (suc (suc d + k))))) far
             ∙ ap (λ o. with_number ((next + k) / size) (option_to_list o))
-            (ended-behind c cs (suc (suc d + k)) k (omega (arith, long))))
+            (ended-after c cs (suc (suc d + k)) k (omega (arith, long))))
             ∙ bits_told low high run next (x + n) pages b chained.2 early
             (omega (arith, ends, parts, long)))
             ∙ sym (selected-here spell low high p rest inside)
@@ -301,12 +301,12 @@ module _ (size : ℕ) (spell : Page → List Bool) (large : 0 < size) where
       (λ i. later_begins_none size cs (k + i) (omega (arith, some)))
 
   -- the rest of a run that was missed, and the runs after it
-  behind_missed : (runs : List (List Page))
+  after_missed : (runs : List (List Page))
       (cs : List (List Bool)) (o k r n low : ℕ) → AreRuns size spell runs → 0 < k → low ≤ o + r →
       scan size [] o (take n (map (λ i. run_piece size cs (k + i)) (places r) ++
       pieces_of size spell runs))
       ≡ selected spell low (o + n) (placed_runs size spell (o + r) runs)
-  behind_missed runs cs o k r n low are some early =
+  after_missed runs cs o k r n low are some early =
       let g = λ (i : ℕ). run_piece size cs (k + i) in
       let more = pieces_of size spell runs in
       let own = map g (places r) in
@@ -355,7 +355,7 @@ module _ (size : ℕ) (spell : Page → List Bool) (large : 0 < size) where
             let e : low + r ≡ o + w = omega (arith, within) in
             ap (λ (l : List Piece). scan size [] low (take n l))
             (drop-short f (suc k) w more (omega (arith, within)))
-            ∙ behind_missed runs cs low (suc k) r n low are.2 (omega arith) (omega arith)
+            ∙ after_missed runs cs low (suc k) r n low are.2 (omega arith) (omega arith)
             ∙ ap (λ (i : ℕ). selected spell low high (placed_runs size spell i runs)) e
             ∙ sym later
         | inr beyond ↦

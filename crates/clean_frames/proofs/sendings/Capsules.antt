@@ -7,7 +7,7 @@ use Rattle.clean_frames.proofs.Common.{div-mul-add, mod-mul-add, number, FillsCa
 use Rattle.clean_frames.proofs.Common.{piece, bodies, from_last_start, but_last, capsule_ending, M30, whole-capsule, CheckForm, sync_body}
 use Rattle.clean_frames.proofs.Common.{sync_capsule, SyncFields, length-body, message_of, padded_sending, superframes_a_sending}
 use Rattle.clean_frames.proofs.Common.{sync_frame_bits, CellPlan, length-sending, length-sync, length-append, first_starts, length-run}
-use Rattle.clean_frames.proofs.Common.{none_starts, run, run-append, run-push, started_behind}
+use Rattle.clean_frames.proofs.Common.{none_starts, run, run-append, run-push, started_after}
 
 -- ---- the end of a message
 -- what it gives where its size is known
@@ -221,7 +221,7 @@ module _ (plan : CellPlan) (m : SyncFields) where
       ∙ run-append f 0 at (suc w) ∙
       ap (λ (n : ℕ). run f 0 at ++ run f n (suc w)) (let e : 0 + at ≡ at = omega arith in e) in
       ap from_last_start cut ∙
-      started_behind (run f 0 at) message kept (omega (arith, length-run f at (suc w)))
+      started_after (run f 0 at) message kept (omega (arith, length-run f at (suc w)))
 
   -- the capsule that ends there, where there is one
   abbrev pub sent_capsule : ℕ → ℕ → ℕ → Option (List Bool)

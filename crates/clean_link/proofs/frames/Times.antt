@@ -1,7 +1,7 @@
 -- When the frames of a stream are known, where it has one finger, on the reference path.
 use Rattle.clean_link.proofs.Common.{◌≡◌, ℕ, ◌+◌, ◌≤◌, ◌&&◌, Bool, true, false, [], ◌∷◌, refl, ap, ◌∙◌, arith, nat_le, pos, ◌+ℤ◌}
 use Rattle.clean_link.proofs.Common.{if◌then◌else◌, List, frame_chips, Finger, Stream, frame_end, frame_start, is_in_file, known_at}
-use Rattle.clean_link.proofs.Common.{IsTimed, heard_behind, ◌-◌, ◌*◌, ◌/◌, ◌%◌, ◌<◌, ℤ, phase_at, CellPlan, Tuning, fingers_of, modulo_code}
+use Rattle.clean_link.proofs.Common.{IsTimed, heard_after, ◌-◌, ◌*◌, ◌/◌, ◌%◌, ◌<◌, ℤ, phase_at, CellPlan, Tuning, fingers_of, modulo_code}
 use Rattle.clean_link.proofs.Common.{sync_stream, first_sync_frame, paging_stream, Mark}
 use Rattle.clean_signal.proofs.frames.Times.{IsAlone, end_of_one, ends_at, inside_alone, inside_is, room_alone, timed_alone}
 
@@ -22,7 +22,7 @@ known_if s k false alone =
 
 -- when it is known, where it waits
 pub known_alone : (count : ℕ) (s : Stream) (k : ℕ) → IsAlone s → s.waits ≡ true →
-    known_at count s k ≡ heard_behind (frame_chips s.form) count (ends_at s k)
+    known_at count s k ≡ heard_after (frame_chips s.form) count (ends_at s k)
 known_alone count s k alone waits =
     let inside = is_in_file count s (k + 1) in
     let next : (s.waits && inside) ≡ nat_le (ends_at s k + frame_chips s.form) count =
@@ -70,10 +70,10 @@ in_file_to t k alone h =
     omega (arith, room_alone t.count (sync_stream t) k (sync_alone t alone) h)
 
 pub known_is : (t : Tuning) (k : ℕ) → t.deltas ≡ one_path →
-    known_at t.count (sync_stream t) k ≡ heard_behind 32768 t.count (end_of_frame t k)
+    known_at t.count (sync_stream t) k ≡ heard_after 32768 t.count (end_of_frame t k)
 known_is t k alone =
     known_alone t.count (sync_stream t) k (sync_alone t alone) refl ∙
-    ap (heard_behind 32768 t.count) (omega arith)
+    ap (heard_after 32768 t.count) (omega arith)
 
 -- ---- the cell's frames
 
@@ -93,8 +93,8 @@ frames_begin plan t j low is =
 -- ---- a paging channel
 
 -- the number of samples at which frame k ends
-abbrev pub end_behind : Mark → ℕ → ℕ
-end_behind m k = m.sample + 24576 * (k + 1)
+abbrev pub end_after : Mark → ℕ → ℕ
+end_after m k = m.sample + 24576 * (k + 1)
 
 module _ (t : Tuning) (channel : ℕ) (m : Mark) (alone : t.deltas ≡ one_path) where
   pub paging_alone : IsAlone (paging_stream t channel m)
@@ -107,18 +107,18 @@ module _ (t : Tuning) (channel : ℕ) (m : Mark) (alone : t.deltas ≡ one_path)
   pub paging_timed : IsTimed t.count (paging_stream t channel m) 0
   paging_timed = timed_alone t.count (paging_stream t channel m) paging_alone
 
-  pub paging_file_from : (k : ℕ) → end_behind m k ≤ t.count →
+  pub paging_file_from : (k : ℕ) → end_after m k ≤ t.count →
       is_in_file t.count (paging_stream t channel m) k ≡ true
   paging_file_from k h =
       inside_alone t.count (paging_stream t channel m) k paging_alone (omega (arith, h))
 
   pub paging_file_to : (k : ℕ) → is_in_file t.count (paging_stream t channel m) k ≡ true →
-      end_behind m k ≤ t.count
+      end_after m k ≤ t.count
   paging_file_to k h =
       omega (arith, room_alone t.count (paging_stream t channel m) k paging_alone h)
 
   pub paging_known_is : (k : ℕ) →
-      known_at t.count (paging_stream t channel m) k ≡ heard_behind 24576 t.count (end_behind m k)
+      known_at t.count (paging_stream t channel m) k ≡ heard_after 24576 t.count (end_after m k)
   paging_known_is k =
       known_alone t.count (paging_stream t channel m) k paging_alone refl ∙
-      ap (heard_behind 24576 t.count) (omega arith)
+      ap (heard_after 24576 t.count) (omega arith)

@@ -5,8 +5,8 @@ use Rattle.clean_link.proofs.Common.{flat_map, All-contains, All-map, places, Sa
 use Rattle.clean_link.proofs.Common.{cycled_frame, CellPlan, PagingPlan, TrafficPlan, SetOneFrame, events, events_at, frame_events_at}
 use Rattle.clean_link.proofs.Common.{heard_within, message_events_at, paging_events_at, mark, frames_at, messages_at, is_in_file}
 use Rattle.clean_link.proofs.Common.{sync_events_at, power_bits_at, decoded_at, frame_event, frame_heard, Tuning, Event, Pilot, Leg, Mark}
-use Rattle.clean_link.proofs.Common.{Traffic, IsNotDirected, IsOnPath, is_frame, is_message, is_page, is_sync, AreFramesBehind}
-use Rattle.clean_link.proofs.Common.{AreMessagesBehind, EachChannelComesBack, FollowsOne, IsEventOf, frame_ends, is_received}
+use Rattle.clean_link.proofs.Common.{Traffic, IsNotDirected, IsOnPath, is_frame, is_message, is_page, is_sync, AreFramesAfter}
+use Rattle.clean_link.proofs.Common.{AreMessagesAfter, EachChannelComesBack, FollowsOne, IsEventOf, frame_ends, is_received}
 use Rattle.clean_link.proofs.Common.{received_frames, AreDistinct, IsDistinctFrame, SendsSetOne, messages_of_channel, paging_sent}
 use Rattle.clean_link.proofs.Common.{told_with_sync, HearsSentTraffic, IsHeardAs, ◌++◌, All-weaker, ◌≢◌, All-append, All-cons, All-nil}
 use Rattle.clean_link.proofs.Common.{All-same, sets_events_at, messages_sent, FollowsSent, NoEventIsDirected, signaling_sent}
@@ -20,7 +20,7 @@ use Rattle.clean_link.proofs.messages.Kinds.{frames_of_all, messages_of_all, pag
 use Rattle.clean_link.proofs.messages.Kinds.{sets_kind, sync_kind}
 use Rattle.clean_link.proofs.messages.MessagesBack.{PagesShown, clean_pages, pages_shown, signed_pages_shown}
 use Rattle.clean_link.proofs.sendings.Heard.{sendings_in}
-use Rattle.clean_link.proofs.traffic.Back.{each_behind, mark_told, none_followed, one_near, undirected, told_there}
+use Rattle.clean_link.proofs.traffic.Back.{each_after, mark_told, none_followed, one_near, undirected, told_there}
 use Rattle.clean_link.proofs.traffic.Frames.{each_heard, frame_there, heard_as, heard_there, inside_at, same_places, messages_heard}
 use Rattle.clean_link.proofs.traffic.Frames.{signed_frame_back, signed_none_directed, signed_traffic}
 use Rattle.heard_events.specs.declared.event.Event.TheVariants.{Traffic as OnTraffic}
@@ -85,11 +85,11 @@ module _ {width : Width} {plan : CellPlan} {t : Tuning} (all_samples : List Samp
     (not_directed : All IsNotDirected (events t all_samples))
     (p : TrafficPlan) (f : FollowsOne plan t.traffic p) where
   -- its frames
-  frames_behind : (m : Mark) (superframes : ℕ) → mark t all_samples t.count ≡ Some m → at ≡ Some superframes →
+  frames_after : (m : Mark) (superframes : ℕ) → mark t all_samples t.count ≡ Some m → at ≡ Some superframes →
       HearsSentTraffic width plan p t f.traffic m superframes →
       AreEventsBySigns plan p all_samples superframes
       (flat_map (frames_at t f.traffic m all_samples) (places (plan.link.samples + 1)))
-  frames_behind m superframes set told hears =
+  frames_after m superframes set told hears =
       let place = hears.marked.place in
       record {
         event = event hears all_samples;
@@ -106,18 +106,18 @@ module _ {width : Width} {plan : CellPlan} {t : Tuning} (all_samples : List Samp
       (flat_map (frame_events_at t all_samples) (places (plan.link.samples + 1)))
   unfolding frame_events_at
   frames_each =
-      each_behind all_samples is tuned marked f (AreFramesBySigns plan p all_samples)
+      each_after all_samples is tuned marked f (AreFramesBySigns plan p all_samples)
       (λ n traffic m. frames_at t traffic m all_samples n)
-      (frames_from_mark t (one_near t plan tuned) t.traffic all_samples) (λ es none. none) frames_behind
+      (frames_from_mark t (one_near t plan tuned) t.traffic all_samples) (λ es none. none) frames_after
 
   -- and its messages
-  messages_behind : FromMark (TrafficFrameHasSigns plan p all_samples) at → (m : Mark)
+  messages_after : FromMark (TrafficFrameHasSigns plan p all_samples) at → (m : Mark)
       (superframes : ℕ) → mark t all_samples t.count ≡ Some m → at ≡ Some superframes →
       HearsSentTraffic width plan p t f.traffic m superframes →
       AreDistinct plan p (98304 * superframes) →
       flat_map (messages_at t f.traffic m all_samples) (places (plan.link.samples + 1))
       ≡ messages_of_channel plan p (98304 * superframes)
-  messages_behind signs m superframes set told hears distinct =
+  messages_after signs m superframes set told hears distinct =
       let place = hears.marked.place in
       messages_heard hears f.one
       (subst (AreDistinct plan p) (sym place) distinct) (first_legs f.traffic m)
@@ -127,14 +127,14 @@ module _ {width : Width} {plan : CellPlan} {t : Tuning} (all_samples : List Samp
       ∙ ap (messages_of_channel plan p) place
 
   pub messages_each : FromMark (TrafficFrameHasSigns plan p all_samples) at →
-      AreMessagesBehind plan p at
+      AreMessagesAfter plan p at
       (flat_map (message_events_at t all_samples) (places (plan.link.samples + 1)))
   unfolding message_events_at
   messages_each signs =
-      each_behind all_samples is tuned marked f (AreMessagesBehind plan p)
+      each_after all_samples is tuned marked f (AreMessagesAfter plan p)
       (λ n traffic m. messages_at t traffic m all_samples n)
       (messages_from_mark t (one_near t plan tuned) t.traffic all_samples) (λ es none. none)
-      (messages_behind signs)
+      (messages_after signs)
 
 -- ---- all channels
 
@@ -190,7 +190,7 @@ module _ {width : Width} {plan : CellPlan} {t : Tuning} (samples : List Sample) 
         (frames_of_all t samples (places (plan.link.samples + 1)))))
         (frames_each samples at is tuned long marked not_directed p follows);
     messages = λ p follows signs.
-        subst (AreMessagesBehind plan p at)
+        subst (AreMessagesAfter plan p at)
         (sym (gathered plan t samples long is_message (message_events_at t samples) refl
         (messages_of_all t samples (places (plan.link.samples + 1)))))
         (messages_each samples at is tuned long marked not_directed p follows signs);
@@ -209,11 +209,11 @@ channels_by_signs width plan samples t at is long tuned marked =
     (subst (λ (n : ℕ). MarkIsAt plan (mark t samples n) at) (sym tuned.count) marked)
 
 -- what is heard where each frame of a traffic channel has the sent signs
-pub frames_behind_all : (plan : CellPlan) (p : TrafficPlan) (samples : List Sample) (at : Option ℕ)
+pub frames_after_all : (plan : CellPlan) (p : TrafficPlan) (samples : List Sample) (at : Option ℕ)
     (frames : List Event) → ((frame : ℕ) → TrafficFrameHasSigns plan p samples frame) →
-    AreFramesBySigns plan p samples at frames → AreFramesBehind plan p at frames
-frames_behind_all plan p samples None frames signs none = none
-frames_behind_all plan p samples (Some superframes) frames signs are = record {
+    AreFramesBySigns plan p samples at frames → AreFramesAfter plan p at frames
+frames_after_all plan p samples None frames signs none = none
+frames_after_all plan p samples (Some superframes) frames signs are = record {
   event = are.event;
   each = are.each;
   are = λ frame received. are.are frame received (signs frame);
@@ -244,7 +244,7 @@ each_channel width plan t is tuned least most not_directed =
           free (free_where_sent plan.traffic plan.paging t.paging is.lawful.traffic.free sent);
       free = free;
       frames = λ p follows.
-          frames_behind_all plan p samples _ _ (clean_sent is p follows.sent) (hears.frames p follows);
+          frames_after_all plan p samples _ _ (clean_sent is p follows.sent) (hears.frames p follows);
       messages = λ p follows.
           hears.messages p follows
           (λ superframes k told. clean_sent is p follows.sent (4 * superframes + k));
@@ -276,7 +276,7 @@ module _ {width : Width} {plan : CellPlan} {t : Tuning} (samples : List Sample)
       All-same IsNotDirected _ []
       (none_followed t samples (λ n traffic m. messages_at t traffic m samples n) _ chosen) (All-nil IsNotDirected)
   messages_none (Some traffic) chosen (p, follows) none =
-      each_behind samples is.receivable tuned (mark_told (shows_sync is) tuned (mark t samples t.count) refl)
+      each_after samples is.receivable tuned (mark_told (shows_sync is) tuned (mark t samples t.count) refl)
       (record {
         traffic = traffic;
         follows = chosen;

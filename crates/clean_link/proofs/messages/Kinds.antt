@@ -4,7 +4,7 @@ use Rattle.clean_link.proofs.Common.{None, Some, nat_eq, if◌then◌else◌, Al
 use Rattle.clean_link.proofs.Common.{All-tail, filter-append, Plain, Sample, Standing, SetChange, events_at, frame_events_at}
 use Rattle.clean_link.proofs.Common.{message_events_at, paging_events_at, sets_events_at, mark, changed, frames_at, heard_from, kept_to}
 use Rattle.clean_link.proofs.Common.{legs_at, messages_at, moment_events, moment_place, moments_before, passed, sets_at, page_event}
-use Rattle.clean_link.proofs.Common.{pages_behind, signaling_message_at, message_events, message_heard, messages_by, signal_in, known_now}
+use Rattle.clean_link.proofs.Common.{pages_if_marked, signaling_message_at, message_events, message_heard, messages_by, signal_in, known_now}
 use Rattle.clean_link.proofs.Common.{events_of, heard_at, sync_events_at, with_message, frame_heard, frames_by, if_followed, frames_now}
 use Rattle.clean_link.proofs.Common.{Tuning, sync_bound, sync_stream, all_each, Event, Leg, Mark, Traffic, is_frame, is_message, is_page}
 use Rattle.clean_link.proofs.Common.{is_sync, type_within}
@@ -48,15 +48,15 @@ pub paging_kind : (t : Tuning) (samples : List Sample) (n : ℕ) →
     All (IsKind 2) (paging_events_at t samples n)
 unfolding paging_events_at
 paging_kind t samples n =
-    All-map (IsKind 2) (page_event n) (pages_behind t t.paging (mark t samples n) samples n)
+    All-map (IsKind 2) (page_event n) (pages_if_marked t t.paging (mark t samples n) samples n)
     (λ k d below. refl)
 
-behind_kind : (kind : ℕ) (heard : Traffic → Mark → List Event) (followed : Option Traffic)
+after_kind : (kind : ℕ) (heard : Traffic → Mark → List Event) (followed : Option Traffic)
     (m : Option Mark) → ((traffic : Traffic) (m' : Mark) → All (IsKind kind) (heard traffic m')) →
     All (IsKind kind) (if_followed heard followed m)
-behind_kind kind heard None m each = All-nil (IsKind kind)
-behind_kind kind heard (Some traffic) None each = All-nil (IsKind kind)
-behind_kind kind heard (Some traffic) (Some m) each = each traffic m
+after_kind kind heard None m each = All-nil (IsKind kind)
+after_kind kind heard (Some traffic) None each = All-nil (IsKind kind)
+after_kind kind heard (Some traffic) (Some m) each = each traffic m
 
 frames_kind : (t : Tuning) (traffic : Traffic) (m : Mark) (legs : ℕ → List Leg)
     (samples : List Sample) (n : ℕ) → All (IsKind 3) (frames_by t traffic m legs samples n)
@@ -69,7 +69,7 @@ pub frame_kind : (t : Tuning) (samples : List Sample) (n : ℕ) →
     All (IsKind 3) (frame_events_at t samples n)
 unfolding frame_events_at
 frame_kind t samples n =
-    behind_kind 3 (λ traffic m. frames_at t traffic m samples n) t.traffic (mark t samples n)
+    after_kind 3 (λ traffic m. frames_at t traffic m samples n) t.traffic (mark t samples n)
     (λ traffic m. frames_kind t traffic m (legs_at t traffic m samples n) (take n samples) n)
 
 signal_kind : (n : ℕ) (heard : Option ReadSignal) → All (IsKind 4) (message_events n heard)
@@ -87,7 +87,7 @@ message_kind : (t : Tuning) (samples : List Sample) (n : ℕ) →
     All (IsKind 4) (message_events_at t samples n)
 unfolding message_events_at
 message_kind t samples n =
-    behind_kind 4 (λ traffic m. messages_at t traffic m samples n) t.traffic (mark t samples n)
+    after_kind 4 (λ traffic m. messages_at t traffic m samples n) t.traffic (mark t samples n)
     (λ traffic m. messages_kind t traffic m (legs_at t traffic m samples n) (take n samples) n)
 
 either_kind : (b : Bool) (es : List Event) → All (IsKind 5) es →
@@ -117,7 +117,7 @@ pub sets_kind : (t : Tuning) (samples : List Sample) (n : ℕ) →
     All (IsKind 5) (sets_events_at t samples n)
 unfolding sets_events_at
 sets_kind t samples n =
-    behind_kind 5 (λ traffic m. sets_at t traffic m samples n) t.traffic (mark t samples n)
+    after_kind 5 (λ traffic m. sets_at t traffic m samples n) t.traffic (mark t samples n)
     (λ traffic m. moment_kind t traffic m samples n)
 
 -- ---- those of one kind

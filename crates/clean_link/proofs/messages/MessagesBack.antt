@@ -5,10 +5,10 @@ use Rattle.clean_link.proofs.Common.{◌≡◌, ℕ, ◌+◌, Bool, true, false,
 use Rattle.clean_link.proofs.Common.{nat_lt, Option, None, Some, ℤ, pos, if◌then◌else◌, flat_map, cases_Bool, ltb-true, map-append, places}
 use Rattle.clean_link.proofs.Common.{CheckForm, Sample, Width, made_samples, phase_at, CellPlan, SyncPlan, events, events_at}
 use Rattle.clean_link.proofs.Common.{frame_events_at, heard_within, message_events_at, paging_events_at, sets_events_at, mark, page_event}
-use Rattle.clean_link.proofs.Common.{pages_at, pages_behind, sync_events_at, Tuning, Event, Pilot, Mark, AreAt, IsAt, all_at, by_one_mark}
+use Rattle.clean_link.proofs.Common.{pages_at, pages_if_marked, sync_events_at, Tuning, Event, Pilot, Mark, AreAt, IsAt, all_at, by_one_mark}
 use Rattle.clean_link.proofs.Common.{pages_from_mark, flat_map_ext_places, IsOnPath, IsTunedToPlan, sync_sent, tuning_to, IsReceivable}
 use Rattle.clean_link.proofs.Common.{ReadPage, known_page, pages_sent, pages_within, WholeMessagesComeBack, known_event, paging_sent}
-use Rattle.clean_link.proofs.Common.{pages_behind_mark, AllComesBackBySigns, FromMark, IsCellMark, MarkIsAt, PagingFrameHasSigns}
+use Rattle.clean_link.proofs.Common.{pages_after_mark, AllComesBackBySigns, FromMark, IsCellMark, MarkIsAt, PagingFrameHasSigns}
 use Rattle.clean_link.proofs.Common.{pages_after, sent_events, by_places, sets_heard, signaling_sent, subst, frames_at, messages_at}
 use Rattle.clean_link.proofs.Common.{sets_at, traffic_sent, ◌<◌, Contains, PagingPlan, zero, suc, ◌≤◌, filter, range_with_len, cases_order}
 use Rattle.clean_link.proofs.Common.{eq-eqb, ne_eqb, append-nil, filter-append, at_of, All-head, All-tail, is_at}
@@ -110,11 +110,11 @@ after_is : (plan : CellPlan) (channel : ℕ) (sync : SyncPlan) (at : Option ℕ)
     (rated : Bool) → plan.sync ≡ Some sync → at ≡ Some superframes →
     nat_lt sync.message.prat 2 ≡ rated →
     pages_after plan channel at plan.sync
-    ≡ (if rated then pages_behind_mark plan channel (Some superframes) else [])
+    ≡ (if rated then pages_after_mark plan channel (Some superframes) else [])
 after_is plan channel sync at superframes rated sends told rated_is =
     ap (pages_after plan channel at) sends
     ∙ ap (λ (o : Option ℕ). pages_after plan channel o (Some sync)) told
-    ∙ ap (λ (b : Bool). if b then pages_behind_mark plan channel (Some superframes) else []) rated_is
+    ∙ ap (λ (b : Bool). if b then pages_after_mark plan channel (Some superframes) else []) rated_is
 
 none_after : (plan : CellPlan) (channel : ℕ) (at : Option ℕ) (sync : Option SyncPlan) → at ≡ None →
     pages_after plan channel at sync ≡ []
@@ -146,14 +146,14 @@ module _ {plan : CellPlan} {t : Tuning} (samples : List Sample) {at : Option ℕ
       let last = mark t samples t.count in
       let count = tuned.count in
       flat_map_ext_places
-      (λ n. map (page_event n) (pages_behind t t.paging (mark t samples n) samples n))
-      (λ n. map (page_event n) (pages_behind t t.paging last samples n)) (plan.link.samples + 1)
+      (λ n. map (page_event n) (pages_if_marked t t.paging (mark t samples n) samples n))
+      (λ n. map (page_event n) (pages_if_marked t t.paging last samples n)) (plan.link.samples + 1)
       (λ n below.
       ap (map (page_event n))
       (by_one_mark t (one_near t plan tuned) samples n t.count n _
       (omega (arith, below, count)) (omega arith)
       (pages_from_mark t (one_near t plan tuned) t.paging samples n)))
-      ∙ gathered_known (λ n. pages_behind t t.paging last samples n)
+      ∙ gathered_known (λ n. pages_if_marked t t.paging last samples n)
       (places (plan.link.samples + 1))
 
   pages_by : (last : Option Mark) → MarkIsAt plan last at →

@@ -6,14 +6,14 @@ use Rattle.clean_link.proofs.Common.{eqb-false, false_from_ne_true, All-cons, Al
 use Rattle.clean_link.proofs.Common.{All-tail, All-weaker, places, CheckForm, capsule, M30, Rate, half_frame_body, rate_large}
 use Rattle.clean_link.proofs.Common.{cycle_frame_bits, sent_paging_rate, made_samples, IsStatedPaging, cycle_of, CellPlan, PagingPlan}
 use Rattle.clean_link.proofs.Common.{page_in, frame_own_bits, is_in_file, known_at, IsTimed, Tuning, Mark, flat_map_ext_places}
-use Rattle.clean_link.proofs.Common.{heard_behind, IsOnPath, end_chip, known_page, KnownPage, message_in, page_told, pages_numbered}
+use Rattle.clean_link.proofs.Common.{heard_after, IsOnPath, end_chip, known_page, KnownPage, message_in, page_told, pages_numbered}
 use Rattle.clean_link.proofs.Common.{pages_of_channel, pages_sent, pages_within, PagesComeBack, placed_pages, ReadPage, round_sent}
 use Rattle.clean_link.proofs.Common.{AreWholePages, capsules_with_frames, cycle_half_frames, is_whole_page, Placed, sending_of, Sample}
 use Rattle.clean_link.proofs.Common.{◌++◌, nat_le, if◌then◌else◌, mul-div-le, and_parts, leb-true, le-div, length-capsule, HasMessage}
-use Rattle.clean_link.proofs.Common.{laid_behind, AreHeard, Page, placed, None, paging_capsule, body_reading, is_body, paging_reading}
+use Rattle.clean_link.proofs.Common.{laid_after, AreHeard, Page, placed, None, paging_capsule, body_reading, is_body, paging_reading}
 use Rattle.clean_link.proofs.Common.{PagingMessage, reads_body, reads_capsule, as_spelled_page, take, range_with_len, lt-ltb, append-nil}
 use Rattle.clean_link.proofs.Common.{map-append, flat_map-map, flat_map-append, half_frame_capsule_ending, bits_up_to, page_at, pages_at}
-use Rattle.clean_link.proofs.Common.{pages_behind, pages_from, paging_bound, paging_stream, known_now, flat_map_ext_filter_places}
+use Rattle.clean_link.proofs.Common.{pages_if_marked, pages_from, paging_bound, paging_stream, known_now, flat_map_ext_filter_places}
 use Rattle.clean_link.proofs.Common.{frame_capsules, [], IsCellMark}
 use Rattle.clean_frames.proofs.pages.Scans.{zero_frames_end_none}
 use Rattle.clean_frames.proofs.pages.CyclesBack.{stated_pages, whole_pages_back}
@@ -170,7 +170,7 @@ module _ (t : Tuning) (channel : ℕ) (m : Mark) (samples : List Sample) (own : 
       let s = paging_stream t channel m in
       let f : ℕ → ℕ → List KnownPage =
       λ n k. map (known_page n) (pages_from t channel m samples k 0) in
-      flat_map_ext_places (λ n. map (known_page n) (pages_behind t channel (Some m) samples n))
+      flat_map_ext_places (λ n. map (known_page n) (pages_if_marked t channel (Some m) samples n))
       (λ n. flat_map (f n) (known_now t.count s n (paging_bound n))) (t.count + 1)
       (λ n below. (let heard = lt-ltb m.prat 2 few in rw heard refl) ∙ pages_are n)
       ∙ given_in_order s timed paging_bound bound_enough f
@@ -240,7 +240,7 @@ pages_placed size form from run count (page ∷ pages) large begun heard =
       message = heard.0;
     })
     (pages_placed size form ends began
-    (laid_behind size count page.follows (38 + length page.body)) pages large
+    (laid_after size count page.follows (38 + length page.body)) pages large
     (omega (arith, before)) heard.2)
 
 -- ---- what is told of the whole ones
@@ -278,8 +278,8 @@ told_each {A} {B} {C} P tells send tell kept (x ∷ xs) all one =
 -- ---- a handset with a mark
 
 -- how many frames after the mark lie in the file
-abbrev pub frames_behind : CellPlan → ℕ → ℕ
-frames_behind plan superframes = end_chip plan / 24576 - 4 * superframes
+abbrev pub frames_after : CellPlan → ℕ → ℕ
+frames_after plan superframes = end_chip plan / 24576 - 4 * superframes
 
 module _ {plan : CellPlan} {t : Tuning} (channel : ℕ) {m : Mark} {superframes : ℕ} (tuned : IsOnPath plan t)
     (cell : IsCellMark plan m superframes) (low : m.prat < 2) where
@@ -293,7 +293,7 @@ module _ {plan : CellPlan} {t : Tuning} (channel : ℕ) {m : Mark} {superframes 
 
   -- which frames of the channel are in the file
   has_frames : HasFrames t.count (streams.paging_stream t channel m)
-      (frames_behind plan superframes)
+      (frames_after plan superframes)
   has_frames = record {
     inside = λ k below. paging_file_from t channel m tuned.alone k (omega (arith, below, at_frame, tuned.count));
     outside = λ k past.
@@ -310,13 +310,13 @@ module _ {plan : CellPlan} {t : Tuning} (channel : ℕ) {m : Mark} {superframes 
       pages_within t channel (Some m) samples plan.link.samples ≡
       flat_map (told_of t channel m)
       (capsules_with_frames (half_frame_body (sent_paging_rate plan.sync)) own
-      (frames_behind plan superframes))
+      (frames_after plan superframes))
   by_capsules samples own bits =
       ap (pages_within t channel (Some m) samples) (sym tuned.count)
-      ∙ pages_by_capsules t channel m samples own (frames_behind plan superframes)
+      ∙ pages_by_capsules t channel m samples own (frames_after plan superframes)
       has_frames bits (paging_timed t channel m tuned.alone) low
       ∙ ap (λ (rate : Rate). flat_map (told_of t channel m)
-      (capsules_with_frames (half_frame_body rate) own (frames_behind plan superframes))) same_rate
+      (capsules_with_frames (half_frame_body rate) own (frames_after plan superframes))) same_rate
 
   -- what a handset tells of a whole page
   page_tells : (h : ℕ) (p : Placed) → IsPlaced p →
@@ -328,10 +328,10 @@ module _ {plan : CellPlan} {t : Tuning} (channel : ℕ) {m : Mark} {superframes 
       let c = capsule M30 plan.cell.check30 p.page.body in
       let known : ℕ = known_at t.count (streams.paging_stream t channel m) k in
       let when : known ≡
-      heard_behind 24576 plan.link.samples (24576 * ((h + p.last) / 2 + 1) - plan.link.start) =
+      heard_after 24576 plan.link.samples (24576 * ((h + p.last) / 2 + 1) - plan.link.start) =
       paging_known_is t channel m tuned.alone k
-      ∙ ap (λ (n : ℕ). heard_behind 24576 n (m.sample + 24576 * (k + 1))) tuned.count
-      ∙ ap (heard_behind 24576 plan.link.samples)
+      ∙ ap (λ (n : ℕ). heard_after 24576 n (m.sample + 24576 * (k + 1))) tuned.count
+      ∙ ap (heard_after 24576 plan.link.samples)
       (ends_so plan m.sample (4 * superframes) h p at_frame there.ordered whole) in
       ap (λ (form : CheckForm). map (known_page known) (option_to_list (page_in form (Some c))))
       tuned.checks_of_30
@@ -372,7 +372,7 @@ module _ {plan : CellPlan} {t : Tuning} (channel : ℕ) {m : Mark} {superframes 
       flat_map (told_of t channel m)
       (capsules_with_frames (half_frame_body (sent_paging_rate plan.sync))
       (λ k. cycle_frame_bits (cycle_of plan p) (4 * superframes + k))
-      (frames_behind plan superframes))
+      (frames_after plan superframes))
       ≡ pages_of_channel plan p (plan.link.start + m.sample)
   channel_tells p whole =
       let first = 4 * superframes in
@@ -452,7 +452,7 @@ pages_back width plan sync t channel m superframes receivable stated tuned first
     (λ k there. silent_paging_back width plan t m superframes channel k receivable first last others free
     tuned marked there)
     ∙ ap (flat_map (told_of t channel m))
-    (zero_frames_end_none size (λ k. replicate bits false) bits (frames_behind plan superframes)
+    (zero_frames_end_none size (λ k. replicate bits false) bits (frames_after plan superframes)
     (λ k below. refl)))
 
 -- ---- the channel's pages by its number

@@ -10,7 +10,7 @@ use Rattle.clean_link.proofs.Common.{heard_in, heard_at, with_message, Tuning, s
 use Rattle.clean_link.proofs.Common.{first_sync_frame, ShowsSync, ◌-◌, ◌/◌, and_parts, and_from, and_right, lt-ltb, le-leb, lt-leb}
 use Rattle.clean_link.proofs.Common.{leb-true, ltb-true, superframes_some, is_whole, sending_begins, sending_ends, ◌≢◌, ⊎_elim, cond, ◌∷◌}
 use Rattle.clean_link.proofs.Common.{sym, Option, flat_map, cases_Bool, false_from_ne_true, events_of, sync_events_at, sync_bound, Event}
-use Rattle.clean_link.proofs.Common.{flat_map_ext_filter, WholeSendingsComeBack, events_of_channel, heard_behind, sending_event, sync_sent}
+use Rattle.clean_link.proofs.Common.{flat_map_ext_filter, WholeSendingsComeBack, events_of_channel, heard_after, sending_event, sync_sent}
 use Rattle.clean_link.proofs.Common.{whole_sendings}
 use Rattle.sync_message.proofs.Readings.{reads_capsule}
 use Rattle.paging_message.proofs.Pieces.{run, run-places, none_starts}
@@ -417,9 +417,9 @@ module _ {width : Width} {plan : CellPlan} {samples : List Sample} {t : Tuning}
       let ends : end_of_frame t k ≡ sending_ends plan m q - plan.link.start =
       omega (arith, ends_where width plan m t k q is.receivable.lawful tuned inside.last) in
       let when : known t k ≡
-      heard_behind 32768 plan.link.samples (sending_ends plan m q - plan.link.start) =
-      known_is t k tuned.alone ∙ ap (λ n. heard_behind 32768 n (end_of_frame t k)) tuned.count ∙
-      ap (heard_behind 32768 plan.link.samples) ends in
+      heard_after 32768 plan.link.samples (sending_ends plan m q - plan.link.start) =
+      known_is t k tuned.alone ∙ ap (λ n. heard_after 32768 n (end_of_frame t k)) tuned.count ∙
+      ap (heard_after 32768 plan.link.samples) ends in
       ap (events_of (known t k)) heard
       ∙ ap (λ (n : ℕ). let e : Event = Sync n
       (sync_capsule plan.cell.check30 (message_of plan.cell m q))

@@ -7,8 +7,8 @@ use Rattle.clean_link.proofs.Common.{frame_events_at, message_events_at, mark, A
 use Rattle.clean_link.proofs.Common.{sync_stream, Event, Mark, Traffic, by_one_mark, flat_map_ext_places, IsNotDirected, IsOnPath}
 use Rattle.clean_link.proofs.Common.{IsReceivable, frames_of_channel, frames_sent, told_on_row, AreDistinct, messages_of_channel}
 use Rattle.clean_link.proofs.Common.{messages_sent, signaling_sent, told_by_first, told_followed, told_with_sync, MarkIsAt, traffic_sent}
-use Rattle.clean_link.proofs.Common.{FollowsSent, HearsSentTraffic, IsUndirected, Sample, ShowsSync, FollowsOne, OpensBehind}
-use Rattle.clean_link.proofs.traffic.Steady.{frames_from_mark, messages_from_mark, undirected_behind}
+use Rattle.clean_link.proofs.Common.{FollowsSent, HearsSentTraffic, IsUndirected, Sample, ShowsSync, FollowsOne, OpensAfter}
+use Rattle.clean_link.proofs.traffic.Steady.{frames_from_mark, messages_from_mark, undirected_after}
 use Rattle.clean_link.proofs.marks.MarksTrue.{first_in, unset_in, marks_in, message_tells, rate_in, unmarked_in}
 use Rattle.clean_link.proofs.frames.ChannelFrames.{clean_sync}
 use Rattle.clean_link.proofs.traffic.Frames.{sent_frames_back, sent_messages_back}
@@ -47,20 +47,20 @@ on_row width plan p row told is has on =
 -- ---- after the mark
 
 -- what the channel on a row tells after a local chip
-abbrev told_behind : CellPlan → (TrafficPlan → ℕ → List Event) → ℕ → ℕ → List Event
-told_behind plan told row chip = told_on_row (λ (p : TrafficPlan). told p chip) plan.traffic row
+abbrev told_after : CellPlan → (TrafficPlan → ℕ → List Event) → ℕ → ℕ → List Event
+told_after plan told row chip = told_on_row (λ (p : TrafficPlan). told p chip) plan.traffic row
 
 -- what is told of a channel that is heard after a mark is told of the one on its row
 pub told_there : {width : Width} {plan : CellPlan} {p : TrafficPlan} {t : Tuning} {traffic : Traffic} {m : Mark}
     {superframes : ℕ} (told : TrafficPlan → ℕ → List Event) (at : Option ℕ) → at ≡ Some superframes →
     HearsSentTraffic width plan p t traffic m superframes →
-    told p (plan.link.start + m.sample) ≡ told_followed (told_behind plan told) (Some traffic) at
+    told p (plan.link.start + m.sample) ≡ told_followed (told_after plan told) (Some traffic) at
 told_there {width} {plan} {p} {traffic = traffic} {superframes = superframes} told at is hears =
     ap (told p) hears.marked.place
     ∙ sym
     (on_row width plan p traffic.row (λ (q : TrafficPlan). told q (98304 * superframes)) hears.receivable hears.sent
     hears.assigned.row)
-    ∙ sym (ap (told_followed (told_behind plan told) (Some traffic)) is)
+    ∙ sym (ap (told_followed (told_after plan told) (Some traffic)) is)
 
 module _ {width : Width} {plan : CellPlan} {t : Tuning} {samples : List Sample}
     (is : ShowsSync width plan samples) (tuned : IsOnPath plan t) where
@@ -107,17 +107,17 @@ module _ {width : Width} {plan : CellPlan} {t : Tuning} {samples : List Sample}
 
 -- What is heard of a channel that is followed comes back where the mark of all samples tells it: nothing
 -- where none is set, and else what is true of what is heard after that mark.
-pub each_behind : {width : Width} {plan : CellPlan} {t : Tuning} (samples : List Sample) {at : Option ℕ} →
+pub each_after : {width : Width} {plan : CellPlan} {t : Tuning} (samples : List Sample) {at : Option ℕ} →
     IsReceivable width plan → IsOnPath plan t → MarkIsAt plan (mark t samples t.count) at →
     {p : TrafficPlan} (f : FollowsOne plan t.traffic p) (Are : Option ℕ → List Event → Type 0)
     (heard : ℕ → Traffic → Mark → List Event) →
-    ((n : ℕ) → OpensBehind n (if_followed (heard n) t.traffic)) →
+    ((n : ℕ) → OpensAfter n (if_followed (heard n) t.traffic)) →
     ((es : List Event) → es ≡ [] → Are None es) →
     ((m : Mark) (superframes : ℕ) → mark t samples t.count ≡ Some m → at ≡ Some superframes →
     HearsSentTraffic width plan p t f.traffic m superframes →
     Are (Some superframes) (flat_map (λ n. heard n f.traffic m) (places (plan.link.samples + 1)))) →
     Are at (flat_map (λ n. if_followed (heard n) t.traffic (mark t samples n)) (places (plan.link.samples + 1)))
-each_behind {plan = plan} {t} samples {at} is tuned marked {p} f Are heard opens none behind =
+each_after {plan = plan} {t} samples {at} is tuned marked {p} f Are heard opens none following =
     let all = places (plan.link.samples + 1) in
     let count = tuned.count in
     let last = mark t samples t.count in
@@ -140,7 +140,7 @@ each_behind {plan = plan} {t} samples {at} is tuned marked {p} f Are heard opens
     by_mark (Some m) set (superframes, told, cell) =
         subst (λ (o : Option ℕ). Are o
         (flat_map (λ n. heard n f.traffic m) (places (plan.link.samples + 1)))) (sym told)
-        (behind m superframes set told
+        (following m superframes set told
         (record { receivable = is; sent = f.sent; assigned = f.assigned; tuned = tuned; marked = cell.marked }))
 
 -- where no channel is followed, nothing is heard of one
@@ -161,7 +161,7 @@ undirected plan t samples tuned long not_directed traffic m followed set =
     let last : mark t samples (length samples) ≡ Some m =
     ap (mark t samples) (long ∙ sym tuned.count) ∙ set in
     subst (IsUndirected t traffic m samples) long
-    (undirected_behind t (one_near t plan tuned) samples not_directed traffic m followed last)
+    (undirected_after t (one_near t plan tuned) samples not_directed traffic m followed last)
 
 module _ (width : Width) (plan : CellPlan) (t : Tuning) (is : IsReceivable width plan)
     (tuned : IsOnPath plan t)
@@ -172,18 +172,18 @@ module _ (width : Width) (plan : CellPlan) (t : Tuning) (is : IsReceivable width
   -- what each channel with distinct frames gives back, the one that is followed does
   followed_back : (heard : Tuning → Traffic → Mark → List Sample → ℕ → List Event)
       (told : CellPlan → TrafficPlan → ℕ → List Event) →
-      ((n : ℕ) → OpensBehind n (if_followed (λ traffic m. heard t traffic m samples n) t.traffic)) →
+      ((n : ℕ) → OpensAfter n (if_followed (λ traffic m. heard t traffic m samples n) t.traffic)) →
       HoldsOfDistinct (λ plan p t traffic m samples. IsUndirected t traffic m samples plan.link.samples →
       flat_map (heard t traffic m samples) (places (plan.link.samples + 1)) ≡
       told plan p (plan.link.start + m.sample)) → (followed : Option Traffic) → t.traffic ≡ followed →
       FollowsSent plan followed →
       flat_map (λ n. if_followed (λ traffic m. heard t traffic m samples n) t.traffic (mark t samples n))
       (places (plan.link.samples + 1))
-      ≡ told_followed (told_behind plan (told plan)) followed (told_with_sync plan plan.sync)
+      ≡ told_followed (told_after plan (told plan)) followed (told_with_sync plan plan.sync)
   followed_back heard told opens back None none follows =
       none_followed t samples (λ n traffic m. heard t traffic m samples n) (places (plan.link.samples + 1)) none
   followed_back heard told opens back (Some traffic) chosen (p, follows) =
-      each_behind samples is tuned (mark_told (clean_sync width plan is) tuned (mark t samples t.count) refl)
+      each_after samples is tuned (mark_told (clean_sync width plan is) tuned (mark t samples t.count) refl)
       (record {
         traffic = traffic;
         follows = chosen;
@@ -191,7 +191,7 @@ module _ (width : Width) (plan : CellPlan) (t : Tuning) (is : IsReceivable width
         assigned = follows.assigned;
         one = follows.one;
       })
-      (λ at es. es ≡ told_followed (told_behind plan (told plan)) (Some traffic) at)
+      (λ at es. es ≡ told_followed (told_after plan (told plan)) (Some traffic) at)
       (λ n traffic m. heard t traffic m samples n) opens (λ es none. none)
       (λ m superframes set at hears.
       back width plan p t traffic m superframes samples hears (length-made plan)

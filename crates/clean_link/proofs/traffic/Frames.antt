@@ -181,12 +181,12 @@ module _ {width : Width} {plan : CellPlan} {p : TrafficPlan} {t : Tuning} {traff
       ≡ flat_map (λ k. g (4 * superframes + k)) (filter inside (places bound))
   by_marks_numbers {X} g bound =
       let first = 4 * superframes in
-      let behind : ℕ → List X = λ k. g (first + k) in
+      let following : ℕ → List X = λ k. g (first + k) in
       flat_map-filter received g (places (first + bound))
-      ∙ moved_up (given_where inside behind) (given_where received g) first bound
+      ∙ moved_up (given_where inside following) (given_where received g) first bound
       (λ i low. ap (λ (b : Bool). cond b (g i) []) (early i low))
       (λ k. ap (λ (b : Bool). cond b (g (first + k)) []) (received_is k))
-      ∙ sym (flat_map-filter inside behind (places bound))
+      ∙ sym (flat_map-filter inside following (places bound))
 
   -- and what all of them give
   pub by_marks_frames : {X : Type 0} (g : ℕ → List X) →
@@ -312,11 +312,11 @@ module _ {width : Width} {plan : CellPlan} {p : TrafficPlan} {t : Tuning} {traff
             in_channel_order (frames_at t traffic m samples)
             (λ n k. frame_heard t traffic m legs samples n k ∷ []) (λ frame. told frame ∷ []) heard_at_once
             (λ k there.
-            let behind : k ≡ 4 * superframes + k - 4 * superframes = omega arith in
+            let following : k ≡ 4 * superframes + k - 4 * superframes = omega arith in
             ap (λ (n : ℕ). frame_heard t traffic m legs samples n k ∷ []) (known_is k)
             ∙ ap (λ (j : ℕ).
             frame_heard t traffic m legs samples (frame_ends plan p (4 * superframes + k)) j ∷ [])
-            behind)
+            following)
             ∙ sym (one_each told (received_frames plan p mark_chip))
 
         -- and where all of them are distinct, what was sent

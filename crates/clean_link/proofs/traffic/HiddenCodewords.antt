@@ -2,7 +2,7 @@
 use Rattle.clean_link.proofs.Common.{◌≡◌, ℕ, zero, suc, ◌+◌, ◌-◌, ◌*◌, ◌<◌, Bool, true, false, not, ◌&&◌, ◌||◌, List, [], ◌∷◌, ◌++◌, length}
 use Rattle.clean_link.proofs.Common.{get_or, drop, replicate, refl, sym, ap, ◌∙◌, arith, filter, if◌then◌else◌, list_all, list_any}
 use Rattle.clean_link.proofs.Common.{and_from, and_parts, drop_at, drop-drop, xor, add, length_add, g0, g1, state_after, symbol, before}
-use Rattle.clean_link.proofs.Common.{behind, length-state_after, pair, state_after-append, state_after-none, is_hidden, is_kept, is_seen}
+use Rattle.clean_link.proofs.Common.{following, length-state_after, pair, state_after-append, state_after-none, is_hidden, is_kept, is_seen}
 use Rattle.clean_link.proofs.Common.{stays_apart, ◌/◌, ⊎_elim, nat_eq, cases_Bool, eq-eqb, eqb-true, not-true, or_cases, or_left, or_right}
 use Rattle.clean_link.proofs.Common.{list_all_at, list_any-append, places, places-none, places-more, length-places, get_or-places}
 use Rattle.clean_link.proofs.Common.{get_or-sent_by, address, data_shape, place, sent, sent_by, address-place, place_lt, AgreeElsewhere}
@@ -71,9 +71,9 @@ replaced_lost repeated (q ∷ places) i out =
     (λ (here : nat_eq i q ≡ true).
     or_left (nat_eq k (repeated q)) (is_replaced (map repeated places) k)
     (eq-eqb k (repeated q) (ap repeated (eqb-true i q here))))
-    (λ (behind : is_replaced places i ≡ true).
+    (λ (following : is_replaced places i ≡ true).
     or_right (nat_eq k (repeated q)) (is_replaced (map repeated places) k)
-    (replaced_lost repeated places i behind))
+    (replaced_lost repeated places i following))
     (or_cases (nat_eq i q) (is_replaced places i) out)
 
 -- so the place of a kept one isn't replaced
@@ -229,7 +229,7 @@ module _ (P : ℕ → List Bool → Type 0) (j : ℕ) (eight : List Bool) (bit :
   pub pairs_next : HoldOfPairs P (j + 1) (state_after eight (bit ∷ [])) bits
   pairs_next i below =
       let place : j + (1 + i) ≡ j + 1 + i = omega arith in
-      subst (P (j + 1 + i)) (behind eight (bit ∷ []) bits i long)
+      subst (P (j + 1 + i)) (following eight (bit ∷ []) bits i long)
       (subst (λ (n : ℕ). P n (pair (eight ++ (bit ∷ bits)) (1 + i))) place
       (hold (1 + i) (omega (arith, below))))
 

@@ -7,8 +7,8 @@ use Rattle.clean_link.proofs.Common.{two_in_turn, frames_of, set_two, IsSetTwoFr
 use Rattle.clean_link.proofs.Common.{frames_within, soft_frame, soft_frames, raw_at, is_in_file, known_at, known_by, Stream, frames_bound}
 use Rattle.clean_link.proofs.Common.{replaced_in, Tuning, Mark, Traffic, PowerControl, SoftFrame, soft_strength, IsOnPath, IsReceivable}
 use Rattle.clean_link.proofs.Common.{is_received, received_frames, replaced_of, sent_bits, IsAssigned, SendsSetTwo, SendsSymbols, ShowFrame}
-use Rattle.clean_link.proofs.Common.{ShowPowerBits, cycled_frame2, codeword_symbols2, EachFrameIsReceived, FramesBehindMark}
-use Rattle.clean_link.proofs.Common.{FramesShowPowerBits, FramesShowSymbols, SetTwoBehindMark, HearsSentTraffic, SetTwoFramesComeBack}
+use Rattle.clean_link.proofs.Common.{ShowPowerBits, cycled_frame2, codeword_symbols2, EachFrameIsReceived, FramesAfterMark}
+use Rattle.clean_link.proofs.Common.{FramesShowPowerBits, FramesShowSymbols, SetTwoAfterMark, HearsSentTraffic, SetTwoFramesComeBack}
 use Rattle.clean_link.proofs.Common.{AreReceivedFrom, MarkIsAt, TrafficFrameHasSigns, HavePowerSigns, NoisyFrame, IsReceived, ◌<ℤ◌}
 use Rattle.clean_link.proofs.Common.{correlation, AgreeElsewhere, unreplaced, frame_softs, stream_of, HeardAreTheOnlyBest}
 use Rattle.clean_link.proofs.Common.{ReceivedAreTheOnlyBest, SetTwoAreTheOnlyBest, by_lt_z, KeepSigns, agree_left}
@@ -115,12 +115,12 @@ module _ {width : Width} {plan : CellPlan} {p : TrafficPlan} {t : Tuning} {traff
       let (here, there) = inside_at is frame received in
       let places = same_places is k in
       let ends = known_is is k in
-      let behind =
+      let following =
       each k here there (subst (λ (n : ℕ). SendsSymbols plan p n symbols power_bits) (sym here) sent) in
       subst (λ (n : ℕ). Is (replaced_of plan p n) (frame_ends plan p n) k) here
       (subst (λ (n : ℕ). Is (replaced_of plan p (4 * superframes + k)) n k) ends
       (subst (λ (replaced : List ℕ). Is replaced (known_at t.count stream k) k) (sym places)
-      behind))
+      following))
 
   module _ (samples : List Sample) where
     abbrev soft : ℕ → SoftFrame
@@ -146,17 +146,17 @@ module _ {width : Width} {plan : CellPlan} {p : TrafficPlan} {t : Tuning} {traff
         ≡ map (λ frame. soft (frame - 4 * superframes))
         (received_frames plan p (plan.link.start + m.sample))
     each_received long =
-        let behind : ℕ → SoftFrame = λ frame. soft (frame - 4 * superframes) in
+        let following : ℕ → SoftFrame = λ frame. soft (frame - 4 * superframes) in
         in_file long
         ∙ one_each soft (filter (is_in_file t.count stream) (places (frames_bound t.count)))
         ∙ flat_map_ext_filter_places (is_in_file t.count stream) (λ k. soft k ∷ [])
-        (λ k. behind (4 * superframes + k) ∷ []) (frames_bound t.count)
+        (λ k. following (4 * superframes + k) ∷ []) (frames_bound t.count)
         (λ k below there.
         let same : k ≡ 4 * superframes + k - 4 * superframes = omega arith in
         ap (λ (j : ℕ). soft j ∷ []) same)
         ∙ sym (by_marks_frames is
-        (λ frame. behind frame ∷ []))
-        ∙ sym (one_each behind (received_frames plan p (plan.link.start + m.sample)))
+        (λ frame. following frame ∷ []))
+        ∙ sym (one_each following (received_frames plan p (plan.link.start + m.sample)))
 
     -- The raw soft values of one with the sent signs have those of its power control bits, so these
     -- come back, whatever its descrambled soft values show.
@@ -256,12 +256,12 @@ module _ {width : Width} {plan : CellPlan} {p : TrafficPlan} {t : Tuning} {traff
     (long : length samples ≡ plan.link.samples) {at : Option ℕ} (m : Mark)
     (set : MarkIsAt plan (Some m) at) where
   -- What is so of each frame after a true mark is so of those after the mark that is set.
-  behind_mark : (Is : ℕ → SoftFrame → Type 0) →
+  after_mark : (Is : ℕ → SoftFrame → Type 0) →
       ((superframes : ℕ) → HearsSentTraffic width plan p t traffic m superframes → (frame : ℕ) →
       is_received plan p (plan.link.start + m.sample) frame ≡ true →
       Is frame (soft_frame t (traffic_channel traffic) m samples (frame - 4 * superframes))) →
       AreReceivedFrom plan p at Is (soft_frames t (traffic_channel traffic) m samples)
-  behind_mark Is each =
+  after_mark Is each =
       let (superframes, told, cell) = set in
       let hears : HearsSentTraffic width plan p t traffic m superframes = record {
         receivable = receivable;
@@ -299,16 +299,16 @@ frame2_there width plan p is sent some frame =
 
 -- ---- the laws
 
-pub frames_behind_mark : FramesBehindMark
-frames_behind_mark width plan p t traffic m at samples is long tuned sent assigned set =
-    behind_mark samples is tuned sent assigned long m set _
+pub frames_after_mark : FramesAfterMark
+frames_after_mark width plan p t traffic m at samples is long tuned sent assigned set =
+    after_mark samples is tuned sent assigned long m set _
     (λ superframes hears frame received has symbols power_bits sends.
     (signed_received width plan p t traffic m superframes frame samples symbols power_bits hears has received sends).0)
 
 -- One of rate set 2 comes back by what it sends.
-pub set_two_behind_mark : SetTwoBehindMark
-set_two_behind_mark width plan p t traffic m at samples is long tuned sent assigned set some =
-    let all = frames_behind_mark width plan p t traffic m at samples is long tuned sent assigned set in
+pub set_two_after_mark : SetTwoAfterMark
+set_two_after_mark width plan p t traffic m at samples is long tuned sent assigned set some =
+    let all = frames_after_mark width plan p t traffic m at samples is long tuned sent assigned set in
     record {
       superframes = all.superframes;
       told = all.told;

@@ -37,11 +37,11 @@ all_joined p f (x ∷ xs) =
 -- the last of nine bits
 ninth : (eight : List Bool) (bit : Bool) → length eight ≡ 8 → get_or (eight ++ bit ∷ []) 8 false ≡ bit
 ninth eight bit long =
-    ap (λ (n : ℕ). get_or (eight ++ bit ∷ []) n false) (sym long) ∙ behind_all eight bit
+    ap (λ (n : ℕ). get_or (eight ++ bit ∷ []) n false) (sym long) ∙ appended_bit eight bit
   where
-    behind_all : (xs : List Bool) (b : Bool) → get_or (xs ++ b ∷ []) (length xs) false ≡ b
-    behind_all [] b = refl
-    behind_all (x ∷ xs) b = behind_all xs b
+    appended_bit : (xs : List Bool) (b : Bool) → get_or (xs ++ b ∷ []) (length xs) false ≡ b
+    appended_bit [] b = refl
+    appended_bit (x ∷ xs) b = appended_bit xs b
 
 ended : (p : List Bool → Bool) (some : Bool) → some ≡ false →
     list_all p (if some then [] else [] ∷ []) ≡ true → p [] ≡ true
@@ -76,13 +76,13 @@ given_all shown p (suc n) j eight (bit ∷ bits) long size ends are all =
     (either_bit on bit both.0 (and_parts (on true) true both.1).0)
     (and_from (list_all (beq (symbol g0 (nine bit) 0)) (shown (2 * j)))
     (list_all (beq (symbol g1 (nine bit) 0)) (shown (2 * j + 1))) here_gives.0 here_gives.1) in
-    let behind_it : list_all (λ codeword. p (put (nine bit) codeword)) (rest (nine bit)) ≡ true =
+    let after_it : list_all (λ codeword. p (put (nine bit) codeword)) (rest (nine bit)) ≡ true =
     sym (list_all-map p (put (nine bit)) (rest (nine bit))) ∙ here in
     sym (ap (λ (b : Bool). p (b ∷ bits)) (ninth eight bit long))
     ∙ given_all shown (λ codeword. p (put (nine bit) codeword)) n (j + 1) (state_after eight (bit ∷ [])) bits
     (next_long eight bit long) (omega (arith, size))
     (ap (list_any (λ b. b)) (sym (state_after-append eight (bit ∷ []) bits)) ∙ ends)
-    (pairs_next (GivesPair shown) j eight bit bits long are) behind_it
+    (pairs_next (GivesPair shown) j eight bit bits long are) after_it
 
 -- so where there is one codeword, they are that one,
 pub given_one : (shown : ℕ → List Bool) (n j : ℕ) (eight bits codeword : List Bool) →

@@ -6,13 +6,13 @@ use Rattle.clean_link.proofs.Common.{All-same, All-tail, places, Sample, PagingM
 use Rattle.clean_link.proofs.Common.{due_at, due_for, new_standing, shown, shown_active, with_neighbors, with_thresholds, Active, Accepted}
 use Rattle.clean_link.proofs.Common.{ActivePilot, Strength, legs_of, leg_of, pilot_finger, heard_from, kept_to, legs_at, legs_by}
 use Rattle.clean_link.proofs.Common.{messages_at, moment_of, moment_place, moments_before, passed, told_by, all_noted, body_noted, noted}
-use Rattle.clean_link.proofs.Common.{noted_with, page_noted, system_thresholds, page_event, pages_behind, messages_by, frame_heard}
+use Rattle.clean_link.proofs.Common.{noted_with, page_noted, system_thresholds, page_event, pages_if_marked, messages_by, frame_heard}
 use Rattle.clean_link.proofs.Common.{frames_by, frames_now, Tuning, Event, Leg, Mark, Traffic, kept_new, kept_old, IsNoDirection}
 use Rattle.clean_link.proofs.Common.{IsNotDirected, IsOnePilot, OnePilotIsHeard, length, drop, length-take-le, take-append-drop, events}
 use Rattle.clean_link.proofs.Common.{events_at, heard_within, message_events_at, frame_events_at, paging_events_at, sets_events_at, mark}
 use Rattle.clean_link.proofs.Common.{frames_at, AreNear, sync_events_at, if_followed, sync_stream, Pilot, frames_sooner, by_one_mark}
 use Rattle.clean_link.proofs.Common.{messages_sooner, IsUndirected, append_assoc, append-nil, sets_at, frames_later, messages_later}
-use Rattle.clean_link.proofs.Common.{opens_followed, OpensBehind, told_behind, option_map, ◌&&◌, ℤ, option_to_list, power_bit, decoded}
+use Rattle.clean_link.proofs.Common.{opens_followed, OpensAfter, told_after, option_map, ◌&&◌, ℤ, option_to_list, power_bit, decoded}
 use Rattle.clean_link.proofs.Common.{group_sums, Decoded, softs, Finger, Data, AreClose, all_fingers, subchannels, capsule_with}
 use Rattle.clean_link.proofs.Common.{signaling_message_at, message_events, message_heard, signal_at, signal_in, signal_of, signals_before}
 use Rattle.clean_link.proofs.Common.{frame_softs, is_in_file, known_at, known_now, Stream, all_sums, power_bits_at, decoded_at, frame_event}
@@ -180,8 +180,8 @@ module _ (t : Tuning) (traffic : Traffic) (m : Mark) (legs legs' : ℕ → List 
 -- ---- when frames end and are known
 
 -- the number of samples at which frame k ends
-abbrev pub end_behind : Traffic → Mark → ℕ → ℕ
-end_behind traffic m k = m.sample + 1536 * traffic.offset + 24576 * (k + 1)
+abbrev pub end_after : Traffic → Mark → ℕ → ℕ
+end_after traffic m k = m.sample + 1536 * traffic.offset + 24576 * (k + 1)
 
 module _ (t : Tuning) (traffic : Traffic) (m : Mark) (alone : t.deltas ≡ one_path) where
   pub traffic_alone : IsAlone (one_stream t traffic m)
@@ -191,19 +191,19 @@ module _ (t : Tuning) (traffic : Traffic) (m : Mark) (alone : t.deltas ≡ one_p
     fingers = ap (fingers_of traffic.row t.phase) alone;
   }
 
-  pub traffic_file_from : (k : ℕ) → end_behind traffic m k ≤ t.count →
+  pub traffic_file_from : (k : ℕ) → end_after traffic m k ≤ t.count →
       is_in_file t.count (one_stream t traffic m) k ≡ true
   traffic_file_from k h =
       inside_alone t.count (one_stream t traffic m) k traffic_alone (omega (arith, h))
 
   pub traffic_file_to : (k : ℕ) → is_in_file t.count (one_stream t traffic m) k ≡ true →
-      end_behind traffic m k ≤ t.count
+      end_after traffic m k ≤ t.count
   traffic_file_to k h =
       omega (arith, room_alone t.count (one_stream t traffic m) k traffic_alone h)
 
   -- it doesn't wait for the next one
   pub traffic_known_is : (k : ℕ) →
-      known_at t.count (one_stream t traffic m) k ≡ end_behind traffic m k
+      known_at t.count (one_stream t traffic m) k ≡ end_after traffic m k
   traffic_known_is k =
       known_at_once t.count (one_stream t traffic m) k traffic_alone refl ∙ omega arith
 
@@ -365,7 +365,7 @@ module _ (t : Tuning) (traffic : Traffic) (m : Mark) (samples : List Sample) (n 
       let place : ℕ = moment_place m j + i + 1 in
       let legs = legs_by traffic m (kept_to t traffic m samples j) in
       let cut = take place (take (moment_place m (j + 1)) samples) in
-      let heard = pages_behind t t.paging (Some m) cut place in
+      let heard = pages_if_marked t t.paging (Some m) cut place in
       All-append IsNotDirected (map (page_event place) heard)
       (frames_by t traffic m legs cut place ++ messages_by t traffic m legs cut place)
       (All-map IsNotDirected (page_event place) heard (λ k d below. tt))
@@ -439,9 +439,9 @@ events_at_all t xs n =
     ap (λ (es : List Event). sync_events_at t xs n ++ es) (by_kinds t.traffic (mark t xs n))
   where
     by_kinds : (traffic : Option Traffic) (m : Option Mark) →
-        told_behind t (Some (Paging t.paging)) m xs n
-        ++ (told_behind t (option_map OnTraffic traffic) m xs n ++ [])
-        ≡ map (page_event n) (pages_behind t t.paging m xs n)
+        told_after t (Some (Paging t.paging)) m xs n
+        ++ (told_after t (option_map OnTraffic traffic) m xs n ++ [])
+        ≡ map (page_event n) (pages_if_marked t t.paging m xs n)
         ++ (if_followed (λ traffic m. frames_at t traffic m xs n) traffic m
         ++ (if_followed (λ traffic m. messages_at t traffic m xs n) traffic m
         ++ if_followed (λ traffic m. sets_at t traffic m xs n) traffic m))
@@ -449,7 +449,7 @@ events_at_all t xs n =
         let frames = frames_at t traffic m xs n in
         let messages = messages_at t traffic m xs n in
         let sets = sets_at t traffic m xs n in
-        ap (λ (es : List Event). map (page_event n) (pages_behind t t.paging (Some m) xs n) ++ es)
+        ap (λ (es : List Event). map (page_event n) (pages_if_marked t t.paging (Some m) xs n) ++ es)
         (append-nil ((frames ++ messages) ++ sets) ∙ append_assoc frames messages sets)
     by_kinds (Some traffic) None = refl
     by_kinds None (Some m) = refl
@@ -458,12 +458,12 @@ events_at_all t xs n =
 module _ (t : Tuning) (near : AreNear (sync_stream t).fingers) (followed : Option Traffic)
     (samples : List Sample) (n : ℕ) where
   pub frames_from_mark :
-      OpensBehind n (if_followed (λ traffic m. frames_at t traffic m samples n) followed)
+      OpensAfter n (if_followed (λ traffic m. frames_at t traffic m samples n) followed)
   frames_from_mark =
       opens_followed _ (λ traffic m. frames_later t near traffic m samples n) followed
 
   pub messages_from_mark :
-      OpensBehind n (if_followed (λ traffic m. messages_at t traffic m samples n) followed)
+      OpensAfter n (if_followed (λ traffic m. messages_at t traffic m samples n) followed)
   messages_from_mark =
       opens_followed _ (λ traffic m. messages_later t near traffic m samples n) followed
 
@@ -528,11 +528,11 @@ module _ (t : Tuning) (near : AreNear (sync_stream t).fingers) (samples : List S
       (subst (All IsNotDirected) (events_at_all t samples n) all))))
 
   -- by the mark of all samples
-  pub undirected_behind : (traffic : Traffic) (m : Mark) → t.traffic ≡ Some traffic →
+  pub undirected_after : (traffic : Traffic) (m : Mark) → t.traffic ≡ Some traffic →
       mark t samples (length samples) ≡ Some m →
       IsUndirected t traffic m samples (length samples)
   unfolding message_events_at
-  undirected_behind traffic m followed set n few =
+  undirected_after traffic m followed set n few =
       let heard : Traffic → Mark → List Event = λ traffic m. messages_at t traffic m samples n in
       let is : if_followed heard t.traffic (mark t samples n)
       ≡ messages_at t traffic m samples n =

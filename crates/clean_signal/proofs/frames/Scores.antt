@@ -53,16 +53,16 @@ unfolding bits_before
 next_before bits_of k = refl
 
 -- after the frames of a span the encoder is where the next frame begins
-state_behind : (bits_of : ℕ → List Bool) (n first frames : ℕ) → 8 ≤ n →
+state_after_span : (bits_of : ℕ → List Bool) (n first frames : ℕ) → 8 ≤ n →
     ((j : ℕ) → length (bits_of j) ≡ n) →
     state_after (bits_before bits_of first) (span_codeword bits_of first frames).bits ≡
     bits_before bits_of (first + frames)
-state_behind bits_of n first zero enough each =
+state_after_span bits_of n first zero enough each =
     let none : first ≡ first + 0 = omega arith in
     ap (state_after (bits_before bits_of first)) (flat_map-zero (λ j. bits_of (first + j)))
     ∙ state_after-none (bits_before bits_of first)
     ∙ ap (bits_before bits_of) none
-state_behind bits_of n first (suc m) enough each =
+state_after_span bits_of n first (suc m) enough each =
     let next : suc (first + m) ≡ first + suc m = omega arith in
     let start = bits_before bits_of first in
     let front = (span_codeword bits_of first m).bits in
@@ -94,7 +94,7 @@ one_codeword bits_of n first (suc m) enough each =
     (one_codeword bits_of n first m enough each)
     ∙ ap (λ (xs : List Bool). code_symbols start front ++ xs) (continued_is bits_of (first + m))
     ∙ ap (λ (xs : List Bool). code_symbols start front ++ code_symbols xs here)
-    (sym (state_behind bits_of n first m enough each))
+    (sym (state_after_span bits_of n first m enough each))
     ∙ sym (continued start front here (length-before bits_of n first enough each))
     ∙ ap (code_symbols start) (sym (flat_map-next (λ j. bits_of (first + j)) m))
 

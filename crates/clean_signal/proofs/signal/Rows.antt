@@ -70,11 +70,11 @@ symbol_stays a f s b k symbols below = ⊎_elim
     let e = lt-ltb (64 * b + k) (64 * a) before in
     let g = lt-ltb (64 * b) (64 * a) (omega (arith, before)) in
     rw (e, g) refl)
-    (λ (behind : 64 * a ≤ 64 * b + k).
-    let e = le-ltb (64 * b + k) (64 * a) behind in
-    let g = le-ltb (64 * b) (64 * a) (omega (arith, behind, below)) in
+    (λ (following : 64 * a ≤ 64 * b + k).
+    let e = le-ltb (64 * b + k) (64 * a) following in
+    let g = le-ltb (64 * b) (64 * a) (omega (arith, following, below)) in
     let same : (64 * b + k - 64 * a) / 64 ≡ (64 * b - 64 * a) / 64 =
-    omega (arith, behind, below) in
+    omega (arith, following, below) in
     let x = frame_same (64 * b + k - 64 * a) (64 * b - 64 * a) f same in
     let y = symbol_same (64 * b + k - 64 * a) (64 * b - 64 * a) f s same in
     rw (e, g, x, y) refl)

@@ -11,20 +11,20 @@ loop-event-init g c = record {
   kept = c.requires.kept;
   told = λ (t : Tuning) (first : List KeptTap) (heard : List Sample) (given : List Event)
       (stands : StandsFor t c.args.mobile.now heard given)
-      (behind : g.T.KeepsTaps.kept c.args.taps.now ≡ run_taps first given).
+      (following : g.T.KeepsTaps.kept c.args.taps.now ≡ run_taps first given).
       subst (λ (xs : List Sample). HasTold t first c.args.mobile.now
       (g.T.KeepsTaps.kept c.args.taps.now) given xs
       (g.K.Sink.written c.args.sink.now) (g.K.Sink.written c.args.sink.now))
       (sym (append-nil heard))
       (told_none t first c.args.mobile.now (g.T.KeepsTaps.kept c.args.taps.now) given heard
-      (g.K.Sink.written c.args.sink.now) stands behind);
+      (g.K.Sink.written c.args.sink.now) stands following);
   later = omega arith;
 }
 
 -- A step that gives no event took all samples that were left, and leaves no event of theirs untold.
 -- So the taps have heard all events of these samples, and the sink has the whole text.
 pub returns-in_default-clause-ok : goal.returns-in_default-clause-ok
-returns-in_default-clause-ok g c t first heard stands behind =
+returns-in_default-clause-ok g c t first heard stands following =
     let inv = c.loop-event.invariant in
     let taken = c.loop-event.taken in
     let samples = c.args.samples.now in
@@ -32,7 +32,7 @@ returns-in_default-clause-ok g c t first heard stands behind =
     let left = take_rest samples taken in
     let none = c.step-step.ensures.none nothing in
     told_all t first c.loop-event.mobile c.step-step.new.self _ heard samples taken
-    c.step-step.result.taken _ _ (inv.told t first heard (events t heard) stands behind)
+    c.step-step.result.taken _ _ (inv.told t first heard (events t heard) stands following)
     (none.0 ∙ ap length left)
     (step_stands t heard samples taken None nothing c.step-step.ensures.steps)
     (λ (before : List Event)
@@ -55,9 +55,9 @@ loop-event-preserved g c =
       kept = c.tell.ensures.kept;
       told = λ (t : Tuning) (first : List KeptTap) (heard : List Sample) (given : List Event)
           (stands : StandsFor t c.args.mobile.now heard given)
-          (behind : g.T.KeepsTaps.kept c.args.taps.now ≡ run_taps first given).
+          (following : g.T.KeepsTaps.kept c.args.taps.now ≡ run_taps first given).
           told_more t first c.loop-event.mobile c.step-step.new.self _ _ given heard samples taken
-          c.step-step.result.taken event _ _ _ (inv.told t first heard given stands behind)
+          c.step-step.result.taken event _ _ _ (inv.told t first heard given stands following)
           (step_stands t heard samples taken (Some event) something c.step-step.ensures.steps)
           (search rules) (search rules);
       later = search rules;
@@ -76,8 +76,8 @@ returns-in_err-tell-clause-err g c =
     let p = err_from_is_err_and c.from_residual.result c.from_residual.ensures.1 in
     rw p.1 (λ (t : Tuning) (first : List KeptTap) (heard : List Sample)
     (stands : StandsFor t c.args.mobile.now heard (events t heard))
-    (behind : g.T.KeepsTaps.kept c.args.taps.now ≡ run_taps first (events t heard)).
+    (following : g.T.KeepsTaps.kept c.args.taps.now ≡ run_taps first (events t heard)).
     told_part t first c.loop-event.mobile c.step-step.new.self _ heard samples taken
-    c.step-step.result.taken event _ _ _ (inv.told t first heard (events t heard) stands behind)
+    c.step-step.result.taken event _ _ _ (inv.told t first heard (events t heard) stands following)
     (step_stands t heard samples taken (Some event) something c.step-step.ensures.steps)
     (search rules))

@@ -26,7 +26,7 @@ returns-clause-ok g c =
     let event = c.in-Some.event in
     let gave : c.step-step.result.event ≡ Some event = search rules in
     let told = rw gave at c.tell.ensures.ok in
-    let behind = rw gave at c.tell.ensures.behind in
+    let following = rw gave at c.tell.ensures.following in
     on_ok_both c.tell.result _ _ _
     (λ written next t stands.
     let begun =
@@ -35,7 +35,7 @@ returns-clause-ok g c =
     (g.T.KeepsTaps.kept c.tell.new.self) (g.K.Sink.written c.args.sink.now)
     (g.K.Sink.written c.tell.new.sink) written next in
     record { written = begun.0; gives = begun.1 })
-    told behind
+    told following
 
 pub returns-clause-err : goal.returns-clause-err
 returns-clause-err g c =

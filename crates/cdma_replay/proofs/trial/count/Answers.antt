@@ -2,7 +2,7 @@
 use Rattle.cdma_replay.proofs.Common.{◌≡◌, ◌+◌, ◌-◌, ◌≤◌, ◌++◌, List, length, take, Option, None, Some, sym, ap, ◌∙◌, subst, append-nil}
 use Rattle.cdma_replay.proofs.Common.{rules, arith, take_rest, Sample, event_list, StandsFor, steps_left, Event, LeavesRoom, counts_with}
 use Rattle.cdma_replay.proofs.Common.{Counts, events}
-use Rattle.cdma_replay.proofs.Counting.{counted_all, counted_more, room_behind, room_for_one, room_left}
+use Rattle.cdma_replay.proofs.Counting.{counted_all, counted_more, room_after_event, room_for_one, room_left}
 use Rattle.cdma_replay.proofs.Hearings.{step_stands}
 use Rattle.cdma_replay.proofs.trial.count.Goals as goal
 
@@ -69,7 +69,7 @@ loop-event-preserved c =
       room = search rules;
       few = subst (λ (k : Counts). LeavesRoom k (steps_left c.step-step.new.self))
           (sym added)
-          (room_behind c.loop-event.counts event (steps_left c.step-step.new.self)
+          (room_after_event c.loop-event.counts event (steps_left c.step-step.new.self)
           (steps_left c.loop-event.mobile) inv.few fewer);
       told = λ t heard given stands is.
           counted_more t c.loop-event.mobile c.step-step.new.self c.loop-event.counts _ heard samples

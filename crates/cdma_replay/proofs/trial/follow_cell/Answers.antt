@@ -2,7 +2,7 @@
 use Rattle.cdma_replay.proofs.Common.{◌≡◌, ◌∙◌, List, [], ap, arith, length, rules, subst, sym, Sample, Header, Sixteen, made_samples}
 use Rattle.cdma_replay.proofs.Common.{CellState, header_of, trial_plan, CellPlan, IsBestIn, best_phase, best_phase-only, events, StandsFor}
 use Rattle.cdma_replay.proofs.Common.{Tuning, AreNearTo, Settings, tuning_for, counts_of, trial_settings, trial_span, trial_tuning}
-use Rattle.cdma_replay.proofs.Counting.{behind_span, line_is, span_fits, span_is, trial_counted}
+use Rattle.cdma_replay.proofs.Counting.{after_span, line_is, span_fits, span_is, trial_counted}
 use Rattle.cdma_replay.proofs.trial.follow_cell.Goals as goal
 
 pub fill-requires : goal.fill-requires
@@ -56,16 +56,16 @@ returns g c =
     let told = c.count.ensures.told t [] []
     (rw c.deref_mut-mobile.ensures.value (c.in_ok-boxed.ensures.given out found near))
     c.none-counts.ensures.value in
-    let behind = behind_span c.args.cell.now c.fill.new.self number (length c.args.span.now)
+    let following = after_span c.args.cell.now c.fill.new.self number (length c.args.span.now)
     c.requires.cell c.requires.span c.fill.ensures.state in
     let rest =
     c.count_rest.ensures t
     (subst (λ (xs : List Sample). StandsFor t c.count.new.mobile xs (events t xs))
-    (span ∙ sym behind.1) told.0)
-    (told.1 ∙ ap (λ (xs : List Sample). counts_of (events t xs)) (span ∙ sym behind.1)) in
+    (span ∙ sym following.1) told.0)
+    (told.1 ∙ ap (λ (xs : List Sample). counts_of (events t xs)) (span ∙ sym following.1)) in
     line_is number c.summary_of.result c.header-header.result.count c.get.result
     c.count_rest.new.counts c.summary_of.ensures (ap (λ (h : Header). h.count) header)
     (c.get.ensures.value ∙ best_phase-only out best.phase best.energy found ∙ ap best_phase span)
     (rest
     ∙ ap (λ (k : Tuning). counts_of (events k (made_samples c.fill.new.self.plan))) tuning
-    ∙ ap (λ (p : CellPlan). counts_of (events (trial_tuning number) (made_samples p))) behind.0)
+    ∙ ap (λ (p : CellPlan). counts_of (events (trial_tuning number) (made_samples p))) following.0)

@@ -3,10 +3,10 @@ use Rattle.cell_script.proofs.Common.{local_rows, network_rows, sym}
 use Rattle.cell_script.proofs.ScriptBounds.{numbers_up_to}
 use Rattle.cell_script.proofs.statements.sync_in.Goals as goal
 
-pub sync_behind-requires-clause-network : goal.sync_behind-requires-clause-network
-sync_behind-requires-clause-network c =
+pub sync_after-requires-clause-network : goal.sync_after-requires-clause-network
+sync_after-requires-clause-network c =
     numbers_up_to network_rows _ c.in_ok-network.network (sym c.in_ok-network.ensures.value)
 
-pub sync_behind-requires-clause-local : goal.sync_behind-requires-clause-local
-sync_behind-requires-clause-local c =
+pub sync_after-requires-clause-local : goal.sync_after-requires-clause-local
+sync_after-requires-clause-local c =
     numbers_up_to local_rows _ c.in_ok-local.local (sym c.in_ok-local.ensures.value)

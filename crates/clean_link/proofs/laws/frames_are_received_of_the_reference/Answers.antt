@@ -1,6 +1,6 @@
 -- Why the law `frames_are_received_of_the_reference` holds.
-use Rattle.clean_link.proofs.traffic.Received.{each_frame_received, frames_behind_mark, frames_show_power_bits, frames_show_symbols}
-use Rattle.clean_link.proofs.traffic.Received.{set_two_back, set_two_behind_mark, signed_received, signed_set_two_back}
+use Rattle.clean_link.proofs.traffic.Received.{each_frame_received, frames_after_mark, frames_show_power_bits, frames_show_symbols}
+use Rattle.clean_link.proofs.traffic.Received.{set_two_back, set_two_after_mark, signed_received, signed_set_two_back}
 use Rattle.clean_link.proofs.traffic.Signs.{set_one_sends, set_two_sends}
 use Rattle.clean_link.proofs.laws.frames_are_received_of_the_reference.Goals as goal
 
@@ -14,6 +14,6 @@ returns c = record {
   decoded = set_two_back;
   signed = signed_received;
   set_two = signed_set_two_back;
-  behind = frames_behind_mark;
-  file = set_two_behind_mark;
+  following = frames_after_mark;
+  file = set_two_after_mark;
 }

@@ -3,7 +3,7 @@ use Rattle.command_line.proofs.Common.{arith}
 use Rattle.std.proofs.lemmas.Grind.{common_steps}
 use Rattle.std.proofs.lemmas.Int.{ints}
 use Rattle.command_line.proofs.Common.{◌≡◌, ◌∙◌, List, [], Option, Some, Err, ap, is_some, map, refl, not, ok_or, rules, string_bytes, sym}
-use Rattle.command_line.proofs.Common.{found_of, Job, Bad, OutOfMemory, OptionEntry, command_entry, given_behind, job_by}
+use Rattle.command_line.proofs.Common.{found_of, Job, Bad, OutOfMemory, OptionEntry, command_entry, given_after, job_by}
 use Rattle.clap.specs.Words.{first_value}
 use Rattle.command_line.proofs.ArgJobs.{AreLawful, bad_where, job_found, job_none, job_read, job_where, none_where, not_bad}
 use Rattle.command_line.proofs.job.job_by.Goals.{After-is_none, After-ok_or}
@@ -16,7 +16,7 @@ returns-then-not-are_lawful-clause-bad c =
     let entry = command_entry c.args.command in
     let texts = map string_bytes c.args.options.now in (
       λ e. job_none entry texts
-          (ap (λ (entries : List OptionEntry). is_some (given_behind entries (Some []) texts))
+          (ap (λ (entries : List OptionEntry). is_some (given_after entries (Some []) texts))
           (sym c.options-rules.ensures) ∙ sym c.are_lawful.ensures ∙ c.if-not-are_lawful.true),
       λ e. refl,
     )
@@ -26,7 +26,7 @@ lawful : (c : After-is_none) →
     AreLawful (command_entry c.args.command) (map string_bytes c.args.options.now)
 lawful c =
     ap (λ (entries : List OptionEntry).
-    is_some (given_behind entries (Some []) (map string_bytes c.args.options.now)))
+    is_some (given_after entries (Some []) (map string_bytes c.args.options.now)))
     (sym c.options-rules.ensures) ∙ sym c.are_lawful.ensures ∙ c.if-not-are_lawful.false
 
 pub returns-then-is_none-clause-bad : goal.returns-then-is_none-clause-bad
@@ -61,9 +61,9 @@ found c lawful_options =
     ∙ ap (λ (o : Option Job). ok_or o Bad)
     (c.job-job.ensures.value
     ∙ job_found entry texts (first_value (found_of c.in-Ok.matches)) lawful_options
-    (λ given behind. c.in-Ok.ensures.ok given
-    (ap (λ (entries : List OptionEntry). given_behind entries (Some []) texts) c.options-rules.ensures
-    ∙ behind)))
+    (λ given following. c.in-Ok.ensures.ok given
+    (ap (λ (entries : List OptionEntry). given_after entries (Some []) texts) c.options-rules.ensures
+    ∙ following)))
 
 pub returns-clause-job : goal.returns-clause-job
 returns-clause-job c =

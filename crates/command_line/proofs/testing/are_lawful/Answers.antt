@@ -4,7 +4,7 @@ use Rattle.std.proofs.lemmas.Int.{ints}
 use Rattle.command_line.proofs.Common.{◌≡◌, ◌∙◌, ◌<◌, ◌≤◌, None, Some, arith, ap, drop, length, map, refl, string_bytes, sym}
 use Rattle.command_line.proofs.Common.{length-drop, length-map, is_named_in, part_of, entry_of}
 use Rattle.command_line.proofs.ArgTests.{Part, stands_last, stands_missing, stands_next, stands_refused, stands_twice, texts_before}
-use Rattle.command_line.proofs.ArgTests.{texts_behind}
+use Rattle.command_line.proofs.ArgTests.{texts_after}
 use Rattle.command_line.proofs.testing.are_lawful.Goals.{In-Some}
 use Rattle.command_line.proofs.testing.are_lawful.Goals as goal
 
@@ -20,7 +20,7 @@ returns-in_default c =
     rw (length-drop place texts, length-map args string_bytes)
     (omega (arith, c.loop-place-test.true)) in
     let is : part_of (drop place texts) ≡ None =
-    ap part_of (sym (texts_behind args place inside)) ∙ sym c.in_default.ensures.value in
+    ap part_of (sym (texts_after args place inside)) ∙ sym c.in_default.ensures.value in
     stands_missing (map entry_of c.args.rules.now) texts place some is c.loop-place.invariant
 
 -- the part that stands at the place
@@ -32,7 +32,7 @@ part_is : (c : In-Some) →
 part_is c =
     let inside : c.loop-place.place ≤ length c.args.args.now =
     omega (arith, c.loop-place-test.true) in
-    ap part_of (sym (texts_behind c.args.args.now c.loop-place.place inside))
+    ap part_of (sym (texts_after c.args.args.now c.loop-place.place inside))
     ∙ sym c.in-Some.ensures.value
 
 pub returns-then-is_named_in : goal.returns-then-is_named_in

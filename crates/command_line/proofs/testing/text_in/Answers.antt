@@ -1,7 +1,7 @@
 -- Why `text_in` of `testing` keeps its contract.
 use Rattle.command_line.proofs.Common.{◌≡◌, ◌∙◌, ◌<◌, ◌≤◌, List, ap, arith, length, map, option_map, string_bytes, sym, true, false}
 use Rattle.command_line.proofs.Common.{drop_all, length-map, Text, names, part_of, text_in}
-use Rattle.command_line.proofs.ArgTests.{text_here, text_there, texts_behind}
+use Rattle.command_line.proofs.ArgTests.{text_here, text_there, texts_after}
 use Rattle.command_line.proofs.testing.text_in.Goals as goal
 
 -- Where the argument at this place names the option, the text is the one that the arguments from
@@ -17,7 +17,7 @@ returns-then-names c =
     let named : names name (string_bytes c.index-args-place.result) ≡ true =
     ap (names name) (sym c.as_str.ensures.value) ∙ sym c.names.ensures ∙ c.if-names.true in
     c.first_text.ensures
-    ∙ ap (λ (ws : List Text). option_map (λ p. p.1) (part_of ws)) (texts_behind args place within)
+    ∙ ap (λ (ws : List Text). option_map (λ p. p.1) (part_of ws)) (texts_after args place within)
     ∙ sym (c.loop-place.invariant
     ∙ text_here name args place c.index-args-place.result inside c.index-args-place.is named)
 

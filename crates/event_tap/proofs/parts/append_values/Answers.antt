@@ -4,7 +4,7 @@ use Rattle.std.proofs.lemmas.Int.{ints}
 use Rattle.std.proofs.Common.{length, map, sym, ap, subst, arith}
 use Rattle.std.proofs.lemmas.List.{length-map}
 use Rattle.std.specs.Str.{IsAscii}
-use Rattle.event_tap.proofs.PartTexts.{name_ascii, name_short, no_values, value_behind, value_short}
+use Rattle.event_tap.proofs.PartTexts.{name_ascii, name_short, no_values, value_after, value_short}
 use Rattle.event_tap.proofs.parts.append_values.Goals as goal
 
 pub loop-i-init : goal.loop-i-init
@@ -47,7 +47,7 @@ loop-i-preserved c =
     let i = c.loop-i.i in
     record {
       value =
-          value_behind c.args.text.now c.loop-i.text c.append_value.new.text c.name_in.result.now
+          value_after c.args.text.now c.loop-i.text c.append_value.new.text c.name_in.result.now
           names values i (omega (arith, length-map table (λ row. row.0.now), c.loop-i-test.true))
           (omega (arith, c.requires.all, c.loop-i-test.true)) c.loop-i.invariant.value
           c.name_in.ensures c.append_value.ensures.value;

@@ -81,8 +81,8 @@ returns-clause-kept g c =
 pub loop-place-smaller : goal.loop-place-smaller
 loop-place-smaller g c = grind (ints, arith, common_steps)
 
-pub returns-clause-behind : goal.returns-clause-behind
-returns-clause-behind g c = grind (ints, arith, common_steps)
+pub returns-clause-following : goal.returns-clause-following
+returns-clause-following g c = grind (ints, arith, common_steps)
 
 pub returns-clause-ok : goal.returns-clause-ok
 returns-clause-ok g c = grind (ints, arith, common_steps)

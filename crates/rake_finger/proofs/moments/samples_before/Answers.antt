@@ -48,9 +48,9 @@ loop-k-preserved c =
           inside read (inv.value samples held);
       narrow = All-set IsNarrow c.loop-k.samples k sample small inv.narrow;
       long = length-set c.loop-k.samples k sample ∙ long;
-      cell = next_cell place k cell c.cell_behind-cell.result ring.room inv.cell
-          c.cell_behind-cell.ensures.value;
-      below = c.cell_behind-cell.ensures.below;
+      cell = next_cell place k cell c.cell_after-cell.result ring.room inv.cell
+          c.cell_after-cell.ensures.value;
+      below = c.cell_after-cell.ensures.below;
     }
 
 pub returns-clause-value : goal.returns-clause-value

@@ -57,9 +57,9 @@ loop-k-preserved c =
           (omega arith) inv.cell c.get-sample.ensures)
           is (inv.value samples held) (kept_sum_back sum.i product.i (omega (arith, near_i, fits)))
           (kept_sum_back sum.q product.q (omega (arith, near_q, fits)));
-      cell = next_cell place k c.loop-k.cell c.cell_behind-cell.result ring.room inv.cell
-          c.cell_behind-cell.ensures.value;
-      below = c.cell_behind-cell.ensures.below;
+      cell = next_cell place k c.loop-k.cell c.cell_after-cell.result ring.room inv.cell
+          c.cell_after-cell.ensures.value;
+      below = c.cell_after-cell.ensures.below;
       i_bound = kept_sum_within sum.i product.i most near_i fits;
       q_bound = kept_sum_within sum.q product.q most near_q fits;
     }

@@ -1,5 +1,5 @@
 -- Why `drawn_frames` of `trial` keeps its contract.
-use Rattle.trial_link.proofs.Common.{◌≡◌, ◌∷◌, ◌++◌, [], ℕ, List, TrafficFrame, sym, ap, ◌∙◌, arith, behind_frame, behind_frames}
+use Rattle.trial_link.proofs.Common.{◌≡◌, ◌∷◌, ◌++◌, [], ℕ, List, TrafficFrame, sym, ap, ◌∙◌, arith, past_frame, past_frames}
 use Rattle.trial_link.proofs.Common.{frame_drawn}
 use Rattle.trial_link.proofs.Common.{frames_drawn}
 use Rattle.trial_link.proofs.TrialDraws.{frames_drawn_more, frames_more, no_frames, no_frames_drawn}
@@ -22,7 +22,7 @@ loop-frame-preserved c =
           ∙ ap (λ (f : TrafficFrame). frames_drawn s k ++ f ∷ [])
           (c.frame.ensures.value ∙ ap frame_drawn inv.state)
           ∙ sym (frames_drawn_more s k);
-      state = c.frame.ensures.state ∙ ap behind_frame inv.state ∙ sym (frames_more s k);
+      state = c.frame.ensures.state ∙ ap past_frame inv.state ∙ sym (frames_more s k);
     }
 
 pub returns : goal.returns

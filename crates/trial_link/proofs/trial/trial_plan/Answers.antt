@@ -1,6 +1,6 @@
 -- Why `trial_plan` of `trial` keeps its contract.
-use Rattle.trial_link.proofs.Common.{◌≡◌, ◌∷◌, ◌∙◌, [], CellIdentity, CellPlan, List, Some, TrafficFrame, TrafficPlan, ap, behind_draw, ℕ}
-use Rattle.trial_link.proofs.Common.{behind_draws, drawn, frames_drawn, trial_cell, trial_frames, trial_link, trial_paging, trial_plan}
+use Rattle.trial_link.proofs.Common.{◌≡◌, ◌∷◌, ◌∙◌, [], CellIdentity, CellPlan, List, Some, TrafficFrame, TrafficPlan, ap, past_draw, ℕ}
+use Rattle.trial_link.proofs.Common.{past_draws, drawn, frames_drawn, trial_cell, trial_frames, trial_link, trial_paging, trial_plan}
 use Rattle.trial_link.proofs.Common.{trial_serial_number, trial_sync, trial_traffic}
 use Rattle.cell_plan.specs.declared.plan.PagingPlan.{PagingPlan}
 use Rattle.cell_plan.specs.declared.plan.SyncPlan.{SyncPlan}
@@ -32,7 +32,7 @@ plan_made number cell sync paging traffic cell_is sync_is paging_is traffic_is =
     traffic_is
 
 frames_from : (number state : ℕ) (frames : List TrafficFrame) → frames ≡ frames_drawn state 100 →
-    state ≡ behind_draws number 5 → frames ≡ trial_frames number
+    state ≡ past_draws number 5 → frames ≡ trial_frames number
 unfolding trial_frames
 frames_from number state frames is state_is =
     is ∙ ap (λ (s : ℕ). frames_drawn s 100) state_is
@@ -50,8 +50,8 @@ returns c =
     let number = c.args.number in
     let esn : c.draw-esn.result ≡ trial_serial_number number =
     c.draw-esn.ensures.value ∙ ap drawn c.cell-cell.ensures.state ∙ serial_number_drawn number in
-    let state : c.draw-esn.new.self.state ≡ behind_draws number 5 =
-    c.draw-esn.ensures.state ∙ ap behind_draw c.cell-cell.ensures.state ∙ fifth_draw number in
+    let state : c.draw-esn.new.self.state ≡ past_draws number 5 =
+    c.draw-esn.ensures.state ∙ ap past_draw c.cell-cell.ensures.state ∙ fifth_draw number in
     plan_made number c.cell-cell.result c.sync_channel.result _ _ c.cell-cell.ensures.value
     c.sync_channel.ensures c.in_ok-paging_channels.ensures
     (channels_from number c.draw-esn.result _ _ c.in_ok-traffic_channels.ensures esn

@@ -3,7 +3,7 @@ use Rattle.tuned_listener.proofs.Common.{ints}
 use Rattle.std.proofs.lemmas.Grind.{common_steps}
 use Rattle.tuned_listener.proofs.Common.{◌≡◌, ◌++◌, [], List, None, Some, arith, rules, subst, take, Appends, take_rest}
 use Rattle.tuned_listener.proofs.Common.{err_from_is_err_and, AppendsPrefix, Sample, soft_frames, IsTunedTo, Tuning, Channel, HoldsFrames}
-use Rattle.tuned_listener.proofs.Common.{tuned_text_of, slot_behind, slot_more, tuned_frame_text, TunedText, WritesFrames, Mark, Tuner}
+use Rattle.tuned_listener.proofs.Common.{tuned_text_of, slot_after, slot_more, tuned_frame_text, TunedText, WritesFrames, Mark, Tuner}
 use Rattle.tuned_listener.proofs.Common.{FrameWriter, Option, ℕ, Appends-nil, append-nil, refl, sym, text_from}
 use Rattle.tuned_listener.proofs.TunedFrames.{frame_cut, frame_kept, frame_written, none_kept, none_written, writes_all, writes_more}
 use Rattle.tuned_listener.proofs.TunedFrames.{writes_part}
@@ -13,7 +13,7 @@ use Rattle.tuned_listener.proofs.frame_writer.hear_frames.Goals as goal
 writes_none : (t : Tuning) (channel : Channel) (m : Mark) (form : TunedText) (tuner : Tuner)
     (writer : FrameWriter) (heard samples : List Sample) (sink : Option (List ℕ)) →
     IsTunedTo t channel m tuner heard →
-    HoldsFrames writer t.check30 (slot_behind [] (soft_frames t channel m heard)) →
+    HoldsFrames writer t.check30 (slot_after [] (soft_frames t channel m heard)) →
     WritesFrames t channel m form tuner writer heard (heard ++ take 0 samples) sink sink
 writes_none t channel m form tuner writer heard samples sink tuned holds =
     subst (λ (xs : List Sample). WritesFrames t channel m form tuner writer heard xs sink sink)
@@ -55,9 +55,9 @@ loop-taken-preserved-in-Continue-1 g c =
       writes = λ (t : Tuning) (channel : Channel) (heard : List Sample)
           (tuned : IsTunedTo t channel m c.args.tuner.now heard)
           (holds : HoldsFrames c.args.writer.now t.check30
-          (slot_behind [] (soft_frames t channel m heard))).
+          (slot_after [] (soft_frames t channel m heard))).
           let now = heard ++ take taken samples in
-          let slot = slot_behind [] (soft_frames t channel m now) in
+          let slot = slot_after [] (soft_frames t channel m now) in
           let so_far = inv.writes t channel heard tuned holds in
           writes_more t channel m form c.loop-taken.tuner c.step-step.new.self c.loop-taken.writer
           heard samples _ taken c.step-step.result _ _ _ (take_rest samples taken) c.step-step.ensures
@@ -90,7 +90,7 @@ loop-taken-preserved g c =
       writes = λ (t : Tuning) (channel : Channel) (heard : List Sample)
           (tuned : IsTunedTo t channel m c.args.tuner.now heard)
           (holds : HoldsFrames c.args.writer.now t.check30
-          (slot_behind [] (soft_frames t channel m heard))).
+          (slot_after [] (soft_frames t channel m heard))).
           let now = heard ++ take taken samples in
           let so_far = inv.writes t channel heard tuned holds in
           writes_more t channel m form c.loop-taken.tuner c.step-step.new.self c.loop-taken.writer
@@ -117,9 +117,9 @@ returns-in_err-write-clause-err g c =
     rw p.1 (λ (t : Tuning) (channel : Channel) (heard : List Sample)
     (tuned : IsTunedTo t channel m c.args.tuner.now heard)
     (holds : HoldsFrames c.args.writer.now t.check30
-    (slot_behind [] (soft_frames t channel m heard))).
+    (slot_after [] (soft_frames t channel m heard))).
     let now = heard ++ take taken samples in
-    let slot = slot_behind [] (soft_frames t channel m now) in
+    let slot = slot_after [] (soft_frames t channel m now) in
     let so_far = inv.writes t channel heard tuned holds in
     writes_part t channel m form c.loop-taken.tuner c.step-step.new.self c.loop-taken.writer
     heard samples _ taken c.step-step.result _ _ _ (take_rest samples taken) c.step-step.ensures

@@ -1,6 +1,6 @@
 -- What each pass of the loops in `hear_frames` of `frame_writer` keeps, and why they end.
 use Rattle.tuned_listener.proofs.Common.{◌≡◌, ◌≤◌, ◌+◌, ◌-◌, ◌++◌, [], List, length, take, Sample, soft_frames, IsTunedTo, samples_left}
-use Rattle.tuned_listener.proofs.Common.{Tuning, Channel, HoldsFrames, IsReady, WritesFrames, tuned_text_of, slot_behind}
+use Rattle.tuned_listener.proofs.Common.{Tuning, Channel, HoldsFrames, IsReady, WritesFrames, tuned_text_of, slot_after}
 use Rattle.tuned_listener.proofs.frame_writer.hear_frames.Given as goal
 
 abbrev pub invariant-loop-taken : goal.invariant-loop-taken
@@ -11,7 +11,7 @@ invariant-loop-taken g l = record {
   text : tuned_text_of l.writer ≡ tuned_text_of l.fn.writer;
   writes : (t : Tuning) (channel : Channel) (heard : List Sample) →
       IsTunedTo t channel l.mark l.fn.tuner heard →
-      HoldsFrames l.fn.writer t.check30 (slot_behind [] (soft_frames t channel l.mark heard)) →
+      HoldsFrames l.fn.writer t.check30 (slot_after [] (soft_frames t channel l.mark heard)) →
       WritesFrames t channel l.mark (tuned_text_of l.fn.writer) l.tuner l.writer heard
       (heard ++ take l.taken l.samples) (g.K.Sink.written l.fn.sink) (g.K.Sink.written l.sink);
   later : g.K.Sink.faults l.fn.sink ≤ g.K.Sink.faults l.sink;

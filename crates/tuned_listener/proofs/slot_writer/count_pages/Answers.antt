@@ -19,7 +19,7 @@ pub loop-i-preserved : goal.loop-i-preserved
 loop-i-preserved c =
     let inv = c.loop-i.invariant in
     let before = take c.loop-i.i c.args.bits.now in
-    let page = c.page_behind-page in
+    let page = c.page_after-page in
     record {
       size = page.ensures.size ∙ inv.size;
       stands = subst (HalfFramesStandFor page.new.framer)

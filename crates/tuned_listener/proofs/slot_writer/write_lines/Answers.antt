@@ -3,7 +3,7 @@ use Rattle.tuned_listener.proofs.Common.{arith, ints}
 use Rattle.std.proofs.lemmas.Grind.{common_steps}
 use Rattle.tuned_listener.proofs.Common.{ℕ, length, subst, Appends, paging_line, slot_line, slot_pages}
 use Rattle.std.specs.List.{flat_map}
-use Rattle.event_tap.proofs.Prefixes.{on_err, prefix_behind}
+use Rattle.event_tap.proofs.Prefixes.{on_err, prefix_after}
 use Rattle.tuned_listener.proofs.slot_writer.write_lines.Goals as goal
 
 -- Where the lines of a slot's pages can't be written whole, the sink has the slot's own line, with
@@ -17,7 +17,7 @@ returns-clause-err g c =
     (g.K.Sink.written c.write_slot.new.sink) (slot_line at time count)) c.count_pages.ensures
     c.in_ok-write_slot.ensures.ok in
     on_err c.write_pages.result _ _
-    (λ part. prefix_behind _ (g.K.Sink.written c.write_slot.new.sink) _
+    (λ part. prefix_after _ (g.K.Sink.written c.write_slot.new.sink) _
     (slot_line at time (length pages)) (flat_map (paging_line at) pages) line part)
     c.write_pages.ensures.err
 

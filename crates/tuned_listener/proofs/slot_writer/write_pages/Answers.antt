@@ -25,7 +25,7 @@ loop-i-preserved g c =
     let i = c.loop-i.i in
     let bits = c.args.bits.now in
     let bit = c.get.result in
-    let page = c.page_behind-page in
+    let page = c.page_after-page in
     record {
       size = page.ensures.size ∙ inv.size;
       stands = subst (HalfFramesStandFor page.new.framer) (sym (taken_more bits i bit c.get.ensures))
@@ -45,7 +45,7 @@ returns-in_err-write_page-clause-err g c =
     let inv = c.loop-i.invariant in
     let i = c.loop-i.i in
     let bits = c.args.bits.now in
-    let page = c.page_behind-page in
+    let page = c.page_after-page in
     let p = err_from_is_err_and c.from_residual.result c.from_residual.ensures.1 in
     rw p.1
     (lines_cut c.args.check c.args.rate bits i c.get.result c.get.ensures page.result _ inv.size

@@ -1,5 +1,5 @@
 -- Why `begin` of `listener::Listener` keeps its contract.
-use Rattle.cdma_replay.proofs.Common.{◌++◌, ℕ, List, sym, subst, on_err, on_ok, Appends, AppendsPrefix, BeginsBehind, Event, Pilot}
+use Rattle.cdma_replay.proofs.Common.{◌++◌, ℕ, List, sym, subst, on_err, on_ok, Appends, AppendsPrefix, BeginsAfter, Event, Pilot}
 use Rattle.cdma_replay.proofs.Common.{IsFreshListener, event_line, Listener, Listening, ranks_text, take, told}
 use Rattle.std.specs.Box.{with_value}
 use Rattle.cdma_replay.proofs.Hearings.{on_fresh, on_fresh_pilot, on_fresh_ranks, tuned_begins}
@@ -18,7 +18,7 @@ returns-in-Pilot-clause-ok g c =
     rw c.in-Pilot.is
     (on_ok c.write_event.result _ _
     (λ written text l fresh. on_fresh_pilot
-    (λ (xs : List ℕ) (m : Listening). BeginsBehind xs m (by.Pilot best) kept old new) text l best kept fresh
+    (λ (xs : List ℕ) (m : Listening). BeginsAfter xs m (by.Pilot best) kept old new) text l best kept fresh
     (alone_begins (event_line (Pilot best.phase best.energy)) (by.Pilot best) kept old new
     (subst (λ (e : Event). Appends old new (event_line e)) c.pilot_event.ensures written) tt))
     c.write_event.ensures.ok)
@@ -51,7 +51,7 @@ returns-in-Ranks-clause-ok g c =
     rw c.in-Ranks.is
     (on_ok c.write_ranks.result _ _
     (λ written text l fresh. on_fresh_ranks
-    (λ (xs : List ℕ) (m : Listening). BeginsBehind xs m (by.Ranks ranks top) kept old new) text l ranks top
+    (λ (xs : List ℕ) (m : Listening). BeginsAfter xs m (by.Ranks ranks top) kept old new) text l ranks top
     kept fresh
     (alone_begins (ranks_text (take top ranks)) (by.Ranks ranks top) kept old new written tt))
     c.write_ranks.ensures.ok)
@@ -80,7 +80,7 @@ returns-in-Handset-clause-ok g c =
     let mobile = with_value c.in-Handset.mobile c.tell_pilot.new.mobile in
     on_ok c.tell_pilot.result _ _
     (λ begins text l fresh. on_fresh
-    (λ (xs : List ℕ) (l : Listening). BeginsBehind xs l (by.Handset mobile)
+    (λ (xs : List ℕ) (l : Listening). BeginsAfter xs l (by.Handset mobile)
     (g.T.KeepsTaps.kept c.tell_pilot.new.taps) (g.K.Sink.written c.args.sink.now)
     (g.K.Sink.written c.tell_pilot.new.sink)) text l c.in-Handset.mobile kept
     (subst (λ (h : Listener). IsFreshListener text l h kept) c.in-Handset.is fresh)
@@ -104,6 +104,6 @@ pub returns-in-Tuned-clause-ok : goal.returns-in-Tuned-clause-ok
 returns-in-Tuned-clause-ok g c text l fresh =
     let kept = g.T.KeepsTaps.kept c.args.taps.now in
     let held = g.K.Sink.written c.args.sink.now in
-    subst (λ (h : Listener). BeginsBehind text l h kept held held) (sym c.in-Tuned.is)
+    subst (λ (h : Listener). BeginsAfter text l h kept held held) (sym c.in-Tuned.is)
     (tuned_begins text l c.in-Tuned.field-0 kept held
     (subst (λ (h : Listener). IsFreshListener text l h kept) c.in-Tuned.is fresh))

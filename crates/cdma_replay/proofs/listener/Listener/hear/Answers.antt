@@ -1,5 +1,5 @@
 -- Why `hear` of `listener::Listener` keeps its contract.
-use Rattle.cdma_replay.proofs.Common.{◌++◌, subst, sym, on_err, on_ok, Listening, Listens, ListenerTells, Nobody, TellsPart, Listener}
+use Rattle.cdma_replay.proofs.Common.{◌++◌, subst, sym, on_err, on_ok, Listening, Listens, ListenerTells, Nobody, GainsPrefix, Listener}
 use Rattle.std.specs.Box.{with_value}
 use Rattle.cdma_replay.proofs.Hearings.{on_handset, on_pilot, on_ranks, on_tuned, room_some, room_tuned, tells_nobody}
 use Rattle.cdma_replay.proofs.Hearings.{tuned_part, tuned_tells}
@@ -26,8 +26,8 @@ returns-in-Handset-clause-ok g c =
     (g.T.KeepsTaps.kept c.tell.new.taps) heard (heard ++ c.args.samples.now)
     (g.K.Sink.written c.args.sink.now) (g.K.Sink.written c.tell.new.sink)) l c.in-Handset.mobile kept heard
     (subst (λ (h : Listener). Listens l h kept heard) c.in-Handset.is is)
-    (λ t taps stands behind.
-    let (more, gives) = tells t taps heard (rw c.deref_mut.ensures.value stands) behind in
+    (λ t taps stands following.
+    let (more, gives) = tells t taps heard (rw c.deref_mut.ensures.value stands) following in
     record { more = more; listens = gives }))
     c.tell.ensures.ok
 
@@ -36,10 +36,10 @@ returns-in-Handset-clause-err g c =
     let kept = g.T.KeepsTaps.kept c.args.taps.now in
     on_err c.tell.result _ _
     (λ tells l heard is. on_handset
-    (λ (l : Listening). TellsPart l heard (heard ++ c.args.samples.now)
+    (λ (l : Listening). GainsPrefix l heard (heard ++ c.args.samples.now)
     (g.K.Sink.written c.args.sink.now) (g.K.Sink.written c.tell.new.sink)) l c.in-Handset.mobile kept heard
     (subst (λ (h : Listener). Listens l h kept heard) c.in-Handset.is is)
-    (λ t taps stands behind. tells t taps heard (rw c.deref_mut.ensures.value stands) behind))
+    (λ t taps stands following. tells t taps heard (rw c.deref_mut.ensures.value stands) following))
     c.tell.ensures.err
 
 pub hear-requires : goal.hear-requires
@@ -68,7 +68,7 @@ returns-in-Tuned-clause-err g c =
     let kept = g.T.KeepsTaps.kept c.args.taps.now in
     on_err c.hear.result _ _
     (λ tells l heard is. on_tuned
-    (λ (l : Listening). TellsPart l heard (heard ++ c.args.samples.now)
+    (λ (l : Listening). GainsPrefix l heard (heard ++ c.args.samples.now)
     (g.K.Sink.written c.args.sink.now) (g.K.Sink.written c.hear.new.sink)) l c.in-Tuned.tuned kept heard
     (subst (λ (h : Listener). Listens l h kept heard) c.in-Tuned.is is)
     (λ t channel text listens.

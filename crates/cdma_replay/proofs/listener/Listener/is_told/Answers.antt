@@ -17,7 +17,7 @@ pub returns-in-Handset : goal.returns-in-Handset
 returns-in-Handset c l kept heard is =
     on_handset (λ (l : Listening). c.synced.result ≡ is_told l heard) l c.in-Handset.mobile kept heard
     (subst (λ (h : Listener). Listens l h kept heard) c.in-Handset.is is)
-    (λ t taps stands behind. c.synced.ensures.mark t heard (rw c.deref.ensures stands))
+    (λ t taps stands following. c.synced.ensures.mark t heard (rw c.deref.ensures stands))
 
 pub returns-in-Tuned : goal.returns-in-Tuned
 returns-in-Tuned c l kept heard is =

@@ -37,6 +37,6 @@ returns-in-Some-traffic-clause-hears c = λ t assigned mark heard pages ends st.
     let is : c.args.traffic.now ≡ Some r = search rules in
     let told : c.args.event.now ≡ Some c.in-Some.event = search rules in
     let here = subst (λ e. IfSome e (λ event. at_of event ≡ length heard)) told ends in
-    let behind = subst (λ o. HearsFrames t assigned mark o heard (c.in-Some.event ∷ pages)) is
+    let following = subst (λ o. HearsFrames t assigned mark o heard (c.in-Some.event ∷ pages)) is
     (subst (λ e. HearsFrames t assigned mark c.args.traffic.now heard (event_list e ++ pages)) told st) in
-    rw (is, c.note.ensures.value) (frames_noted c.in-Some.event behind here)
+    rw (is, c.note.ensures.value) (frames_noted c.in-Some.event following here)

@@ -42,8 +42,8 @@ returns-clause-stands c bits stood =
     let known = body_step size place left bits c.args.bit c.self.inside.capsule own.0
     (omega (arith, c.if-self-eq0.false)) (omega (arith, c.self.invariant.0)) own.1 in
     let ended : IsTrue c.is_some.result ↔ IsSome c.push-whole.result = search rules in
-    let state : c.behind-self-inside.result ≡ half_under_way size (bits ++ c.args.bit ∷ []) =
-    c.behind-self-inside.ensures
+    let state : c.later-self-inside.result ≡ half_under_way size (bits ++ c.args.bit ∷ []) =
+    c.later-self-inside.ensures
     ∙ after_is c.is_some.result left c.push-whole.result c.push-whole.new.self ended
     ∙ ap (λ (w : Option (List Bool)). after left w c.push-whole.new.self) c.push-whole.ensures.gives
     ∙ ap (after left (completed c.self.inside.capsule (c.args.bit ∷ [])))

@@ -21,10 +21,10 @@ read_from-requires-clause-lawful c = rw c.layout_of.ensures.shape (lawful c.in_o
 pub read_from-requires-clause-room : goal.read_from-requires-clause-room
 read_from-requires-clause-room c =
     let body = c.args.body.now in
-    let behind = drop c.in_ok-kind.from body in
-    subst (λ (s : MessageShape). count_in s.records (length behind) ≤ 128) (sym c.layout_of.ensures.shape)
-    (few_records c.in_ok-kind.kind (length behind)
-    (typed_length body behind c.in_ok-kind.kind
+    let later = drop c.in_ok-kind.from body in
+    subst (λ (s : MessageShape). count_in s.records (length later) ≤ 128) (sym c.layout_of.ensures.shape)
+    (few_records c.in_ok-kind.kind (length later)
+    (typed_length body later c.in_ok-kind.kind
     (c.fills_capsule.ensures.0 c.if-not-fills_capsule.false) c.in_ok-kind.ensures.kind))
 
 pub returns-in_err-contents : goal.returns-in_err-contents

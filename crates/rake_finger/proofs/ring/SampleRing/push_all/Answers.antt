@@ -14,7 +14,7 @@ pub loop-sample-preserved : goal.loop-sample-preserved
 loop-sample-preserved c =
     let inv = c.loop-sample.invariant in
     let put = c.put.ensures in
-    let next = c.cell_behind-cell in
+    let next = c.cell_after-cell in
     let more = c.args.more.now in
     let i = c.loop-sample.sample-index in
     let lt : i < length more = c.loop-sample-test.true in

@@ -8,9 +8,9 @@ read_from-requires-clause-lawful c = rw c.layout_of.ensures.shape (lawful c.form
 
 pub returns-in_err-contents : goal.returns-in_err-contents
 returns-in_err-contents c =
-    let behind = drop c.args.from c.args.bits.now in
+    let following = drop c.args.from c.args.bits.now in
     let none : c.from_residual.result ≡ None = cc in
-    none ∙ told c.args.kind c.args.encryption behind c.form_of-form.result _ None
+    none ∙ told c.args.kind c.args.encryption following c.form_of-form.result _ None
     c.form_of-form.ensures c.layout_of.ensures.shape c.in_err-contents.ensures.reading
 
 pub of-requires : goal.of-requires
@@ -20,8 +20,8 @@ of-requires c =
 
 pub returns : goal.returns
 returns c =
-    let behind = drop c.args.from c.args.bits.now in
+    let following = drop c.args.from c.args.bits.now in
     ap Some c.of.ensures
-    ∙ told c.args.kind c.args.encryption behind c.form_of-form.result _
+    ∙ told c.args.kind c.args.encryption following c.form_of-form.result _
     (Some c.in_ok-contents.contents) c.form_of-form.ensures c.layout_of.ensures.shape
     c.in_ok-contents.ensures.reading

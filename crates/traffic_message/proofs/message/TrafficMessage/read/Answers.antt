@@ -15,12 +15,12 @@ parts c =
     are_parts c.args.body.now c.in_ok-values.values (drop c.in_ok-values.from c.args.body.now)
     (tested c) c.in_ok-values.ensures.values
 
-behind : (c : After-head_from-head) (k : ℕ) (read : Option TrafficBody) →
+following : (c : After-head_from-head) (k : ℕ) (read : Option TrafficBody) →
     k ≡ get_or c.in_ok-values.values 0 0 →
     read ≡ part_reading k c.head_from-head.result.encryption
     (drop c.in_ok-values.from c.args.body.now) →
     mapped (message c.head_from-head.result) read ≡ traffic_body_reading c.args.body.now
-behind c k read typed e =
+following c k read typed e =
     part_read c.args.body.now c.in_ok-values.values (drop c.in_ok-values.from c.args.body.now) k
     c.head_from-head.result read (tested c) (parts c) typed c.head_from-head.ensures e
 
@@ -47,7 +47,7 @@ read-requires-clause-room c =
     let d = (goal.at.read-requires-clause-room c).After-head_from-head in
     omega (
       arith,
-      ap length (parts d).behind,
+      ap length (parts d).following,
       length-drop 17 c.args.body.now,
       (is_body_parts c.args.body.now (tested d)).2,
     )
@@ -55,16 +55,16 @@ read-requires-clause-room c =
 pub returns-in_err-body : goal.returns-in_err-body
 returns-in_err-body c =
     let none : c.from_residual-in_err-body.result ≡ None = cc in
-    none ∙ behind (goal.at.returns-in_err-body c).After-head_from-head c.get.result None
+    none ∙ following (goal.at.returns-in_err-body c).After-head_from-head c.get.result None
     c.get.ensures c.in_err-body.ensures
 
 pub returns : goal.returns
 returns c =
-    behind (goal.at.returns c).After-head_from-head c.get.result (Some c.in_ok-body.body)
+    following (goal.at.returns c).After-head_from-head c.get.result (Some c.in_ok-body.body)
     c.get.ensures c.in_ok-body.ensures
 
 pub invariant_of-result : goal.invariant_of-result
 invariant_of-result c =
     (message_there c.args.body.now (message c.head_from-head.result c.in_ok-body.body)
-    (sym (behind (goal.at.invariant_of-result c).After-head_from-head c.get.result
+    (sym (following (goal.at.invariant_of-result c).After-head_from-head c.get.result
     (Some c.in_ok-body.body) c.get.ensures c.in_ok-body.ensures))).0

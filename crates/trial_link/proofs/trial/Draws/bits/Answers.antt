@@ -1,6 +1,6 @@
 -- Why `bits` of `trial::Draws` keeps its contract.
-use Rattle.trial_link.proofs.Common.{◌≡◌, ◌+◌, ◌%◌, ◌==◌, ◌++◌, ◌∷◌, [], length, sym, ap, ◌∙◌, arith, List, Bool, ℕ, behind_draw}
-use Rattle.trial_link.proofs.Common.{behind_draws, bits_drawn, drawn}
+use Rattle.trial_link.proofs.Common.{◌≡◌, ◌+◌, ◌%◌, ◌==◌, ◌++◌, ◌∷◌, [], length, sym, ap, ◌∙◌, arith, List, Bool, ℕ, past_draw}
+use Rattle.trial_link.proofs.Common.{past_draws, bits_drawn, drawn}
 use Rattle.trial_link.proofs.TrialDraws.{bits_more, draws_more, length-bits_drawn, no_bits_drawn, no_draws}
 use Rattle.trial_link.proofs.trial.Draws.bits.Goals as goal
 
@@ -21,7 +21,7 @@ loop-bit-preserved c =
     let inv = c.loop-bit.invariant in
     let s = c.args.self.now.state in
     let k = c.loop-bit._bit in
-    let bit : c.bit.result ≡ (drawn (behind_draws s k) % 2 == 1) =
+    let bit : c.bit.result ≡ (drawn (past_draws s k) % 2 == 1) =
     c.bit.ensures.value ∙ ap (λ (t : ℕ). drawn t % 2 == 1) inv.state in
     let bits = c.append.ensures
     ∙ ap (λ (bs : List Bool). bs ++ c.bit.result ∷ []) inv.value
@@ -30,7 +30,7 @@ loop-bit-preserved c =
     record {
       value = bits;
       count = ap length bits ∙ length-bits_drawn s (k + 1);
-      state = c.bit.ensures.state ∙ ap behind_draw inv.state ∙ sym (draws_more s k);
+      state = c.bit.ensures.state ∙ ap past_draw inv.state ∙ sym (draws_more s k);
     }
 
 pub returns-clause-value : goal.returns-clause-value
@@ -52,4 +52,4 @@ pub returns-clause-state : goal.returns-clause-state
 returns-clause-state c =
     let all : c.loop-bit._bit ≡ c.args.count =
     omega (arith, c.loop-bit-test.false, c.loop-bit.auto._bit-end) in
-    c.loop-bit.invariant.state ∙ ap (behind_draws c.args.self.now.state) all
+    c.loop-bit.invariant.state ∙ ap (past_draws c.args.self.now.state) all

@@ -3,7 +3,7 @@ use Rattle.tuned_listener.proofs.Common.{arith, ints}
 use Rattle.std.proofs.lemmas.Grind.{common_steps}
 use Rattle.tuned_listener.proofs.Common.{refl}
 use Rattle.event_tap.proofs.Prefixes.{on_err, on_ok}
-use Rattle.tuned_listener.proofs.TunedListeners.{ready_writer, tells_behind, tells_cut, tells_nothing}
+use Rattle.tuned_listener.proofs.TunedListeners.{ready_writer, tells_frames_after, tells_cut, tells_nothing}
 use Rattle.tuned_listener.proofs.tuned.TunedListener.write_frames.Goals as goal
 
 pub hear_frames-requires-clause-ready : goal.hear_frames-requires-clause-ready
@@ -13,7 +13,7 @@ hear_frames-requires-clause-ready g c =
 pub returns-in-After-clause-ok : goal.returns-in-After-clause-ok
 returns-in-After-clause-ok g c =
     on_ok c.hear_frames.result _ _
-    (λ writes t channel form heard is. tells_behind t channel form c.args.self.now heard
+    (λ writes t channel form heard is. tells_frames_after t channel form c.args.self.now heard
     c.args.samples.now _ _ is c.in-After.mark c.in-After.tuner c.in-After.is _ c.hear_frames.new.tuner
     c.hear_frames.ensures.text refl writes)
     c.hear_frames.ensures.ok

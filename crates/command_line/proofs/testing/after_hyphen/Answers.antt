@@ -1,6 +1,6 @@
--- Why `behind_hyphen` of `testing` keeps its contract.
+-- Why `after_hyphen` of `testing` keeps its contract.
 use Rattle.command_line.proofs.Common.{arith, strip_prefix_char, strip_byte-from}
-use Rattle.command_line.proofs.testing.behind_hyphen.Goals as goal
+use Rattle.command_line.proofs.testing.after_hyphen.Goals as goal
 
 pub returns : goal.returns
 returns c = strip_byte-from 45 c.args.arg.now c.strip_prefix.result
