@@ -1,14 +1,11 @@
 -- Lists of bytes and the numbers that they spell, the highest byte first.
-use Rattle.std.proofs.Common.{◌≡◌, ℕ, zero, suc, ◌+◌, ◌*◌, ◌/◌, ◌%◌, ◌^◌, ◌<◌, ◌≤◌, List, [], ◌∷◌, ◌++◌, length, get_or, take, drop, refl}
-use Rattle.std.proofs.Common.{sym, ap, ◌∙◌, arith, inl, inr, All, take-append-drop}
-use Rattle.std.proofs.lemmas.List.{get_or-take, get_or-drop, get_or_past, length-take, length-take-le}
-use Rattle.std.proofs.lemmas.List.Elements.{All-get_or}
+use Rattle.cdma_io.proofs.Common.{◌≡◌, ℕ, zero, suc, ◌+◌, ◌*◌, ◌/◌, ◌%◌, ◌^◌, ◌<◌, ◌≤◌, List, [], ◌∷◌, ◌++◌, length, get_or, take, drop, ap}
+use Rattle.cdma_io.proofs.Common.{refl, sym, ◌∙◌, arith, inl, inr, All, take-append-drop, get_or-take, get_or-drop, get_or_past, All-get_or}
+use Rattle.cdma_io.proofs.Common.{length-take, length-take-le, byte_at, bytes_high_first, big_bytes, big_from, big_number, big_from-append}
+use Rattle.cdma_io.proofs.Common.{big_from-cons, big_from-lt}
 use Rattle.std.proofs.lemmas.Bool.{cases_lt}
 use Rattle.std.proofs.Math.Nat.{div-one, one-le-pow, mul-add-div_right, mul-add-mod_self_right, mod-eq_of_lt}
 use Rattle.std.proofs.lemmas.Nat.{pow-add, div-mul-add}
-use Rattle.std.specs.Int.{byte_at, bytes_high_first}
-use Rattle.byteorder.specs.Endian.{big_bytes, big_from, big_number}
-use Rattle.byteorder.specs.Numbers.{big_from-append, big_from-cons, big_from-lt}
 
 -- each is below 256
 abbrev pub AreBytes : List ℕ → Type 0

@@ -1,14 +1,8 @@
 -- Lemmas on a reader of a file that is lawful.
-use Rattle.std.proofs.Common.{◌≡◌, ℕ, ◌*◌, ◌≤◌, List, length, take, drop, refl, ap, ◌∙◌, arith, All, Option, None, Some, Result, Ok, Err}
-use Rattle.std.specs.Prelude.{MatchResult}
-use Rattle.std.specs.List.{flat_map}
-use Rattle.std.specs.Io.KnownBytes.{Consumes}
-use Rattle.chip_core.specs.declared.sample.Sample.{Sample}
-use Rattle.cdma_io.specs.declared.file_fault.FileFault.{FileFault}
-use Rattle.cdma_io.specs.declared.file_fault.FileFault.TheVariants.{Magic, Version, Flags, Count, Short, Extra, ReadFault, TooFew}
-use Rattle.cdma_io.specs.declared.header.Header.{Header}
-use Rattle.chip_core.specs.declared.width.Width.{Width}
-use Rattle.cdma_io.specs.SampleFile.{CutsShort, HasBits, IsSampleFile, Opens, Reading, opening, sample_len, sample_spelling, width_of}
+use Rattle.cdma_io.proofs.Common.{◌≡◌, ℕ, ◌*◌, ◌≤◌, List, length, take, drop, refl, ap, ◌∙◌, arith, All, Option, None, Some, Result, Ok}
+use Rattle.cdma_io.proofs.Common.{Err, MatchResult, flat_map, Consumes, Sample, FileFault, Magic, Version, Flags, Count, Short, Extra}
+use Rattle.cdma_io.proofs.Common.{ReadFault, TooFew, Header, Width, CutsShort, HasBits, IsSampleFile, Opens, Reading, opening, sample_len}
+use Rattle.cdma_io.proofs.Common.{sample_spelling, width_of}
 use Rattle.cdma_io.proofs.Opening.{opening-spelled}
 use Rattle.cdma_io.proofs.Spelling.{length-samples, next_samples, sample_len-mono}
 

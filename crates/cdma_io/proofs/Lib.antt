@@ -1,5 +1,5 @@
--- The modules of lemmas of `cdma_io`.
 pub mod ByteNumbers
+pub mod Common
 pub mod Files
 pub mod Moves
 pub mod Opening

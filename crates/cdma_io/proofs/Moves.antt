@@ -1,13 +1,9 @@
 -- Lemmas on bytes that move from a source to a buffer, and from a list to a sink.
-use Rattle.std.proofs.Common.{◌≡◌, ℕ, ◌+◌, ◌-◌, ◌≤◌, List, [], ◌++◌, length, take, drop, sym, ap, ◌∙◌, subst, arith, length-drop}
-use Rattle.std.proofs.Common.{append-nil, le_refl, drop_at, Option}
-use Rattle.std.specs.Io.KnownBytes.{Appends, Consumes}
-use Rattle.std.proofs.KnownBytes.{Appends-trans, Consumes-trans}
-use Rattle.std.proofs.lemmas.Slice.{take-put_mid_below}
+use Rattle.cdma_io.proofs.Common.{◌≡◌, ℕ, ◌+◌, ◌-◌, ◌≤◌, List, [], ◌++◌, length, take, drop, sym, ap, ◌∙◌, subst, arith, length-drop}
+use Rattle.cdma_io.proofs.Common.{append-nil, le_refl, drop_at, Option, Appends, Consumes, Appends-trans, Consumes-trans, take_all, take_at}
+use Rattle.cdma_io.proofs.Common.{take-put_mid_below, take-append-drop, drop-drop, length-take-le, ConsumesAtMost}
 use borrow.Rule.Slice.PartMut.{put_mid, post_of}
 use lib.Seq.{take-add, take-append-le}
-use Rattle.std.proofs.lemmas.List.{take_all, take_at, take-append-drop, drop-drop, length-take-le}
-use Rattle.cdma_io.specs.Outside.{ConsumesAtMost}
 
 -- n bytes were copied from the place to the buffer's front
 pub moved : (bytes buf copied : List ℕ) (at n : ℕ) → at + n ≤ length bytes →

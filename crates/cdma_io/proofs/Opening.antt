@@ -1,26 +1,18 @@
 -- Lemmas on the header of a file, and on what opening a file answers.
-use Rattle.std.proofs.Common.{◌≡◌, ℕ, ◌+◌, ◌-◌, ◌*◌, ◌/◌, ◌%◌, ◌<◌, ◌≤◌, Bool, true, false, cond, eqb, leb, ltb, List, [], ◌++◌, length}
-use Rattle.std.proofs.Common.{take, drop, refl, sym, ap, ◌∙◌, subst, arith, inl, inr, length-append, length-drop, append-nil, Option, None}
-use Rattle.std.proofs.Common.{Some, IfSome, Result, Ok, Err}
+use Rattle.cdma_io.proofs.Common.{◌≡◌, ℕ, ◌+◌, ◌-◌, ◌*◌, ◌/◌, ◌%◌, ◌<◌, ◌≤◌, Bool, true, false, cond, eqb, leb, ltb, List, [], ◌++◌, length}
+use Rattle.cdma_io.proofs.Common.{take, drop, refl, sym, ap, ◌∙◌, subst, arith, inl, inr, length-append, length-drop, append-nil, Option}
+use Rattle.cdma_io.proofs.Common.{None, Some, IfSome, Result, Ok, Err, drop-append-le, drop-drop, drop_all, take_all, length-take-le, Magic}
+use Rattle.cdma_io.proofs.Common.{Consumes, IsAtEnd, starts_with, big_bytes, big_number, big_from-append, big_number-reads_back, FileFault}
+use Rattle.cdma_io.proofs.Common.{Version, Flags, Count, Short, Header, Width, Sixteen, Eight, IsLawfulHeader, Opens, Reading, flags_of}
+use Rattle.cdma_io.proofs.Common.{form_flag, check_form_of, header_due, header_spelling, is_version, magic, most_samples, opening, width_in}
+use Rattle.cdma_io.proofs.Common.{width_of}
 use Rattle.std.proofs.lemmas.Bool.{cond-true, cond-false, lt-ltb, ltb-true, le-ltb, le-leb, leb-true, lt-leb, eqb-true, eq-eqb}
 use Rattle.std.proofs.lemmas.Bool.Decides.{Decides-eqb, eqb_tells}
-use Rattle.std.proofs.lemmas.List.{drop-append-le, drop-drop, drop_all, take_all, length-take-le}
 use Rattle.std.proofs.lemmas.Slice.Eq.{starts_is}
 use lib.Seq.{take-append-le}
-use Rattle.std.specs.Io.KnownBytes.{Consumes, IsAtEnd}
-use Rattle.std.specs.List.{starts_with}
 use Rattle.std.specs.Cmp.Lexicographic.{pointwise}
-use Rattle.byteorder.specs.Endian.{big_bytes, big_number}
-use Rattle.byteorder.specs.Numbers.{big_from-append, big_number-reads_back}
 use Rattle.chip_core.specs.declared.check_form.CheckForm.{CheckForm}
 use Rattle.chip_core.specs.declared.check_form.CheckForm.TheVariants.{Plain, Complemented}
-use Rattle.cdma_io.specs.declared.file_fault.FileFault.{FileFault}
-use Rattle.cdma_io.specs.declared.file_fault.FileFault.TheVariants.{Magic, Version, Flags, Count, Short}
-use Rattle.cdma_io.specs.declared.header.Header.{Header}
-use Rattle.chip_core.specs.declared.width.Width.{Width}
-use Rattle.chip_core.specs.declared.width.Width.TheVariants.{Sixteen, Eight}
-use Rattle.cdma_io.specs.SampleFile.{IsLawfulHeader, Opens, Reading, flags_of, form_flag, check_form_of, header_due, header_spelling}
-use Rattle.cdma_io.specs.SampleFile.{is_version, magic, most_samples, opening, width_in, width_of}
 use Rattle.cdma_io.proofs.ByteNumbers.{AreBytes, AreBytes-drop, big_bytes-front}
 
 -- ---- the three numbers of a header

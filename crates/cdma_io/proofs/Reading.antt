@@ -1,19 +1,9 @@
 -- Lemmas on reading samples piece by piece.
-use Rattle.std.proofs.Common.{◌≡◌, ℕ, ◌+◌, ◌*◌, ◌<◌, ◌≤◌, List, ◌++◌, length, take, sym, ap, ◌∙◌, subst, arith, length-append, take_all, All}
-use Rattle.std.proofs.Common.{Option, None, Some, Result, Err}
-use Rattle.std.specs.List.{flat_map}
-use Rattle.std.specs.Io.KnownBytes.{Consumes, IsAtEnd}
-use Rattle.std.proofs.KnownBytes.{Consumes-trans}
-use Rattle.std.proofs.lemmas.List.{length-take-le}
-use Rattle.std.proofs.lemmas.List.Concat.{flat_map-append}
-use Rattle.std.proofs.lemmas.List.Elements.{All-append}
+use Rattle.cdma_io.proofs.Common.{◌≡◌, ℕ, ◌+◌, ◌*◌, ◌<◌, ◌≤◌, List, ◌++◌, length, take, sym, ap, ◌∙◌, subst, arith, length-append, take_all}
+use Rattle.cdma_io.proofs.Common.{All, Option, None, Some, Result, Err, flat_map, Consumes, IsAtEnd, Consumes-trans, length-take-le, Sample}
+use Rattle.cdma_io.proofs.Common.{flat_map-append, All-append, FileFault, Magic, Version, Flags, Count, Short, Extra, ReadFault, TooFew}
+use Rattle.cdma_io.proofs.Common.{ConsumesAtMost, ConsumesFewer, Width, CutsShort, HasBits, sample_len, sample_spelling}
 use borrow.Rule.Slice.PartMut.{put_mid}
-use Rattle.chip_core.specs.declared.sample.Sample.{Sample}
-use Rattle.cdma_io.specs.declared.file_fault.FileFault.{FileFault}
-use Rattle.cdma_io.specs.declared.file_fault.FileFault.TheVariants.{Magic, Version, Flags, Count, Short, Extra, ReadFault, TooFew}
-use Rattle.cdma_io.specs.Outside.{ConsumesAtMost, ConsumesFewer}
-use Rattle.chip_core.specs.declared.width.Width.{Width}
-use Rattle.cdma_io.specs.SampleFile.{CutsShort, HasBits, sample_len, sample_spelling}
 use Rattle.cdma_io.proofs.Moves.{filled_more}
 use Rattle.cdma_io.proofs.Spelling.{length-samples, sample_len-mono}
 

@@ -1,23 +1,14 @@
 -- Lemmas on the bytes of samples.
-use Rattle.std.proofs.Common.{◌≡◌, ℕ, ◌+◌, ◌-◌, ◌*◌, ◌^◌, ◌<◌, ◌≤◌, ℤ, List, [], ◌∷◌, ◌++◌, length, get_or, take, drop, refl, sym, ap, ◌∙◌}
-use Rattle.std.proofs.Common.{subst, arith, set, append-nil, append_assoc, length-append, length-drop, take-append-drop, drop_at, All}
-use Rattle.std.proofs.lemmas.List.{length-take-le, take_all, take_more_set}
-use Rattle.std.proofs.lemmas.List.Concat.{flat_map-append}
+use Rattle.cdma_io.proofs.Common.{◌≡◌, ℕ, ◌+◌, ◌-◌, ◌*◌, ◌^◌, ◌<◌, ◌≤◌, ℤ, List, [], ◌∷◌, ◌++◌, length, get_or, take, drop, refl, sym, ap}
+use Rattle.cdma_io.proofs.Common.{◌∙◌, subst, arith, set, append-nil, append_assoc, length-append, length-drop, take-append-drop, drop_at}
+use Rattle.cdma_io.proofs.Common.{All, length-take-le, take_all, take_more_set, flat_map-append, All-head, All-push, All-tail, of_z-to_z}
+use Rattle.cdma_io.proofs.Common.{to_z-of_z, w8, w16, cast_signed, cast_unsigned, FitsSigned, flat_map, big_bytes, big_number, big_from-lt}
+use Rattle.cdma_io.proofs.Common.{big_number-reads_back, length-bytes_high_first, Sample, Width, Sixteen, Eight, HasBits, integer_width_of}
+use Rattle.cdma_io.proofs.Common.{part_len, part_spelling, sample_len, sample_spelling}
 use lib.Seq.{take-add}
-use Rattle.std.proofs.lemmas.List.Elements.{All-head, All-push, All-tail}
-use Rattle.std.proofs.lemmas.Int.{of_z-to_z, to_z-of_z}
 use Rattle.std.proofs.Math.Facts.{Fits-of_z}
-use Rattle.std.specs.Int.{w8, w16, cast_signed, cast_unsigned}
-use Rattle.std.specs.Prelude.{FitsSigned}
 use mir.Val.{bits}
 use Rattle.std.proofs.Math.Nat.{mod-eq_of_lt, mul-le-mul_left}
-use Rattle.std.specs.List.{flat_map}
-use Rattle.byteorder.specs.Endian.{big_bytes, big_number}
-use Rattle.byteorder.specs.Numbers.{big_from-lt, big_number-reads_back, length-bytes_high_first}
-use Rattle.chip_core.specs.declared.sample.Sample.{Sample}
-use Rattle.chip_core.specs.declared.width.Width.{Width}
-use Rattle.chip_core.specs.declared.width.Width.TheVariants.{Sixteen, Eight}
-use Rattle.cdma_io.specs.SampleFile.{HasBits, integer_width_of, part_len, part_spelling, sample_len, sample_spelling}
 use Rattle.cdma_io.proofs.ByteNumbers.{AreBytes, AreBytes-take, AreBytes-drop, big_bytes-number, big_number-take}
 
 -- the part in the first bytes of a list

@@ -1,10 +1,6 @@
 -- A file's bytes fix its header and its samples.
-use Rattle.std.proofs.Common.{◌≡◌, ℕ, List, Ok, sym, ap, ◌∙◌, drop, drop_at, subst, All}
-use Rattle.std.specs.List.{flat_map}
-use Rattle.chip_core.specs.declared.sample.Sample.{Sample}
-use Rattle.cdma_io.specs.declared.header.Header.{Header}
-use Rattle.chip_core.specs.declared.width.Width.{Width}
-use Rattle.cdma_io.specs.SampleFile.{HasBits, IsSampleFile, header_spelling, opening, sample_spelling, width_of}
+use Rattle.cdma_io.proofs.Common.{◌≡◌, ℕ, List, Ok, sym, ap, ◌∙◌, drop, drop_at, subst, All, flat_map, Sample, Header, Width, HasBits}
+use Rattle.cdma_io.proofs.Common.{IsSampleFile, header_spelling, opening, sample_spelling, width_of}
 use Rattle.cdma_io.proofs.Opening.{length-header_spelling, opening-spelled}
 use Rattle.cdma_io.proofs.Spelling.{flat_map-sample_spelling}
 

@@ -1,4 +1,3 @@
--- The modules of definitions of `cdma_io`.
 pub mod Memory
 pub mod Outside
 pub mod SampleFile

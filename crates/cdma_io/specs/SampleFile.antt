@@ -1,10 +1,9 @@
 -- The sample file: its header and samples as bytes, and what a reader of it answers.
 use Rattle.std.specs.Prelude.{◌≡◌, ◌≢◌, ℕ, ◌+◌, ◌*◌, ◌-◌, ◌/◌, ◌%◌, ◌<◌, ◌≤◌, ◌==◌, nat_eq, nat_le}
 use Rattle.std.specs.Prelude.{nat_lt, Bool, true, if◌then◌else◌, List, [], ◌∷◌, ◌++◌, length, drop}
-use Rattle.std.specs.Prelude.{All, Option, None, Some, Result, Ok, Err, OnOk, OnErr, IfErr, ℤ}
-use Rattle.std.specs.Prelude.{⊤, FitsSigned}
+use Rattle.std.specs.Prelude.{All, Option, None, Some, Result, Ok, Err, OnOk, OnErr, IfErr, ℤ, ⊤}
+use Rattle.std.specs.Prelude.{FitsSigned}
 use Rattle.std.specs.Int.{cast_unsigned, w8, w16}
-use Rattle.std.specs.Int as integers
 use Rattle.std.specs.List.{flat_map, starts_with}
 use Rattle.std.specs.Io.KnownBytes.{Consumes, IsAtEnd}
 use Rattle.byteorder.specs.Endian.{big_bytes, big_number}
@@ -18,6 +17,7 @@ use Rattle.cdma_io.specs.declared.file_fault.FileFault.TheVariants.{Short, Extra
 use Rattle.cdma_io.specs.declared.header.Header.{Header}
 use Rattle.chip_core.specs.declared.width.Width.{Width}
 use Rattle.chip_core.specs.declared.width.Width.TheVariants.{Sixteen, Eight}
+use Rattle.std.specs.Int as integers
 
 -- ---- the bytes of a file
 

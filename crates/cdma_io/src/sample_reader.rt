@@ -5,10 +5,9 @@ ghost use Rattle.std.specs.Prelude.{IfOk, OnOk, IfErr, OnErr, IfSome, IsSome, Is
 ghost use Rattle.std.specs.List.{flat_map};
 ghost use Rattle.std.specs.Io.KnownBytes.{Consumes, IsAtEnd, Keeps};
 ghost use Rattle.cdma_io.specs.Outside.{ConsumesAtMost, ConsumesFewer, Rose};
-ghost use Rattle.cdma_io.specs.SampleFile.{CutsShort, HasBits, IsLawfulHeader, Opens, Reading};
-ghost use Rattle.cdma_io.specs.SampleFile.{RunsOn, faulted, fresh_reading, header_spelling};
-ghost use Rattle.cdma_io.specs.SampleFile.{next_place, opening, sample_len, sample_spelling};
-ghost use Rattle.cdma_io.specs.SampleFile.{width_of};
+ghost use Rattle.cdma_io.specs.SampleFile.{header_spelling, sample_spelling, IsLawfulHeader, Opens};
+ghost use Rattle.cdma_io.specs.SampleFile.{fresh_reading, next_place, sample_len, CutsShort};
+ghost use Rattle.cdma_io.specs.SampleFile.{width_of, HasBits, Reading, faulted, opening, RunsOn};
 
 use crate::file_fault::FileFault;
 use crate::filling::fill;

@@ -1,12 +1,11 @@
 -- Lemmas on what is written of a sample file that breaks off, whose reading fails, or that goes on.
-use Rattle.cdma_replay.proofs.Common.{◌≡◌, ℕ, ◌+◌, ◌*◌, ◌<◌, ◌≤◌, ◌++◌, List, [], length, sym, ap, ◌∙◌, subst, arith, append_assoc}
-use Rattle.cdma_replay.proofs.Common.{length-append, Option, None, Some, Ok, flat_map-append, flat_map, Sample, Header, HasBits}
-use Rattle.cdma_replay.proofs.Common.{IsLawfulHeader, header_spelling, opening, sample_len, sample_spelling, width_of, All-append}
-use Rattle.cdma_replay.proofs.Common.{length-header_spelling, length-samples, KeptTap, front_begins, HasWritten, HearsFirst, WritesAll}
-use Rattle.cdma_replay.proofs.Common.{WritesFirst, Listening, Listens, ListenerTells, listening, Listener, Reception}
+use Rattle.cdma_replay.proofs.Common.{◌≡◌, ℕ, ◌+◌, ◌*◌, ◌<◌, ◌≤◌, ◌++◌, List, [], length, sym, ap, ◌∙◌, subst, arith, append_assoc, Option}
+use Rattle.cdma_replay.proofs.Common.{length-append, None, Some, Ok, flat_map-append, flat_map, Sample, Header, HasBits, IsLawfulHeader}
+use Rattle.cdma_replay.proofs.Common.{header_spelling, opening, sample_len, sample_spelling, width_of, All-append, length-header_spelling}
+use Rattle.cdma_replay.proofs.Common.{length-samples, KeptTap, front_begins, HasWritten, HearsFirst, WritesAll, WritesFirst, Listening}
+use Rattle.cdma_replay.proofs.Common.{Listens, ListenerTells, listening, Listener, Reception, no_fewer, lost, same_header}
 use Rattle.cdma_replay.proofs.Hearings.{more_after}
 use Rattle.cdma_replay.proofs.Lines.{HasBegun, writes_whole}
-use Rattle.owed_replies.proofs.CutFiles.{no_fewer, lost, same_header}
 
 -- the first samples were read and told of, and those after them so far as they were heard
 pub has_written : {taps : List KeptTap} {r : Reception} {header : Header} {samples : List Sample}

@@ -1,10 +1,10 @@
 -- Lemmas on the events of a trial, counted one by one.
-use Rattle.cdma_replay.proofs.Common.{◌≡◌, ℕ, ◌+◌, ◌≤◌, Bool, true, false, List, [], ◌∷◌, ◌++◌, length, take, drop, refl, sym, ap, ◌∙◌}
-use Rattle.cdma_replay.proofs.Common.{subst, arith, length-append, map, filter, drop-map, take-map, take_all, filter-append, take-add}
-use Rattle.cdma_replay.proofs.Common.{of_sample, Sample, made_samples, sample_with, samples_of, CellPlan, CellState, trial_plan, Width}
-use Rattle.cdma_replay.proofs.Common.{Sixteen, best_phase, length-made, events, StandsFor, Tuning, Event, Mobile, LeavesRoom, count_of}
-use Rattle.cdma_replay.proofs.Common.{counts_of, counts_with, is_frame, is_good, is_page, is_sync, one_if, summary, trial_line}
-use Rattle.cdma_replay.proofs.Common.{trial_samples, trial_span, trial_tuning, Counts}
+use Rattle.cdma_replay.proofs.Common.{◌≡◌, ℕ, ◌+◌, ◌≤◌, Bool, true, false, List, [], ◌∷◌, ◌++◌, length, take, drop, refl, sym, ap, ◌∙◌, map}
+use Rattle.cdma_replay.proofs.Common.{subst, arith, length-append, filter, drop-map, take-map, take_all, filter-append, take-add, of_sample}
+use Rattle.cdma_replay.proofs.Common.{Sample, made_samples, sample_with, samples_of, CellPlan, CellState, trial_plan, Width, Sixteen, Event}
+use Rattle.cdma_replay.proofs.Common.{best_phase, length-made, events, StandsFor, Tuning, Mobile, LeavesRoom, count_of, counts_of, is_frame}
+use Rattle.cdma_replay.proofs.Common.{counts_with, is_good, is_page, is_sync, one_if, summary, trial_line, trial_samples, trial_span}
+use Rattle.cdma_replay.proofs.Common.{trial_tuning, Counts}
 use Rattle.cdma_replay.proofs.Hearings.{all_given, taken_more}
 
 -- ---- one event more

@@ -1,10 +1,9 @@
 -- A listener hears the samples after the first ones, piece by piece, to the end of the file.
-use Rattle.cdma_replay.proofs.Common.{◌≡◌, ℕ, ◌+◌, ◌-◌, ◌≤◌, ◌++◌, [], List, length, take, sym, subst, arith, append_assoc, append-nil}
-use Rattle.cdma_replay.proofs.Common.{length-append, length-take-le, All, Option, flat_map-append, flat_map, Consumes, Keeps, Consumes-kept}
+use Rattle.cdma_replay.proofs.Common.{◌≡◌, ℕ, ◌+◌, ◌-◌, ◌≤◌, ◌++◌, [], List, length, take, sym, subst, arith, append_assoc, append-nil, All}
+use Rattle.cdma_replay.proofs.Common.{length-append, length-take-le, Option, flat_map-append, flat_map, Consumes, Keeps, Consumes-kept}
 use Rattle.cdma_replay.proofs.Common.{Consumes-nil, Consumes-trans, All-append, Width, ConsumesAtMost, HasBits, sample_spelling, Sample}
 use Rattle.cdma_replay.proofs.Common.{KeptTap, HearsFirst, PassesSamples, LosesSamples, HearsRest, Listening, Listens, ListenerTells}
-use Rattle.cdma_replay.proofs.Common.{GainsPrefix}
-use Rattle.cdma_replay.proofs.Common.{Listener}
+use Rattle.cdma_replay.proofs.Common.{GainsPrefix, Listener}
 use Rattle.cdma_replay.proofs.Hearings.{all_part, more_after, more_none, part_after}
 
 -- a source lost the spellings of so many samples, and one listener became the other by hearing them,

@@ -1,23 +1,18 @@
 -- Lemmas on a handset whose events are told to a sink.
 use Rattle.cdma_replay.proofs.Common.{◌≡◌, ℕ, zero, suc, ◌+◌, ◌-◌, ◌≤◌, ◌++◌, ◌∷◌, [], List, length, take, drop, refl, sym, ap, ◌∙◌, subst}
-use Rattle.cdma_replay.proofs.Common.{arith, append_assoc, append-nil, length-append, ℤ, pos, replicate, Option, None, Some, Result}
-use Rattle.cdma_replay.proofs.Common.{Ok, Err, OnOk, length-replicate, take_all, take_at, take_rest, flat_map-append, flat_map}
-use Rattle.cdma_replay.proofs.Common.{range_with_len, StartsWith, Appends, Appends-nil, Appends-trans, places, places-more}
-use Rattle.cdma_replay.proofs.Common.{flat_map_ext_places, Sample, AppendsPrefix, events, events_at, heard_within, event_list, ForSome}
-use Rattle.cdma_replay.proofs.Common.{Traffic}
-use Rattle.cdma_replay.proofs.Common.{IsLawfulTraffic, IsSoundAssignment, AreNear, low_of, IsStep, StandsFor, Steps, events_left, has_room}
-use Rattle.cdma_replay.proofs.Common.{IsTimed, Tuning, sync_stream, tuning_by, Channel, Event, Pilot, Mobile, Step, KeptTap}
-use Rattle.cdma_replay.proofs.Common.{heard_text, run_taps, run_text, taps_after, run_taps-append, run_taps-more, run_text-append}
-use Rattle.cdma_replay.proofs.Common.{run_text-more, run_text-none, begins_more, front_begins, prefix_before, prefix_after, taken_begins}
-use Rattle.cdma_replay.proofs.Common.{ListensTuned, TellsTuned, TellsTunedPart, tuned_room, stands_near, text_of_nothing, TunedListener}
-use Rattle.cdma_replay.proofs.Common.{TunedText, events_sooner, timed_of, IsBestIn, near_deltas, Near, Best}
-use Rattle.cdma_replay.proofs.Common.{best_energy-only, best_phase-only, Settings, AreNearTo, AreReady, BeginsAfter, ByFrames, ByTaps}
-use Rattle.cdma_replay.proofs.Common.{HasRoom, HasRoomFor, HasTold, IsFreshListener, Listening, Listens, Nobody, HandsetGave, ListenerTells}
-use Rattle.cdma_replay.proofs.Common.{IfOk, GainsText, Rank, event_line, ranks_text}
-use Rattle.cdma_replay.proofs.Common.{GainsPrefix, told, tuning_for, Listener, heard_none}
-use Rattle.std.proofs.Common.{Box, Global}
-use Rattle.std.proofs.lemmas.List.{take-append-drop}
-use Rattle.pilot_search.specs.Search.{best_phase, energy as energy_at}
+use Rattle.cdma_replay.proofs.Common.{arith, append_assoc, append-nil, length-append, ℤ, pos, replicate, Option, None, Some, Result, Ok}
+use Rattle.cdma_replay.proofs.Common.{Err, OnOk, length-replicate, take_all, take_at, take_rest, flat_map-append, flat_map, range_with_len}
+use Rattle.cdma_replay.proofs.Common.{StartsWith, Appends, Appends-nil, Appends-trans, places, places-more, flat_map_ext_places, Sample}
+use Rattle.cdma_replay.proofs.Common.{AppendsPrefix, events, events_at, heard_within, event_list, ForSome, Traffic, IsLawfulTraffic, low_of}
+use Rattle.cdma_replay.proofs.Common.{IsSoundAssignment, AreNear, IsStep, StandsFor, Steps, events_left, has_room, IsTimed, Tuning, Channel}
+use Rattle.cdma_replay.proofs.Common.{sync_stream, tuning_by, Event, Pilot, Mobile, Step, KeptTap, heard_text, run_taps, run_text, timed_of}
+use Rattle.cdma_replay.proofs.Common.{taps_after, run_taps-append, run_taps-more, run_text-append, run_text-more, run_text-none, TellsTuned}
+use Rattle.cdma_replay.proofs.Common.{begins_more, front_begins, prefix_before, prefix_after, taken_begins, ListensTuned, TellsTunedPart}
+use Rattle.cdma_replay.proofs.Common.{tuned_room, stands_near, text_of_nothing, TunedListener, TunedText, events_sooner, IsBestIn, Near}
+use Rattle.cdma_replay.proofs.Common.{near_deltas, Best, best_energy-only, best_phase-only, Settings, AreNearTo, AreReady, BeginsAfter, Box}
+use Rattle.cdma_replay.proofs.Common.{ByFrames, ByTaps, HasRoom, HasRoomFor, HasTold, IsFreshListener, Listening, Listens, Nobody, IfOk}
+use Rattle.cdma_replay.proofs.Common.{HandsetGave, ListenerTells, GainsText, Rank, event_line, ranks_text, GainsPrefix, told, tuning_for}
+use Rattle.cdma_replay.proofs.Common.{Listener, heard_none, Global, take-append-drop, best_phase, energy as energy_at}
 use Rattle.cdma_replay.specs.declared.listener.Listener.TheVariants as by
 
 -- ---- samples that follow one another

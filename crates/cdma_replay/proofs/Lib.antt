@@ -1,4 +1,3 @@
--- The modules of lemmas of `cdma_replay`.
 pub mod Broken
 pub mod Common
 pub mod HeardRest

@@ -1,19 +1,15 @@
 -- Lemmas on the text that is written, and on the file whose beginning it tells of.
 use Rattle.cdma_replay.proofs.Common.{◌≡◌, ℕ, ◌+◌, ◌≤◌, ◌++◌, List, [], length, take, refl, sym, ap, ◌∙◌, subst, arith, inr, append_assoc}
-use Rattle.cdma_replay.proofs.Common.{append-nil, length-append, All, Option, None, Some, IfSome}
-use Rattle.cdma_replay.proofs.Common.{take_at, flat_map-append, All-append, flat_map, StartsWith, Appends, Consumes, IsAtEnd, Appends-trans}
-use Rattle.cdma_replay.proofs.Common.{Consumes-nil, Consumes-trans, Sample, Header, AppendsPrefix, HasBits, IsLawfulHeader, header_spelling}
-use Rattle.cdma_replay.proofs.Common.{sample_spelling, width_of, IsBestIn, best_phase, best_phase-only, best_energy-only, Pilot, event_line}
-use Rattle.cdma_replay.proofs.Common.{KeptTap, Rank, begins_more, prefix_of, taken_begins, Listener, Best}
-use Rattle.cdma_replay.proofs.Common.{Purpose, Find, Survey, Reception, Status, TakesSpan, WritesNoMore, WritesText}
-use Rattle.cdma_replay.proofs.Common.{BeginsAfter, LosesSamples, HearsRest, IsFreshListener, Listening, Listens, Nobody, ListenerTells}
-use Rattle.cdma_replay.proofs.Common.{GainsText, GainsPrefix}
-use Rattle.cdma_replay.proofs.Common.{best_pilot, end_when, file_end_of, file_text, first_text, is_told, listening, told, IsBest}
-use Rattle.cdma_replay.proofs.Common.{ranking, ranks_text, survey_text}
+use Rattle.cdma_replay.proofs.Common.{append-nil, length-append, All, Option, None, Some, IfSome, take_at, flat_map-append, All-append}
+use Rattle.cdma_replay.proofs.Common.{flat_map, StartsWith, Appends, Consumes, IsAtEnd, Appends-trans, Consumes-nil, Consumes-trans, Sample}
+use Rattle.cdma_replay.proofs.Common.{Header, AppendsPrefix, HasBits, IsLawfulHeader, header_spelling, sample_spelling, width_of, IsBestIn}
+use Rattle.cdma_replay.proofs.Common.{best_phase, best_phase-only, best_energy-only, Pilot, event_line, KeptTap, Rank, begins_more, Best}
+use Rattle.cdma_replay.proofs.Common.{prefix_of, taken_begins, Listener, Purpose, Find, Survey, Reception, Status, TakesSpan, WritesNoMore}
+use Rattle.cdma_replay.proofs.Common.{WritesText, BeginsAfter, LosesSamples, HearsRest, IsFreshListener, Listening, Listens, Nobody, told}
+use Rattle.cdma_replay.proofs.Common.{ListenerTells, GainsText, GainsPrefix, best_pilot, end_when, file_end_of, file_text, first_text}
+use Rattle.cdma_replay.proofs.Common.{is_told, listening, IsBest, ranking, ranks_text, survey_text, none_within, IsPurposeEnd}
 use Rattle.cdma_replay.proofs.Hearings.{more_after, part_after}
 use Rattle.cdma_replay.specs.declared.listener.Listener.TheVariants as by
-use Rattle.owed_replies.proofs.Files.{none_within}
-use Rattle.owed_replies.specs.Replies.{IsPurposeEnd}
 
 -- what is heard of a file may end for want of memory, whatever it is heard for
 pub purpose_starves : (purpose : Purpose) → IsPurposeEnd purpose Status.NoMemory

@@ -1,13 +1,11 @@
 -- Lemmas on scripts that are read, and on files of cells that are written.
-use Rattle.cdma_replay.proofs.Common.{◌≡◌, ◌≢◌, ℕ, ◌+◌, ◌<◌, ◌≤◌, List, [], ◌++◌, length, map, take, drop, refl, sym, ap, ◌∙◌, subst}
-use Rattle.cdma_replay.proofs.Common.{append_assoc, Header, arith, inl, inr, append-nil, le_refl, Option, None, Some, IfSome, IsOk, Result}
-use Rattle.cdma_replay.proofs.Common.{Ok, flat_map, Appends, Consumes, IsAtEnd, Appends-trans, cases_lt, take-append-le, take_all}
-use Rattle.cdma_replay.proofs.Common.{flat_map-append, take-add, of_sample, Sample, Width, AppendsPrefix, header_spelling, sample_spelling}
-use Rattle.cdma_replay.proofs.Common.{CellPlan, ScriptFault, OutOfMemory, named, plan_named, samples_of, header_of, prefix_before}
-use Rattle.cdma_replay.proofs.Common.{prefix_after, prefix_of, taken_begins, script_status, length-made, made_samples, WritesNoMoreMade}
-use Rattle.cdma_replay.proofs.Common.{made_file, piece_bytes}
-use Rattle.std.proofs.lemmas.List.{length-take-le, take-append-drop}
-use Rattle.owed_replies.specs.Make.{sample_bytes}
+use Rattle.cdma_replay.proofs.Common.{◌≡◌, ◌≢◌, ℕ, ◌+◌, ◌<◌, ◌≤◌, List, [], ◌++◌, length, map, take, drop, refl, sym, ap, ◌∙◌, subst, arith}
+use Rattle.cdma_replay.proofs.Common.{append_assoc, Header, inl, inr, append-nil, le_refl, Option, None, Some, IfSome, IsOk, Result, Ok}
+use Rattle.cdma_replay.proofs.Common.{flat_map, Appends, Consumes, IsAtEnd, Appends-trans, cases_lt, take-append-le, take_all, take-add}
+use Rattle.cdma_replay.proofs.Common.{flat_map-append, of_sample, Sample, Width, AppendsPrefix, header_spelling, sample_spelling, CellPlan}
+use Rattle.cdma_replay.proofs.Common.{ScriptFault, OutOfMemory, named, plan_named, samples_of, header_of, prefix_before, prefix_after}
+use Rattle.cdma_replay.proofs.Common.{prefix_of, taken_begins, script_status, length-made, made_samples, WritesNoMoreMade, made_file}
+use Rattle.cdma_replay.proofs.Common.{piece_bytes, length-take-le, take-append-drop, sample_bytes}
 use Rattle.cdma_replay.proofs.Counting.{next_made}
 use Rattle.cell_script.proofs.ScriptAnswers.{too_big}
 use Rattle.owed_replies.specs.declared.status.Status.TheVariants as Status

@@ -1,8 +1,7 @@
 -- Lemmas on the lines of ranks that are written one after the other.
-use Rattle.cdma_replay.proofs.Common.{◌≡◌, ℕ, ◌+◌, ◌-◌, ◌<◌, ◌++◌, ◌∷◌, [], List, take, drop, sym, ap, ◌∙◌, subst, arith, append-nil}
-use Rattle.cdma_replay.proofs.Common.{slice_get, Option, Some, take_more, flat_map-append, get_or_from_slice_get, slice_get_within}
-use Rattle.cdma_replay.proofs.Common.{Appends-nil, Appends-trans, Appends, AppendsPrefix, Rank, prefix_before, prefix_after, rank_line}
-use Rattle.cdma_replay.proofs.Common.{ranks_text}
+use Rattle.cdma_replay.proofs.Common.{◌≡◌, ℕ, ◌+◌, ◌-◌, ◌<◌, ◌++◌, ◌∷◌, [], List, take, drop, sym, ap, ◌∙◌, subst, arith, append-nil, Some}
+use Rattle.cdma_replay.proofs.Common.{slice_get, Option, take_more, flat_map-append, get_or_from_slice_get, slice_get_within, Appends-nil}
+use Rattle.cdma_replay.proofs.Common.{Appends-trans, Appends, AppendsPrefix, Rank, prefix_before, prefix_after, rank_line, ranks_text}
 use Rattle.cdma_replay.proofs.Hearings.{taken_joined}
 
 ranks_joined : (one other : List Rank) → ranks_text (one ++ other) ≡ ranks_text one ++ ranks_text other

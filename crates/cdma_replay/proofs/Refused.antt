@@ -1,11 +1,9 @@
 -- Lemmas on runs that move nothing: of arguments that name no job, or for want of memory.
-use Rattle.cdma_replay.proofs.Common.{◌≡◌, ℕ, List, [], Option, None, Result, Err, inl, refl, sym, ◌∙◌, arith, Appends-nil}
-use Rattle.cdma_replay.proofs.Common.{Status}
+use Rattle.cdma_replay.proofs.Common.{◌≡◌, ℕ, List, [], Option, None, Result, Err, inl, refl, sym, ◌∙◌, arith, Appends-nil, Status}
+use Rattle.cdma_replay.proofs.Common.{unread_most, IsTaskEnd}
 use Rattle.cdma_replay.proofs.Lines.{purpose_starves}
 use Rattle.command_line.specs.declared.job.Job.{Job}
 use Rattle.command_line.specs.declared.job.WordFault.{WordFault}
-use Rattle.owed_replies.proofs.Bounds.{unread_most}
-use Rattle.owed_replies.specs.Replies.{IsTaskEnd}
 use Rattle.owed_replies.specs.Runs.{RunsCommand}
 use Rattle.owed_replies.specs.Tasks.{task_of}
 use Rattle.owed_replies.specs.declared.task.Task.{Task}

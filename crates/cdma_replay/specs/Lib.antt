@@ -1,3 +1,3 @@
--- The modules of definitions of `cdma_replay`.
+pub mod Common
 pub mod Listeners
 pub mod Pilots

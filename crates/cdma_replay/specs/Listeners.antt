@@ -1,28 +1,22 @@
 -- Who hears a file on the way: what was taken and told so far, and what is still to come.
+use Rattle.cdma_replay.specs.Common.{Sample, HasBits, sample_spelling, events, Tuning, Event}
+use Rattle.cdma_replay.specs.Common.{Mobile, KeptTap, run_taps, run_text, ranks_text}
 use Rattle.std.specs.Prelude.{◌≡◌, ℕ, ◌≤◌, List, [], ◌++◌, length, take, All, Option}
 use Rattle.std.specs.List.{flat_map}
 use Rattle.std.specs.Io.KnownBytes.{Appends, Consumes}
-use Rattle.chip_core.specs.declared.sample.Sample.{Sample}
 use Rattle.chip_core.specs.declared.width.Width.{Width}
-use Rattle.cdma_io.specs.SampleFile.{HasBits, sample_spelling}
 use Rattle.cdma_io.specs.declared.header.Header.{Header}
-use Rattle.heard_events.specs.Events.{events}
 use Rattle.mobile_core.specs.Standing.{StandsFor, has_room}
-use Rattle.heard_events.specs.Tuning.{Tuning}
-use Rattle.heard_events.specs.declared.event.Event.{Event}
 use Rattle.heard_events.specs.declared.event.Event.TheVariants.{Pilot}
-use Rattle.mobile_core.specs.declared.mobile.Mobile.{Mobile}
 use Rattle.pilot_search.specs.BestIn.{IsBestIn}
 use Rattle.pilot_search.specs.declared.sweeping.Best.{Best}
 use Rattle.event_tap.specs.EventLines.{event_line}
-use Rattle.event_tap.specs.Taps.{KeptTap, run_taps, run_text}
 use Rattle.tuned_listener.specs.TunedListening.{ListensTuned, tuned_room}
 use Rattle.cdma_replay.specs.declared.listener.Listener.{Listener}
-use Rattle.cdma_replay.specs.declared.listener.Listener.TheVariants as by
 use Rattle.owed_replies.specs.Hearing.{ByFrames, ByTaps, Listening, Nobody, GainsText, first_text}
 use Rattle.owed_replies.specs.Hearing.{listening, told}
-use Rattle.owed_replies.specs.Ranks.{ranks_text}
 use Rattle.owed_replies.specs.declared.purpose.Purpose.{Purpose}
+use Rattle.cdma_replay.specs.declared.listener.Listener.TheVariants as by
 
 -- the phase of greatest energy of all
 abbrev pub IsBest : List Sample → Best → Type 0

@@ -1,9 +1,7 @@
 -- What is told of a handset before it takes any sample: its pilot.
+use Rattle.cdma_replay.specs.Common.{Tuning, Mobile, KeptTap}
 use Rattle.std.specs.Prelude.{ℕ, List, [], Option}
 use Rattle.std.specs.Io.KnownBytes.{Appends}
-use Rattle.heard_events.specs.Tuning.{Tuning}
-use Rattle.mobile_core.specs.declared.mobile.Mobile.{Mobile}
-use Rattle.event_tap.specs.Taps.{KeptTap}
 use Rattle.owed_replies.specs.Hearing.{ByTaps, told}
 use Rattle.cdma_replay.specs.Listeners.{HandsetGave}
 

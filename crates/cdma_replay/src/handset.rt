@@ -1,7 +1,7 @@
 //! How a handset is opened on the pilot's paths.
 
+ghost use Rattle.cdma_replay.specs.Common.{Sample as TheSample};
 ghost use Rattle.std.specs.Prelude.{◌≡◌, ◌≤◌, List, [], IfOk};
-ghost use Rattle.chip_core.specs.declared.sample.Sample.{Sample as TheSample};
 ghost use Rattle.mobile_core.specs.Standing.{StandsFor, has_room};
 ghost use Rattle.tuned_listener.specs.Marking.{IsUntold};
 ghost use Rattle.cdma_replay.specs.Listeners.{IsBest};

@@ -1,12 +1,9 @@
 //! Who hears the samples of a file.
 
+ghost use Rattle.cdma_replay.specs.Common.{Sample as TheSample, AppendsPrefix, HasCause, events};
+ghost use Rattle.cdma_replay.specs.Common.{Tuning, IsKept, KeptTap, run_taps};
 ghost use Rattle.std.specs.Prelude.{◌≡◌, ◌≤◌, ◌+◌, ◌++◌, List, [], length, All, OnOk, OnErr};
-ghost use Rattle.chip_core.specs.declared.sample.Sample.{Sample as TheSample};
-ghost use Rattle.cdma_io.specs.Outside.{AppendsPrefix, HasCause};
-ghost use Rattle.heard_events.specs.Events.{events};
 ghost use Rattle.mobile_core.specs.Standing.{StandsFor, has_room};
-ghost use Rattle.heard_events.specs.Tuning.{Tuning};
-ghost use Rattle.event_tap.specs.Taps.{IsKept, KeptTap, run_taps};
 ghost use Rattle.owed_replies.specs.Hearing.{ByTaps, GainsText, GainsPrefix, told};
 ghost use Rattle.cdma_replay.specs.Listeners.{HandsetGave};
 ghost use Rattle.cdma_replay.specs.Pilots.{TellsPilot};

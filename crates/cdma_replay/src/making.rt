@@ -1,14 +1,11 @@
 //! The command `make`: the samples of the cell that a script names, as a file.
 
+ghost use Rattle.cdma_replay.specs.Common.{FileFault, ConsumesAtMost, Rose, ended, MakesFile};
 ghost use Rattle.std.specs.Prelude.{◌≡◌, ◌≢◌, ◌<◌, ◌≤◌, ◌*◌, length, vec_len, Ok, Err, IsOk, IfOk};
 ghost use Rattle.std.specs.Prelude.{IfErr, OnOk, IfSome};
 ghost use Rattle.std.specs.Io.KnownBytes.{IsAtEnd};
-ghost use Rattle.cdma_io.specs.declared.file_fault.FileFault.{FileFault};
-ghost use Rattle.cdma_io.specs.Outside.{ConsumesAtMost, Rose};
 ghost use Rattle.cell_script.specs.declared.script_fault.ScriptFault.{ScriptFault};
 ghost use Rattle.cell_script.specs.Script.{plan_named};
-ghost use Rattle.owed_replies.specs.Find.{ended};
-ghost use Rattle.owed_replies.specs.TaskRuns.{MakesFile};
 
 mod writing;
 

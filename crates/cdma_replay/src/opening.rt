@@ -1,15 +1,12 @@
 //! Who hears a file for a purpose, with what its first samples show.
 
-ghost use Rattle.chip_core.specs.declared.sample.Sample.{Sample as TheSample};
+ghost use Rattle.cdma_replay.specs.Common.{Sample as TheSample, IsLawfulHeader, IsFingers};
+ghost use Rattle.cdma_replay.specs.Common.{IsWorkers, IsLawfulPurpose};
 ghost use Rattle.std.specs.Prelude.{◌≡◌, ◌≤◌, List, [], IfOk, length};
-ghost use Rattle.cdma_io.specs.SampleFile.{IsLawfulHeader};
 ghost use Rattle.cdma_io.specs.declared.header.Header.{Header as TheHeader};
-ghost use Rattle.command_line.specs.Args.{IsFingers, IsWorkers};
 ghost use Rattle.tuned_listener.specs.TunedListening.{ListensTuned, tuned_room};
 ghost use Rattle.event_tap.specs.TunedTexts.{IsLawfulTuned};
-ghost use Rattle.owed_replies.specs.Hearing.{AreNearTo, AreReady, IsLawfulHandset};
-ghost use Rattle.owed_replies.specs.Hearing.{tuning_for};
-ghost use Rattle.owed_replies.specs.Tasks.{IsLawfulPurpose};
+ghost use Rattle.owed_replies.specs.Hearing.{AreNearTo, AreReady, IsLawfulHandset, tuning_for};
 ghost use Rattle.cdma_replay.specs.Listeners.{IsBest, IsListenerFor};
 
 use crate::handset::{boxed_handset, handset, settings_for};

@@ -1,13 +1,11 @@
 //! What the process does with its arguments and its streams.
 
+ghost use Rattle.cdma_replay.specs.Common.{CountsFaults, HasCause, Rose, job_named, IsEnd};
 ghost use Rattle.std.specs.Prelude.{◌≡◌, ◌≢◌, ◌↔◌, ◌⊎◌, Bool, IfErr, IfOk, IsTrue, OnErr, OnOk};
 ghost use Rattle.std.specs.Prelude.{drop, map, true};
 ghost use Rattle.std.specs.Io.KnownBytes.{Keeps};
 ghost use Rattle.std.specs.IoError.{error_kind};
 ghost use Rattle.std.specs.Process.{exit_status};
-ghost use Rattle.cdma_io.specs.Outside.{CountsFaults, HasCause, Rose};
-ghost use Rattle.command_line.specs.Args.{job_named};
-ghost use Rattle.owed_replies.specs.Find.{IsEnd};
 ghost use Rattle.owed_replies.specs.Runs.{ExitsBy, IsPassedOn, MayHold, PassesOn, RunsCommand};
 ghost use Rattle.owed_replies.specs.Runs.{TellsEnd, each_form};
 ghost use Rattle.owed_replies.specs.Status.{code_of};

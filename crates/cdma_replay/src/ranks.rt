@@ -1,9 +1,8 @@
 //! The lines of a survey: one for each rank.
 
+ghost use Rattle.cdma_replay.specs.Common.{AppendsPrefix, HasCause, rank_line, ranks_text};
 ghost use Rattle.std.specs.Prelude.{◌≡◌, ◌≤◌, OnErr, OnOk, take};
 ghost use Rattle.std.specs.Io.KnownBytes.{Appends};
-ghost use Rattle.cdma_io.specs.Outside.{AppendsPrefix, HasCause};
-ghost use Rattle.owed_replies.specs.Ranks.{rank_line, ranks_text};
 
 use cdma_io::{Failed, Sink, write_all};
 use event_tap::Text;

@@ -1,23 +1,16 @@
 //! How a sample file is received: what its first samples show, and what is heard in all.
 
+ghost use Rattle.cdma_replay.specs.Common.{FileFault, ConsumesAtMost, Rose, sample_len, width_of};
+ghost use Rattle.cdma_replay.specs.Common.{IsKept, IsWorkers, Sample, IsLawfulPurpose, IsEnd};
+ghost use Rattle.cdma_replay.specs.Common.{IsFault, IsFaultIn, IsHeaderFault, IsRestFault, ended};
+ghost use Rattle.cdma_replay.specs.Common.{IsSearchable, TakesNoMore, TakesSpan, ReceivesFile};
 ghost use Rattle.std.specs.Prelude.{◌≡◌, ◌≢◌, ◌≤◌, ◌+◌, ◌*◌, List, length, All, Err, None, Ok};
 ghost use Rattle.std.specs.Prelude.{IfOk, OnOk, IfErr, OnErr, IfSome};
 ghost use Rattle.std.specs.Io.KnownBytes.{IsAtEnd};
-ghost use Rattle.cdma_io.specs.declared.file_fault.FileFault.{FileFault};
-ghost use Rattle.cdma_io.specs.Outside.{ConsumesAtMost, Rose};
-ghost use Rattle.cdma_io.specs.SampleFile.{sample_len, width_of};
-ghost use Rattle.event_tap.specs.Taps.{IsKept};
-ghost use Rattle.command_line.specs.Args.{IsWorkers};
-ghost use Rattle.chip_core.specs.declared.sample.Sample.{Sample};
 ghost use Rattle.cdma_replay.specs.Listeners.{HasRoom, HearsRest, Listens};
-ghost use Rattle.owed_replies.specs.Hearing.{LosesSamples, Listening};
-ghost use Rattle.owed_replies.specs.Hearing.{end_when};
-ghost use Rattle.owed_replies.specs.Tasks.{IsLawfulPurpose};
+ghost use Rattle.owed_replies.specs.Hearing.{LosesSamples, Listening, end_when};
 ghost use Rattle.owed_replies.specs.Broken.{HearsFirst, IsCut, IsLong, IsUnopened, TakesFew};
-ghost use Rattle.owed_replies.specs.Find.{IsEnd, IsFault, IsFaultIn, IsHeaderFault, IsRestFault};
-ghost use Rattle.owed_replies.specs.Find.{IsSearchable, TakesNoMore, TakesSpan, ended};
 ghost use Rattle.owed_replies.specs.Status.{file_status};
-ghost use Rattle.owed_replies.specs.TaskRuns.{ReceivesFile};
 
 use crate::listener::Listener;
 use crate::opening::listener_for;

@@ -1,12 +1,9 @@
 //! The top call: all that the program does.
 
+ghost use Rattle.cdma_replay.specs.Common.{IsWorkers, job_named, ended, IsLawfulPurpose, RunsTask};
+ghost use Rattle.cdma_replay.specs.Common.{IsLawfulTask, untapped};
 ghost use Rattle.std.specs.Prelude.{◌≡◌, ◌≤◌, ℕ, List, map};
-ghost use Rattle.command_line.specs.Args.{IsWorkers, job_named};
-ghost use Rattle.owed_replies.specs.Find.{ended};
-ghost use Rattle.owed_replies.specs.Tasks.{IsLawfulPurpose};
 ghost use Rattle.owed_replies.specs.Runs.{RunsCommand};
-ghost use Rattle.owed_replies.specs.TaskRuns.{RunsTask};
-ghost use Rattle.owed_replies.specs.Tasks.{IsLawfulTask, untapped};
 
 use crate::making::make;
 use crate::receiving::receive;

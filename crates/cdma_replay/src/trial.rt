@@ -1,20 +1,16 @@
 //! The command `trial`: a link that a number tells is made and followed, and what a handset hears
 //! of it is counted.
 
-ghost use Rattle.std.specs.Prelude.{◌≡◌, ◌≤◌, ◌+◌, ◌++◌, ◌⊎◌, List, length, Err, IfOk};
-ghost use Rattle.std.specs.Prelude.{IfErr, OnOk, OnErr, ◌<◌, take};
+ghost use Rattle.cdma_replay.specs.Common.{Sample as TheSample, AppendsPrefix, Rose, IsWorkers};
+ghost use Rattle.cdma_replay.specs.Common.{events, Tuning, Event as TheEvent};
+ghost use Rattle.std.specs.Prelude.{◌≡◌, ◌≤◌, ◌+◌, ◌++◌, ◌⊎◌, List, length, Err, IfOk, IfErr, OnOk};
+ghost use Rattle.std.specs.Prelude.{OnErr, ◌<◌, take};
 ghost use Rattle.std.specs.Io.KnownBytes.{Appends};
-ghost use Rattle.chip_core.specs.declared.sample.Sample.{Sample as TheSample};
-ghost use Rattle.cdma_io.specs.Outside.{AppendsPrefix, Rose};
 ghost use Rattle.chip_core.specs.declared.width.Width.TheVariants.{Sixteen};
-ghost use Rattle.command_line.specs.Args.{IsWorkers};
 ghost use Rattle.cell_plan.specs.Sampled.{made_samples};
 ghost use Rattle.cell_plan.specs.Transmitter.{header_of};
 ghost use Rattle.trial_link.specs.Trial.{trial_plan};
-ghost use Rattle.heard_events.specs.Events.{events};
 ghost use Rattle.mobile_core.specs.Standing.{StandsFor, has_room, steps_left};
-ghost use Rattle.heard_events.specs.Tuning.{Tuning};
-ghost use Rattle.heard_events.specs.declared.event.Event.{Event as TheEvent};
 ghost use Rattle.owed_replies.specs.Trials.{LeavesRoom, counts_of, summary, trial_line};
 ghost use Rattle.owed_replies.specs.Trials.{trial_settings};
 

@@ -3,10 +3,10 @@ use Rattle.cell_plan.proofs.Common.{◌≡◌, ℕ, zero, suc, ◌+◌, ◌-◌,
 use Rattle.cell_plan.proofs.Common.{ℤ, pos, ◌+ℤ◌, ◌*ℤ◌, unsigned_abs, Option, Some, None, ◌++◌, length, sign_unit, abs_sum, length-append}
 use Rattle.cell_plan.proofs.Common.{map, get_or, FitsSigned, le-ltb, ints, unsigned_abs-mul, fits_signed_from_abs, length-map, w8, w16}
 use Rattle.cell_plan.proofs.Common.{mul-le-mul_left, sign, origin, plus, times, Pair, Sample, split, diff-times, diff-same, distrib_right}
-use Rattle.cell_plan.proofs.Common.{code_point, walsh, CellPlan, PagingPlan, SyncPlan, TrafficPlan, integer_width_of, HasBits, Width}
-use Rattle.cell_plan.proofs.Common.{Sixteen, Eight, most_part, loudness, gain_sum, paging_gains, sync_gain, traffic_gains, Carrier}
-use Rattle.cell_plan.proofs.Common.{amplitude, amplitudes, level, level_of, scaled, sent_chip, sync_carriers, paging_carrier, pilot_carrier}
-use Rattle.cell_plan.proofs.Common.{carriers, sample_of, symbol_of, traffic_carrier}
+use Rattle.cell_plan.proofs.Common.{code_point, walsh, CellPlan, PagingPlan, SyncPlan, TrafficPlan, integer_width_of, HasBits, Width, Eight}
+use Rattle.cell_plan.proofs.Common.{Sixteen, most_part, loudness, gain_sum, paging_gains, sync_gain, traffic_gains, Carrier, amplitude}
+use Rattle.cell_plan.proofs.Common.{amplitudes, level, level_of, scaled, sent_chip, sync_carriers, paging_carrier, pilot_carrier, carriers}
+use Rattle.cell_plan.proofs.Common.{sample_of, symbol_of, traffic_carrier}
 pub use Rattle.walsh.proofs.RowTable.{walsh-pilot}
 
 -- THE SUM OF THE CHANNELS

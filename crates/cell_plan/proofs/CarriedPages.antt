@@ -1,8 +1,8 @@
 -- The pages of a paging channel whose pages are messages: what they lay carries just their capsules.
 use Rattle.cell_plan.proofs.Common.{◌≡◌, ℕ, ◌+◌, ◌≤◌, List, [], ◌∷◌, length, map, refl, sym, ap, subst, ◌∙◌, arith, Bool, All, All-cons}
-use Rattle.cell_plan.proofs.Common.{All-nil, CheckForm, capsule, M30, length-capsule, whole-capsule, Rate, HasMessage, bits_left}
-use Rattle.cell_plan.proofs.Common.{half_frame_body, laid_is_carried, rate_large, Page, PagingPlan, laid_after, page_cycle, put_of}
-use Rattle.cell_plan.proofs.Common.{AreSendable, AreHeard, IsCarried, IsStatedPaging}
+use Rattle.cell_plan.proofs.Common.{All-nil, CheckForm, capsule, M30, length-capsule, whole-capsule, Rate, HasMessage, bits_left, Page}
+use Rattle.cell_plan.proofs.Common.{half_frame_body, laid_is_carried, rate_large, PagingPlan, laid_after, page_cycle, put_of, AreSendable}
+use Rattle.cell_plan.proofs.Common.{AreHeard, IsCarried, IsStatedPaging}
 use Rattle.cell_plan.proofs.LaidPages.{length-on}
 use Rattle.paging_message.specs.Laying as laying
 

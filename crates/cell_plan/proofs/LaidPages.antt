@@ -1,9 +1,9 @@
 -- The half-frames that pages lay.
 use Rattle.cell_plan.proofs.Common.{◌≡◌, ℕ, zero, suc, ◌+◌, ◌-◌, ◌*◌, ◌/◌, ◌%◌, ◌<◌, ◌≤◌, Bool, true, false, List, [], ◌∷◌, ◌++◌, length}
 use Rattle.cell_plan.proofs.Common.{take, drop, map, get_or, replicate, refl, sym, ap, ◌∙◌, arith, length-append, length-drop, inl, inr}
-use Rattle.cell_plan.proofs.Common.{subst, flat_map, cases_lt, at_drop_more, length-replicate, length-take-le, map-append, take_all}
-use Rattle.cell_plan.proofs.Common.{take_more, div-mul-add, mod-mul-add, div-add-mod, mod-lt, mod_self, places, CheckForm, capsule, M30}
-use Rattle.cell_plan.proofs.Common.{length-capsule, Rate, half_frame_body, flat_map-places-more, flat_map-zero, padded_framed, Page}
+use Rattle.cell_plan.proofs.Common.{subst, flat_map, cases_lt, at_drop_more, length-replicate, length-take-le, map-append, take_all, mod-lt}
+use Rattle.cell_plan.proofs.Common.{take_more, div-mul-add, mod-mul-add, div-add-mod, mod_self, places, CheckForm, capsule, M30, Rate, Page}
+use Rattle.cell_plan.proofs.Common.{length-capsule, half_frame_body, flat_map-places-more, flat_map-zero, padded_framed}
 use Rattle.quality_bits.specs.declared.rate.Rate.TheVariants as rates
 use Rattle.paging_message.specs.Laying as laying
 use Rattle.cell_plan.specs.Pages as specs

@@ -1,4 +1,3 @@
--- The modules of lemmas of `cell_plan`.
 pub mod Amplitudes
 pub mod CarriedPages
 pub mod Common

@@ -1,7 +1,7 @@
 -- The bits and symbols of paging channels.
 use Rattle.cell_plan.proofs.Common.{◌≡◌, ℕ, ◌+◌, ◌*◌, ◌%◌, ◌<◌, ◌≤◌, Bool, false, List, [], ◌∷◌, ◌++◌, length, take, map, get_or, refl, sym}
-use Rattle.cell_plan.proofs.Common.{ap, ◌∙◌, arith, Some, true, not, beq, slice_get, take_more, take_all, length-take-le, places, xor}
-use Rattle.cell_plan.proofs.Common.{zip_with, taken_more, zip_push, places-none, map-places-more, repeats_of, Rate}
+use Rattle.cell_plan.proofs.Common.{ap, ◌∙◌, arith, Some, true, not, beq, slice_get, take_more, take_all, length-take-le, places, xor, Rate}
+use Rattle.cell_plan.proofs.Common.{zip_with, taken_more, zip_push, places-none, map-places-more, repeats_of}
 use Rattle.quality_bits.specs.declared.rate.Rate.TheVariants as rates
 use Rattle.cell_plan.specs.PageCycles as cycles
 

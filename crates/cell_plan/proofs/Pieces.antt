@@ -1,8 +1,7 @@
 -- Pieces of a cell's samples.
-use Rattle.cell_plan.proofs.Common.{◌≡◌, ℕ, ◌+◌, ◌<◌, ◌≤◌, List, length, get_or, take, drop, map, sym, ◌∙◌, arith, pos, get_or-drop}
-use Rattle.cell_plan.proofs.Common.{length-take-le, get_or-take, get_or-map, length-map, places, origin, of_sample, Sample}
-use Rattle.cell_plan.proofs.Common.{length-map-places, get_or-map-places, map-places-all, CellPlan, sample_of, samples_of}
-use Rattle.std.proofs.lemmas.List.{length-drop}
+use Rattle.cell_plan.proofs.Common.{◌≡◌, ℕ, ◌+◌, ◌<◌, ◌≤◌, List, length, get_or, take, drop, map, sym, ◌∙◌, arith, pos, get_or-drop, places}
+use Rattle.cell_plan.proofs.Common.{length-take-le, get_or-take, get_or-map, length-map, origin, of_sample, Sample, length-map-places}
+use Rattle.cell_plan.proofs.Common.{get_or-map-places, map-places-all, CellPlan, sample_of, samples_of, length-drop}
 
 abbrev pub no_sample : Sample
 no_sample = record { i = pos 0; q = pos 0 }

@@ -1,10 +1,9 @@
 -- The messages of transmissions, and the frames that they fill.
-use Rattle.cell_plan.proofs.Common.{◌≡◌, ℕ, ◌+◌, ◌*◌, ◌/◌, ◌%◌, ◌^◌, ◌<◌, ◌≤◌, ◌==◌, zero, suc, Bool, false, List, [], ◌∷◌, ◌++◌, length}
-use Rattle.cell_plan.proofs.Common.{get_or, take, drop, replicate, refl, sym, ap, ◌∙◌, arith, length-append, mod-lt, mul-le-mul_left}
-use Rattle.cell_plan.proofs.Common.{take_more, get_or-drop, get_or-replicate, length-replicate, FieldsFit, CheckForm, M30, length-capsule}
-use Rattle.cell_plan.proofs.Common.{superframes_of, fixed_fields, sync_body, sync_capsule, IsSyncMessage, SyncFields, admitted, fixed_fit}
-use Rattle.cell_plan.proofs.Common.{tail_of, length-body, CellIdentity, message_of, superframes_a_sending, padded_sending, sync_frame_bits}
-use Rattle.std.proofs.lemmas.List.{length-drop}
+use Rattle.cell_plan.proofs.Common.{superframes_a_sending, get_or-replicate, length-replicate, mul-le-mul_left, sync_frame_bits, SyncFields}
+use Rattle.cell_plan.proofs.Common.{length-capsule, superframes_of, padded_sending, length-append, IsSyncMessage, fixed_fields, get_or-drop}
+use Rattle.cell_plan.proofs.Common.{sync_capsule, CellIdentity, length-body, length-drop, message_of, replicate, take_more, FieldsFit, ◌==◌}
+use Rattle.cell_plan.proofs.Common.{CheckForm, sync_body, fixed_fit, admitted, tail_of, length, get_or, mod-lt, false, arith, zero, Bool, ℕ}
+use Rattle.cell_plan.proofs.Common.{List, ◌++◌, take, drop, refl, ◌≡◌, ◌+◌, ◌*◌, ◌/◌, ◌%◌, ◌^◌, ◌<◌, ◌≤◌, suc, ◌∷◌, sym, ◌∙◌, M30, [], ap}
 
 -- a message with another offset, time and state
 abbrev pub refilled : SyncFields → ℕ → ℕ → ℕ → SyncFields

@@ -1,8 +1,7 @@
 -- How many bits the frames of the sync channel have.
 use Rattle.cell_plan.proofs.Common.{◌≡◌, ℕ, suc, ◌+◌, ◌*◌, ◌/◌, ◌%◌, ◌≤◌, false, ◌++◌, length, take, drop, replicate, refl, ap, ◌∙◌, arith}
-use Rattle.cell_plan.proofs.Common.{length-take-le, sync_capsule, SyncFields, CellIdentity, message_of, padded_sending}
-use Rattle.cell_plan.proofs.Common.{superframes_a_sending, sync_frame_bits}
-use Rattle.std.proofs.lemmas.List.{length-append, length-drop}
+use Rattle.cell_plan.proofs.Common.{length-take-le, sync_capsule, SyncFields, CellIdentity, message_of, padded_sending, sync_frame_bits}
+use Rattle.cell_plan.proofs.Common.{superframes_a_sending, length-append, length-drop}
 use Rattle.cell_plan.proofs.SentMessages.{piece_within, superframes_some}
 
 frame_bits-is : (cell : CellIdentity) (m : SyncFields) (frame : ℕ) →

@@ -1,4 +1,4 @@
--- The modules of definitions of `cell_plan`.
+pub mod Common
 pub mod Pages
 pub mod PageCycles
 pub mod Plan

@@ -1,15 +1,10 @@
 -- Pages, and the half-frames in which a paging channel sends them (TIA/EIA-95-B, 7.7.2.1).
-use Rattle.std.specs.Prelude.{ℕ, ◌+◌, ◌-◌, ◌/◌, ◌≤◌, ◌==◌, if◌then◌else◌, Bool, List, [], ◌∷◌}
-use Rattle.std.specs.Prelude.{length, map, Option, None, Some}
-use Rattle.chip_core.specs.declared.check_form.CheckForm.{CheckForm}
-use Rattle.quality_bits.specs.Capsules.{capsule, FillsCapsule}
-use Rattle.quality_bits.specs.declared.kind.Kind.TheVariants.{M30}
-use Rattle.quality_bits.specs.declared.rate.Rate.{Rate}
+use Rattle.cell_plan.specs.Common.{CheckForm, capsule, FillsCapsule, M30, Rate, half_frame_body}
+use Rattle.cell_plan.specs.Common.{Page, SyncPlan}
+use Rattle.std.specs.Prelude.{ℕ, ◌+◌, ◌-◌, ◌/◌, ◌≤◌, ◌==◌, if◌then◌else◌, Bool, List, [], ◌∷◌, map}
+use Rattle.std.specs.Prelude.{length, Option, None, Some}
 use Rattle.quality_bits.specs.declared.rate.Rate.TheVariants.{R9600, R4800}
-use Rattle.paging_message.specs.HalfFrames.{half_frame_body}
 use Rattle.paging_message.specs.Laying.{fill, half_frames_of, laid_all, nothing_laid, Laid, Put}
-use Rattle.cell_plan.specs.declared.plan.Page.{Page}
-use Rattle.cell_plan.specs.declared.plan.SyncPlan.{SyncPlan}
 
 -- the rate of a cell's paging channels: 4800 where its sync message has PRAT 1, and else 9600
 -- (7.7.1.3)

@@ -1,18 +1,10 @@
 -- Which cells a script may name.
+use Rattle.cell_plan.specs.Common.{IsState, Width, Sixteen, Eight, IsSyncMessage, Rate, PagingPlan}
+use Rattle.cell_plan.specs.Common.{half_frame_body, TrafficPlan, CellPlan, SyncPlan}
 use Rattle.std.specs.Prelude.{ℕ, ◌+◌, ◌*◌, ◌<◌, ◌≤◌, ◌^◌, ◌≢◌, All, List, [], ◌∷◌, length, Option}
 use Rattle.std.specs.Prelude.{Some, None, unsigned_abs}
-use Rattle.long_code.specs.LongCode.{IsState}
 use Rattle.cdma_io.specs.SampleFile.{most_samples}
-use Rattle.chip_core.specs.declared.width.Width.{Width}
-use Rattle.chip_core.specs.declared.width.Width.TheVariants.{Sixteen, Eight}
-use Rattle.sync_message.specs.SyncMessage.{IsSyncMessage}
-use Rattle.quality_bits.specs.declared.rate.Rate.{Rate}
-use Rattle.paging_message.specs.HalfFrames.{half_frame_body}
 use Rattle.cell_plan.specs.Pages.{sent_paging_rate, AreSendable}
-use Rattle.cell_plan.specs.declared.plan.PagingPlan.{PagingPlan}
-use Rattle.cell_plan.specs.declared.plan.TrafficPlan.{TrafficPlan}
-use Rattle.cell_plan.specs.declared.plan.CellPlan.{CellPlan}
-use Rattle.cell_plan.specs.declared.plan.SyncPlan.{SyncPlan}
 use Rattle.cell_plan.specs.TrafficFrames.{IsTrafficFrame}
 
 -- the greatest absolute value of a part of a sample

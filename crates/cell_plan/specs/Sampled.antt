@@ -1,8 +1,7 @@
 -- The samples of a cell as a sample file holds them.
+use Rattle.cell_plan.specs.Common.{Pair, CellPlan}
 use Rattle.std.specs.Prelude.{List, map}
-use Rattle.chip_core.specs.declared.sample.Pair.{Pair}
 use Rattle.chip_core.specs.declared.sample.Sample.{Sample}
-use Rattle.cell_plan.specs.declared.plan.CellPlan.{CellPlan}
 use Rattle.cell_plan.specs.Signal.{samples_of}
 
 -- the sample with the parts of a complex number

@@ -1,19 +1,13 @@
 -- The signal of a cell, chip by chip, and the samples that a handset receives of it
 -- (TIA/EIA-95-B, 7.1.3.1).
+use Rattle.cell_plan.specs.Common.{origin, plus, times, Pair, walsh, CellPlan, SyncPlan, PagingPlan}
+use Rattle.cell_plan.specs.Common.{paging_mask, traffic_mask, TrafficPlan}
 use Rattle.std.specs.Prelude.{ℕ, ◌+◌, ◌-◌, ◌*◌, ◌/◌, ◌%◌, Bool, false, if◌then◌else◌, nat_lt, List}
 use Rattle.std.specs.Prelude.{[], ◌∷◌, ◌++◌, map, get_or, ℤ, pos, ◌+ℤ◌, ◌*ℤ◌, Option, Some, None}
 use Rattle.chip_core.specs.Air.{data_frame_chips, frame_offset_chips}
 use Rattle.chip_core.specs.Bits.{sign, places}
-use Rattle.chip_core.specs.Complex.{origin, plus, times}
-use Rattle.chip_core.specs.declared.sample.Pair.{Pair}
 use Rattle.short_code.specs.Despread.{code_point}
-use Rattle.walsh.specs.Walsh.{walsh}
 use Rattle.cell_plan.specs.declared.form.ChannelForm.{ChannelForm}
-use Rattle.cell_plan.specs.declared.plan.CellPlan.{CellPlan}
-use Rattle.cell_plan.specs.declared.plan.SyncPlan.{SyncPlan}
-use Rattle.long_code.specs.LongCode.{paging_mask, traffic_mask}
-use Rattle.cell_plan.specs.declared.plan.PagingPlan.{PagingPlan}
-use Rattle.cell_plan.specs.declared.plan.TrafficPlan.{TrafficPlan}
 use Rattle.cell_plan.specs.PageCycles.{cycle_symbols, Cycle}
 use Rattle.cell_plan.specs.Pages.{page_cycle, sent_paging_rate}
 use Rattle.cell_plan.specs.Sendings.{sync_symbols}

@@ -1,7 +1,6 @@
 -- A sync channel for worked values and for trials.
+use Rattle.cell_plan.specs.Common.{SyncFields, SyncPlan}
 use Rattle.std.specs.Prelude.{ℕ, false, None, replicate}
-use Rattle.sync_message.specs.declared.fields.SyncFields.{SyncFields}
-use Rattle.cell_plan.specs.declared.plan.SyncPlan.{SyncPlan}
 
 -- a message of 25 octets, with this LC_STATE
 abbrev pub some_message : ℕ → SyncFields

@@ -1,26 +1,14 @@
 -- What is stated of a cell, within its bounds, and what a handset can receive of it.
+use Rattle.cell_plan.specs.Common.{CheckForm, norm, IsState, IsSyncMessage, Rate, bits_left, M30}
+use Rattle.cell_plan.specs.Common.{capsules_in, half_frame_body, CellPlan, Page, PagingPlan, Width}
+use Rattle.cell_plan.specs.Common.{SyncPlan, TrafficPlan, CellIdentity, capsule}
 use Rattle.std.specs.Prelude.{◌≡◌, ℕ, ◌+◌, ◌^◌, ◌<◌, ◌≤◌, All, true, List, [], ◌∷◌, length, map}
 use Rattle.std.specs.Prelude.{Option, Some, None, unsigned_abs}
-use Rattle.chip_core.specs.declared.check_form.CheckForm.{CheckForm}
-use Rattle.chip_core.specs.Complex.{norm}
-use Rattle.long_code.specs.LongCode.{IsState}
-use Rattle.sync_message.specs.SyncMessage.{IsSyncMessage}
-use Rattle.quality_bits.specs.declared.rate.Rate.{Rate}
 use Rattle.paging_message.specs.Admitted.{HasMessage}
-use Rattle.paging_message.specs.HalfFrames.{bits_left, capsules_in, half_frame_body}
-use Rattle.quality_bits.specs.declared.kind.Kind.TheVariants.{M30}
 use Rattle.cell_plan.specs.Pages.{laid_after, page_cycle, sent_paging_rate, AreSendable}
-use Rattle.cell_plan.specs.declared.plan.CellPlan.{CellPlan}
-use Rattle.cell_plan.specs.declared.plan.Page.{Page}
-use Rattle.cell_plan.specs.declared.plan.PagingPlan.{PagingPlan}
-use Rattle.cell_plan.specs.declared.plan.SyncPlan.{SyncPlan}
-use Rattle.cell_plan.specs.declared.plan.TrafficPlan.{TrafficPlan}
-use Rattle.cell_plan.specs.declared.plan.CellIdentity.{CellIdentity}
 use Rattle.cell_plan.specs.declared.plan.LinkPlan.{LinkPlan}
 use Rattle.cell_plan.specs.TrafficFrames.{IsTrafficFrame}
 use Rattle.cell_plan.specs.Plan.{IsLawfulPlan}
-use Rattle.chip_core.specs.declared.width.Width.{Width}
-use Rattle.quality_bits.specs.Capsules.{capsule}
 
 pub record IsStatedCell (cell : CellIdentity) : Type 0 where
   pub pn : cell.pn < 512

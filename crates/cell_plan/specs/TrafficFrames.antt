@@ -1,7 +1,7 @@
 -- What a traffic channel sends (TIA/EIA-95-B, 7.1.3.5): frames, again and again.
-use Rattle.std.specs.Prelude.{◌≡◌, ℕ, ◌+◌, ◌*◌, ◌%◌, ◌^◌, ◌<◌, ◌≤◌, Bool, false, List, [], ◌∷◌}
-use Rattle.std.specs.Prelude.{length, replicate, take, drop, All, Option, Some, None}
-use Rattle.std.specs.Prelude.{option_and_then, option_map}
+use Rattle.std.specs.Prelude.{◌≡◌, ℕ, ◌+◌, ◌*◌, ◌%◌, ◌^◌, ◌<◌, ◌≤◌, Bool, false, List, [], ◌∷◌, All}
+use Rattle.std.specs.Prelude.{length, replicate, take, drop, Option, Some, None, option_and_then}
+use Rattle.std.specs.Prelude.{option_map}
 use Rattle.std.specs.List.{flat_map}
 use Rattle.std.specs.Option.{option_map_or}
 use Rattle.chip_core.specs.Air.{data_frame_chips, frame_offset_chips}
@@ -10,7 +10,6 @@ use Rattle.conv_code.specs.ConvCode.{code_symbols}
 use Rattle.symbol_path.specs.Scrambling.{scrambling, with_power_bits}
 use Rattle.symbol_path.specs.SentOrder.{data_shape, sent}
 use Rattle.quality_bits.specs.TrafficCodewords.{repeats_of, information_of, traffic_codeword}
-use Rattle.symbol_path.specs.RatesTwo as second
 use Rattle.symbol_path.specs.FramesTwo.{sent_frame2}
 use Rattle.symbol_path.specs.declared.rate_two.Rate2.{Rate2}
 use Rattle.quality_bits.specs.declared.rate.Rate.{Rate}
@@ -21,6 +20,7 @@ use Rattle.cell_plan.specs.declared.traffic_frame.RateSet.{RateSet}
 use Rattle.cell_plan.specs.declared.traffic_frame.RateSet.TheVariants.{One, Two}
 use Rattle.cell_plan.specs.declared.traffic_frame.TrafficFrame.{TrafficFrame}
 use Rattle.cell_plan.specs.PageCycles.{scrambled}
+use Rattle.symbol_path.specs.RatesTwo as second
 
 -- ---- a frame
 

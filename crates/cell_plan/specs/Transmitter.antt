@@ -1,15 +1,8 @@
 -- What the transmitter's parts stand for.
+use Rattle.cell_plan.specs.Common.{Pair, IsState, Width, Sixteen, Eight, IsSyncMessage, SyncFields}
+use Rattle.cell_plan.specs.Common.{CellIdentity, CellPlan, SyncPlan}
 use Rattle.std.specs.Prelude.{ℕ, ◌+◌, ◌-◌, ◌*◌, ◌<◌, ◌≤◌, ◌%◌, ℤ, unsigned_abs, Option, None, Some}
-use Rattle.chip_core.specs.declared.sample.Pair.{Pair}
-use Rattle.long_code.specs.LongCode.{IsState}
 use Rattle.cdma_io.specs.declared.header.Header.{Header}
-use Rattle.chip_core.specs.declared.width.Width.{Width}
-use Rattle.chip_core.specs.declared.width.Width.TheVariants.{Sixteen, Eight}
-use Rattle.sync_message.specs.SyncMessage.{IsSyncMessage}
-use Rattle.sync_message.specs.declared.fields.SyncFields.{SyncFields}
-use Rattle.cell_plan.specs.declared.plan.CellIdentity.{CellIdentity}
-use Rattle.cell_plan.specs.declared.plan.CellPlan.{CellPlan}
-use Rattle.cell_plan.specs.declared.plan.SyncPlan.{SyncPlan}
 
 -- a cell: the width of its samples, its plan, and how many samples it has given
 pub record CellState : Type 0 where

@@ -1,16 +1,12 @@
 -- Worked values of what a cell sends, which the checker computes.
+use Rattle.cell_plan.specs.Common.{after, capsule, spelling, sync_body, sync_capsule, walsh}
+use Rattle.cell_plan.specs.Common.{CellPlan, SyncPlan}
 use Rattle.std.specs.Prelude.{◌≡◌, [], refl, ◌^◌, pos, negsuc, Option, Some, None}
 use Rattle.chip_core.specs.Bits.{binary, places}
 use Rattle.chip_core.specs.declared.check_form.CheckForm.TheVariants.{Plain}
-use Rattle.long_code.specs.LongCode.{after}
 use Rattle.short_code.specs.ShortCode.{chips_to}
-use Rattle.quality_bits.specs.Capsules.{capsule}
 use Rattle.quality_bits.specs.Quality.{check_bits}
 use Rattle.symbol_path.specs.SentOrder.{sent_by}
-use Rattle.sync_message.specs.SyncMessage.{spelling, sync_body, sync_capsule}
-use Rattle.walsh.specs.Walsh.{walsh}
-use Rattle.cell_plan.specs.declared.plan.CellPlan.{CellPlan}
-use Rattle.cell_plan.specs.declared.plan.SyncPlan.{SyncPlan}
 use Rattle.cell_plan.specs.Sendings.{message_of, sync_frame_bits, continued_symbols, sync_symbols}
 use Rattle.cell_plan.specs.SomeMessage.{some_sync}
 use Rattle.cell_plan.specs.Signal.{carriers, sent_chip, sample_of}

@@ -2,9 +2,9 @@
 use Rattle.cell_samples.proofs.Common.{◌≡◌, ℕ, zero, suc, ◌+◌, ◌*◌, ◌%◌, ◌^◌, ◌<◌, ◌≤◌, List, [], ◌∷◌, length, get_or, map, drop, replicate}
 use Rattle.cell_samples.proofs.Common.{refl, sym, ap, ◌∙◌, arith, ℤ, pos, ◌+ℤ◌, ◌*ℤ◌, unsigned_abs, Bool, true, false, cond, ints, abs_sum}
 use Rattle.cell_samples.proofs.Common.{All-get_or, All-set, All-replicate, get_or-map, sign, common_parity, xor, binary, origin, plus, Pair}
-use Rattle.cell_samples.proofs.Common.{plus_assoc, plus-origin, origin-plus, walsh, walsh_sum_from, in_phase, quadrature, IsWithin}
-use Rattle.cell_samples.proofs.Common.{transform, get_or-transform, scaled_none, scaled_sum, times_moved, product_most, read64, Carrier}
-use Rattle.cell_samples.proofs.Common.{amplitude, amplitudes, level, scaled, FitsSigned, fits_signed_from_abs, to_z, of_z, w64}
+use Rattle.cell_samples.proofs.Common.{plus_assoc, plus-origin, origin-plus, walsh, walsh_sum_from, in_phase, quadrature, IsWithin, read64}
+use Rattle.cell_samples.proofs.Common.{transform, get_or-transform, scaled_none, scaled_sum, times_moved, product_most, Carrier, amplitude}
+use Rattle.cell_samples.proofs.Common.{amplitudes, level, scaled, FitsSigned, fits_signed_from_abs, to_z, of_z, w64}
 use Rattle.std.proofs.Math.ListN.{set}
 use Rattle.std.specs.List.{All}
 use Rattle.std.proofs.lemmas.List as lists

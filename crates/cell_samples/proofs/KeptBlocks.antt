@@ -1,10 +1,10 @@
 -- The levels of channels that are kept for a block, and the chips that were made of them.
-use Rattle.cell_samples.proofs.Common.{◌≡◌, ℕ, suc, ◌+◌, ◌-◌, ◌%◌, ◌<◌, ◌≤◌, List, [], ◌∷◌, length, get_or, set, replicate, take, drop}
-use Rattle.cell_samples.proofs.Common.{refl, sym, ap, ◌∙◌, arith, ℤ, pos, ◌+ℤ◌, ◌*ℤ◌, unsigned_abs, Bool, true, ◌&&◌, map, below_more}
-use Rattle.cell_samples.proofs.Common.{get_or-set_same, get_or-set_other, get_or-take, get_or-drop, subst, SFits, eqb, eqb-true, of_z, to_z}
-use Rattle.cell_samples.proofs.Common.{w64, and_parts, ints, to_z-of_z, get_or-replicate, length-map, set-get_or, All-replicate, All-set}
-use Rattle.cell_samples.proofs.Common.{sign, of_sample, origin, Pair, Sample, IsWithin, walsh, scaled_none, Carrier, amplitudes, level}
-use Rattle.cell_samples.proofs.Common.{scaled, AreChips, AreFirstLevels, AreLevels, AreQuiet, AreBlockSums, AreTurned, IsKeptBlock, IsLevel}
+use Rattle.cell_samples.proofs.Common.{◌≡◌, ℕ, suc, ◌+◌, ◌-◌, ◌%◌, ◌<◌, ◌≤◌, List, [], ◌∷◌, length, get_or, set, replicate, take, drop, sym}
+use Rattle.cell_samples.proofs.Common.{refl, ap, ◌∙◌, arith, ℤ, pos, ◌+ℤ◌, ◌*ℤ◌, unsigned_abs, Bool, true, ◌&&◌, map, below_more, subst}
+use Rattle.cell_samples.proofs.Common.{get_or-set_same, get_or-set_other, get_or-take, get_or-drop, SFits, eqb, eqb-true, of_z, to_z, w64}
+use Rattle.cell_samples.proofs.Common.{and_parts, ints, to_z-of_z, get_or-replicate, length-map, set-get_or, All-replicate, All-set, sign}
+use Rattle.cell_samples.proofs.Common.{of_sample, origin, Pair, Sample, IsWithin, walsh, scaled_none, Carrier, amplitudes, level, scaled}
+use Rattle.cell_samples.proofs.Common.{AreChips, AreFirstLevels, AreLevels, AreQuiet, AreBlockSums, AreTurned, IsKeptBlock, IsLevel}
 use Rattle.cell_samples.proofs.Common.{IsQuiet, IsTurned, chip_at, no_sample, ChannelState, carrier_of, any_default}
 use Rattle.std.specs.List.{All}
 

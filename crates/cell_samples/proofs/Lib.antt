@@ -1,4 +1,3 @@
--- The modules of lemmas of `cell_samples`.
 pub mod Blocks
 pub mod Common
 pub mod KeptBlocks

@@ -1,13 +1,12 @@
 -- A cell that runs: its channels, and the samples that are next.
-use Rattle.cell_samples.proofs.Common.{◌≡◌, ℕ, ◌+◌, ◌-◌, ◌*◌, ◌%◌, ◌<◌, ◌≤◌, List, ◌++◌, length, map, get_or, take, drop, sym, ap, ◌∙◌}
-use Rattle.cell_samples.proofs.Common.{arith, ℤ, pos, subst, length-drop, length-map, map-append, take_at, drop-drop, All-append, All-drop}
-use Rattle.cell_samples.proofs.Common.{All-from_get_or, take-put_mid, take-add, put_mid, times, of_sample, Pair, Sample, Width}
-use Rattle.cell_samples.proofs.Common.{length-pilot_signs, get_or-pilot_signs, code_point, pilot_chip, chip_signs, pilot_signs, HasBits}
-use Rattle.cell_samples.proofs.Common.{CellPlan, loudness, most_part, Carrier, amplitudes, carriers, sample_of, samples_of, scaled, IsPoint}
-use Rattle.cell_samples.proofs.Common.{phase_at, point_of, chip_fits, chip_most, few_channels, most_part_small, signal_of_carriers}
-use Rattle.cell_samples.proofs.Common.{pieces_are, AreQuiet, AreTurned, BlockState, chip_at, sign_unit, ChannelState, carrier_of}
+use Rattle.cell_samples.proofs.Common.{◌≡◌, ℕ, ◌+◌, ◌-◌, ◌*◌, ◌%◌, ◌<◌, ◌≤◌, List, ◌++◌, length, map, get_or, take, drop, sym, ap, ◌∙◌, ℤ}
+use Rattle.cell_samples.proofs.Common.{arith, pos, subst, length-drop, length-map, map-append, take_at, drop-drop, All-append, All-drop}
+use Rattle.cell_samples.proofs.Common.{All-from_get_or, take-put_mid, take-add, put_mid, times, of_sample, Pair, Sample, Width, code_point}
+use Rattle.cell_samples.proofs.Common.{length-pilot_signs, get_or-pilot_signs, pilot_chip, chip_signs, pilot_signs, HasBits, CellPlan}
+use Rattle.cell_samples.proofs.Common.{loudness, most_part, Carrier, amplitudes, carriers, sample_of, samples_of, scaled, IsPoint, phase_at}
+use Rattle.cell_samples.proofs.Common.{point_of, chip_fits, chip_most, few_channels, most_part_small, signal_of_carriers, pieces_are}
+use Rattle.cell_samples.proofs.Common.{AreQuiet, AreTurned, BlockState, chip_at, sign_unit, ChannelState, carrier_of, get_or-drop}
 use Rattle.std.specs.List.{All}
-use Rattle.std.proofs.lemmas.List.{get_or-drop}
 use Rattle.cell_plan.proofs.Pieces.{no_sample}
 
 -- a chip of a plan's block

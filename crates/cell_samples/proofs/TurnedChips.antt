@@ -1,7 +1,7 @@
 -- A chip times a point of the codes, whose parts have 16 bits.
-use Rattle.cell_samples.proofs.Common.{◌≡◌, ◌+◌, ◌*◌, ◌≤◌, ◌∙◌, ℤ, ◌+ℤ◌, ◌-ℤ◌, ◌*ℤ◌, unsigned_abs, FitsSigned, arith, refl, to_z, of_z, w8, w16}
-use Rattle.cell_samples.proofs.Common.{to_z-of_z, fits_signed_from_abs, of_sample, Sample, IsPoint, IsTurned, abs_sum, abs_difference}
-use Rattle.std.proofs.lemmas.Int.{unsigned_abs-mul}
+use Rattle.cell_samples.proofs.Common.{◌≡◌, ◌+◌, ◌*◌, ◌≤◌, ◌∙◌, ℤ, ◌+ℤ◌, ◌-ℤ◌, ◌*ℤ◌, unsigned_abs, FitsSigned, arith, refl, to_z, of_z, w8}
+use Rattle.cell_samples.proofs.Common.{w16, to_z-of_z, fits_signed_from_abs, of_sample, Sample, IsPoint, IsTurned, abs_sum, abs_difference}
+use Rattle.cell_samples.proofs.Common.{unsigned_abs-mul}
 use Rattle.std.proofs.lemmas.Nat.{mul-le}
 
 read8 : (z : ℤ) → unsigned_abs z ≤ 1 → to_z w8 (of_z w8 z) ≡ z

@@ -1,15 +1,15 @@
 -- Channels whose encoder goes on from frame to frame, as the transmitter holds them.
 use Rattle.std.specs.Prelude.{◌≡◌, ℕ, ◌/◌, Bool, List}
 use Rattle.chip_core.specs.Bits.{binary}
-use Rattle.symbol_path.specs.declared.kinds.Kind as kinds
 use Rattle.cell_plan.specs.declared.form.ChannelForm.{ChannelForm}
 use Rattle.cell_samples.specs.declared.frame_source.FrameSource.{FrameSource}
 use Rattle.cell_samples.specs.declared.frame_source.FrameSource.TheVariants.{Sync, Paging}
 use Rattle.quality_bits.specs.TrafficCodewords.{repeats_of}
-use Rattle.cell_plan.specs.PageCycles.{cycle_frame_bits, cycle_symbols, frame_scrambling}
-use Rattle.cell_plan.specs.PageCycles.{paging_frame_size, scrambled}
+use Rattle.cell_plan.specs.PageCycles.{cycle_frame_bits, cycle_symbols, frame_scrambling, scrambled}
+use Rattle.cell_plan.specs.PageCycles.{paging_frame_size}
 use Rattle.cell_plan.specs.Sendings.{bits_before, sync_frame_bits, sync_symbols}
 use Rattle.cell_plan.specs.Signal.{paging_form, sync_form}
+use Rattle.symbol_path.specs.declared.kinds.Kind as kinds
 
 -- the bits of each frame of a source, and how many they are
 abbrev pub frame_bits_of : FrameSource → ℕ → List Bool

@@ -1,4 +1,3 @@
--- The modules of definitions of `cell_samples`.
 pub mod Blocks
 pub mod Channels
 pub mod Continued

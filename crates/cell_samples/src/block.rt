@@ -1,7 +1,7 @@
 //! What a cell sends over one period of the Walsh rows, and the samples that this makes.
 
-ghost use Rattle.std.specs.Prelude.{◌≡◌, ◌<◌, ◌≤◌, ◌+◌, ◌%◌, ◌^◌, ℕ, length, map, get_or, set};
-ghost use Rattle.std.specs.Prelude.{◌*ℤ◌, unsigned_abs, All, pos, true};
+ghost use Rattle.std.specs.Prelude.{◌≡◌, ◌<◌, ◌≤◌, ◌+◌, ◌%◌, ◌^◌, ℕ, length, map, get_or, set, All};
+ghost use Rattle.std.specs.Prelude.{◌*ℤ◌, unsigned_abs, pos, true};
 ghost use Rattle.chip_core.specs.Complex.{of_sample, origin, plus};
 ghost use Rattle.walsh.specs.Walsh.{IsWithin};
 ghost use Rattle.cell_samples.specs.Blocks.{AreChips, AreLevels, AreQuiet, AreBlockSums, AreTurned};

@@ -1,17 +1,15 @@
 -- The channels of a plan at each stage of its script, and the statements that make them.
 use Rattle.cell_script.proofs.Common.{◌≡◌, ℕ, ◌+◌, ◌<◌, ◌≤◌, Bool, true, false, cond, List, [], ◌∷◌, ◌++◌, length, refl, sym, ap, subst}
-use Rattle.cell_script.proofs.Common.{◌∙◌, arith, None, Some, ◌==◌, All, and_parts, cond-true, cond-false, eqb-true, leb-true, All-nil}
-use Rattle.cell_script.proofs.Common.{All-push, cond_some, same_Some, norm, FillsCapsule, M30, Rate, R9600, R4800, HasMessage, bits_left}
-use Rattle.cell_script.proofs.Common.{half_frame_body, half_frame_bits, laid_after, sent_paging_rate, AreSendable, CellPlan, Page}
-use Rattle.cell_script.proofs.Common.{PagingPlan, SyncPlan, Stage, Cell, Link, Pilot, Sync, Paging, FirstPage, Pages, Traffic, FirstFrame}
-use Rattle.cell_script.proofs.Common.{Frames, TrafficPlan, TrafficFrame, PagingLine, TrafficLine, Statement, empty_plan}
-use Rattle.cell_script.proofs.Common.{opened_paging, on_last, opened_traffic, with_page, with_statement, with_frame, one_frame_more}
-use Rattle.cell_script.proofs.Common.{one_page_more, rate_set, FrameRate, SetOne, SetTwo, RateSet, One, Two, IsTrafficFrame, IsInOrder}
-use Rattle.cell_script.proofs.Common.{AreHeard, HasSaid, IsStatedCell, IsStatedLink, IsStatedPaging, IsStatedSync, IsStatedTraffic}
-use Rattle.cell_script.proofs.Common.{IsLawfulStatement, after_frame, after_page, after_paging, after_traffic, stage_after_sync, count_after}
-use Rattle.cell_script.proofs.Common.{is_cycle, may_follow, next_stage, page_stage, is_complete, statements_of}
-use Rattle.std.proofs.lemmas.List.{length-append}
-use Rattle.std.proofs.lemmas.Bool.{cond_both}
+use Rattle.cell_script.proofs.Common.{◌∙◌, arith, None, Some, ◌==◌, All, and_parts, cond-true, cond-false, eqb-true, leb-true, All-nil, M30}
+use Rattle.cell_script.proofs.Common.{All-push, cond_some, same_Some, norm, FillsCapsule, Rate, R9600, R4800, HasMessage, bits_left, Page}
+use Rattle.cell_script.proofs.Common.{half_frame_body, half_frame_bits, laid_after, sent_paging_rate, AreSendable, CellPlan, PagingPlan}
+use Rattle.cell_script.proofs.Common.{SyncPlan, Stage, Cell, Link, Pilot, Sync, Paging, FirstPage, Pages, Traffic, FirstFrame, Frames, One}
+use Rattle.cell_script.proofs.Common.{TrafficPlan, TrafficFrame, PagingLine, TrafficLine, Statement, empty_plan, opened_paging, on_last}
+use Rattle.cell_script.proofs.Common.{opened_traffic, with_page, with_statement, with_frame, one_frame_more, one_page_more, rate_set, Two}
+use Rattle.cell_script.proofs.Common.{FrameRate, SetOne, SetTwo, RateSet, IsTrafficFrame, IsInOrder, AreHeard, HasSaid, IsStatedCell}
+use Rattle.cell_script.proofs.Common.{IsStatedLink, IsStatedPaging, IsStatedSync, IsStatedTraffic, IsLawfulStatement, after_frame, is_cycle}
+use Rattle.cell_script.proofs.Common.{after_page, after_paging, after_traffic, stage_after_sync, count_after, may_follow, next_stage}
+use Rattle.cell_script.proofs.Common.{page_stage, is_complete, statements_of, length-append, cond_both}
 use Rattle.cell_script.proofs.LastChanged.{on_last-last}
 use Rattle.cell_script.specs.declared.statements.Statement.TheVariants as statements
 

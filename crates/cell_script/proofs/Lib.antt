@@ -1,4 +1,3 @@
--- The modules of lemmas of `cell_script`.
 pub mod ChannelStages
 pub mod Common
 pub mod LastChanged

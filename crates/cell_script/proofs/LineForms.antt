@@ -1,12 +1,11 @@
 -- Lines by tables of fields: what is written is read back, and what is read can be written.
-use Rattle.cell_script.proofs.Common.{AreIn, BitList, Bool, FitsSigned, IsIn, IsSaid, LineForm, List, SixteenDigits, Some, StatementRow}
-use Rattle.cell_script.proofs.Common.{Tabled, TextForm, ValueOf, Values, [], and_parts, ap, arith, bit_text, cond_some, decimal, digits_of}
+use Rattle.cell_script.proofs.Common.{AreIn, BitList, Bool, FitsSigned, IsIn, IsSaid, LineForm, List, SixteenDigits, Some, StatementRow, []}
+use Rattle.cell_script.proofs.Common.{Tabled, TextForm, ValueOf, Values, and_parts, ap, arith, bit_text, cond_some, decimal, digits_of, pos}
 use Rattle.cell_script.proofs.Common.{eqb-true, false, fields_in, fields_text, lawful_line, leb-true, length, length-append, length_before}
-use Rattle.cell_script.proofs.Common.{ltb-true, nat_le, nat_lt, negsuc, past_fields, pos, read_as, reader_of, refl, serial_digits}
-use Rattle.cell_script.proofs.Common.{signed_decimal, state_digits, subst, suc, sym, true, w16, writer_of, written_as, ℕ, ℤ, ◌&&◌, ◌++◌}
-use Rattle.cell_script.proofs.Common.{◌+◌, ◌<◌, ◌==◌, ◌^◌, ◌∙◌, ◌∷◌, ◌≡◌, ◌≤◌}
+use Rattle.cell_script.proofs.Common.{ltb-true, nat_le, nat_lt, negsuc, past_fields, read_as, reader_of, refl, serial_digits, state_digits}
+use Rattle.cell_script.proofs.Common.{signed_decimal, subst, suc, sym, true, w16, writer_of, written_as, ℕ, ℤ, ◌&&◌, ◌++◌, ◌+◌, ◌<◌, ◌==◌}
+use Rattle.cell_script.proofs.Common.{◌^◌, ◌∙◌, ◌∷◌, ◌≡◌, ◌≤◌, before-none}
 use Rattle.cell_script.proofs.ScriptBounds.{both_steps, ended, fields_ranged}
-use Rattle.line_text.proofs.StatedTexts.{before-none}
 use Rattle.cell_script.proofs.SpelledBytes.{are_within, bit_text_short, bit_text_within, decimal_short, decimal_within, digits_of_long}
 use Rattle.cell_script.proofs.SpelledBytes.{digits_of_within, serial_long, serial_within, state_long, state_within, within-append}
 use Rattle.cell_script.proofs.SpelledBytes.{within-cons, within-wider}

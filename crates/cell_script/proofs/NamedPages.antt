@@ -1,6 +1,6 @@
 -- The pages of a named plan: what they lay carries just their capsules.
-use Rattle.cell_script.proofs.Common.{◌≡◌, ℕ, List, Ok, All, All-weaker, CheckForm, Width, half_frame_body, CellPlan, PagingPlan}
-use Rattle.cell_script.proofs.Common.{sent_paging_rate, plan_named, HasMessages, IsCarried, IsReceivable, IsStatedPaging, channel_carried}
+use Rattle.cell_script.proofs.Common.{◌≡◌, ℕ, List, Ok, All, All-weaker, CheckForm, Width, half_frame_body, CellPlan, PagingPlan, IsCarried}
+use Rattle.cell_script.proofs.Common.{sent_paging_rate, plan_named, HasMessages, IsReceivable, IsStatedPaging, channel_carried}
 use Rattle.cell_script.proofs.Common.{heard_messages}
 use Rattle.cell_script.proofs.NamedPlans.{named_plan, named_said}
 

@@ -1,10 +1,10 @@
 -- The plan that a script names is lawful, its link isn't 0, and its own script names it again.
-use Rattle.cell_script.proofs.Common.{◌≡◌, ℕ, zero, suc, ◌<◌, ◌≤◌, Bool, true, false, cond, List, length, refl, ap, subst, ◌∙◌, arith}
-use Rattle.cell_script.proofs.Common.{Option, None, Some, Result, Ok, Err, option_or, nat_lt, ◌==◌, option_map, cond-false, ltb-false, norm}
-use Rattle.cell_script.proofs.Common.{most_samples, Width, sent_paging_rate, CellPlan, SyncPlan, ScriptFault, Gain, TooBig, Walsh, loudness}
-use Rattle.cell_script.proofs.Common.{most_part, IsLawfulPlan, IsSyncPlan, gain_fault, long_fault, channel_lines, loud_fault, named}
-use Rattle.cell_script.proofs.Common.{plan_fault, plan_named, traffic_lines, repeated, silent, stated_plan, sync_gain_fault, unless}
-use Rattle.cell_script.proofs.Common.{walsh_fault, HasSaid, IsStatedPlan, IsStatedSync, script_of, le-ltb}
+use Rattle.cell_script.proofs.Common.{◌≡◌, ℕ, zero, suc, ◌<◌, ◌≤◌, Bool, true, false, cond, List, length, refl, ap, subst, ◌∙◌, arith, None}
+use Rattle.cell_script.proofs.Common.{Option, Some, Result, Ok, Err, option_or, nat_lt, ◌==◌, option_map, cond-false, ltb-false, norm, Gain}
+use Rattle.cell_script.proofs.Common.{most_samples, Width, sent_paging_rate, CellPlan, SyncPlan, ScriptFault, TooBig, Walsh, loudness}
+use Rattle.cell_script.proofs.Common.{most_part, IsLawfulPlan, IsSyncPlan, gain_fault, long_fault, channel_lines, loud_fault, named, silent}
+use Rattle.cell_script.proofs.Common.{plan_fault, plan_named, traffic_lines, repeated, stated_plan, sync_gain_fault, unless, walsh_fault}
+use Rattle.cell_script.proofs.Common.{HasSaid, IsStatedPlan, IsStatedSync, script_of, le-ltb}
 use Rattle.cell_script.proofs.ScriptNumbers.{few_channels, have_own_numbers, lawful_beside, some_gains}
 use Rattle.cell_script.proofs.WrittenPlans.{stated_back}
 

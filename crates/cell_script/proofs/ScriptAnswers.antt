@@ -1,7 +1,7 @@
 -- The answer of both readings of a script: the plan that it names, or its fault.
-use Rattle.cell_script.proofs.Common.{◌≡◌, ℕ, ◌<◌, ◌≤◌, List, length, refl, sym, ap, subst, ◌∙◌, None, Some, Result, Ok, Err, IsOk}
-use Rattle.cell_script.proofs.Common.{cond-true, lt-ltb, Width, CellPlan, Judge, ScriptFault, Line, TooBig}
-use Rattle.cell_script.proofs.Common.{IsLawfulPlan, named, plan_named, stated_plan, unless, judged_fault, IsJudged, IsStatedLink}
+use Rattle.cell_script.proofs.Common.{◌≡◌, ℕ, ◌<◌, ◌≤◌, List, length, refl, sym, ap, subst, ◌∙◌, None, Some, Result, Ok, Err, IsOk, lt-ltb}
+use Rattle.cell_script.proofs.Common.{cond-true, Width, CellPlan, Judge, ScriptFault, Line, TooBig, IsLawfulPlan, named, plan_named, unless}
+use Rattle.cell_script.proofs.Common.{stated_plan, judged_fault, IsJudged, IsStatedLink}
 use Rattle.cell_script.proofs.NamedPlans.{named_plan, small_named}
 use Rattle.cell_script.proofs.ScriptRows.{judged_fault_is}
 use Rattle.cell_script.proofs.WrittenPlans.{stated_back}

@@ -1,15 +1,12 @@
 -- What the texts of a script's fields spell is in the ranges of the fields.
-use Rattle.cell_script.proofs.Common.{AreIn, AreUpTo, BitList, Bool, IsIn, IsState, List, None, NumberRow, Option, SixteenDigits, Some}
-use Rattle.cell_script.proofs.Common.{StatementRow, Tabled, TextForm, ValueOf, Values, [], all_clear, ap, arith, as_state, at_end}
-use Rattle.cell_script.proofs.Common.{begins_with, binary_digit, bits_in_text, codes, cond, cond_some, digits_after, drop, eqb-false}
-use Rattle.cell_script.proofs.Common.{eqb-true, false, fields_in, hex_bits, hex_digit, hex_from, leb-true, length, length-append}
-use Rattle.cell_script.proofs.Common.{length-take, length_before, ltb-true, nat_le, nat_lt, number_in, number_up_to, numbers_in}
-use Rattle.cell_script.proofs.Common.{option_and_then, past, power_bits_in, reader_of, refl, same_Some, script_field, serial_number_in}
-use Rattle.cell_script.proofs.Common.{state_in, subst, suc, sym, take, text_after, true, unpadded, up_to, value_of, zero, ℕ, ◌*◌, ◌++◌, ◌+◌}
-use Rattle.cell_script.proofs.Common.{◌<◌, ◌==◌, ◌^◌, ◌∙◌, ◌∷◌, ◌≡◌, ◌≤◌}
-use Rattle.std.specs.Char.{digit_value}
-use Rattle.line_text.proofs.Numerals.{one_signed_numeral}
-use Rattle.line_text.proofs.StatedTexts.{hex_digit_more, hex_from-none}
+use Rattle.cell_script.proofs.Common.{AreIn, AreUpTo, BitList, Bool, IsIn, IsState, List, None, NumberRow, Option, SixteenDigits, Some, []}
+use Rattle.cell_script.proofs.Common.{StatementRow, Tabled, TextForm, ValueOf, Values, all_clear, ap, arith, as_state, at_end, begins_with}
+use Rattle.cell_script.proofs.Common.{binary_digit, bits_in_text, codes, cond, cond_some, digits_after, drop, eqb-false, eqb-true, false, ℕ}
+use Rattle.cell_script.proofs.Common.{fields_in, hex_bits, hex_digit, hex_from, leb-true, length, length-append, length-take, length_before}
+use Rattle.cell_script.proofs.Common.{ltb-true, nat_le, nat_lt, number_in, number_up_to, numbers_in, option_and_then, past, power_bits_in}
+use Rattle.cell_script.proofs.Common.{reader_of, refl, same_Some, script_field, serial_number_in, state_in, subst, suc, sym, take, true}
+use Rattle.cell_script.proofs.Common.{text_after, unpadded, up_to, value_of, zero, ◌*◌, ◌++◌, ◌+◌, ◌<◌, ◌==◌, ◌^◌, ◌∙◌, ◌∷◌, ◌≡◌, ◌≤◌}
+use Rattle.cell_script.proofs.Common.{digit_value, one_signed_numeral, hex_digit_more, hex_from-none}
 use Rattle.cell_script.specs.declared.tables.FieldForm.TheVariants as forms
 
 -- ---- steps that may fail

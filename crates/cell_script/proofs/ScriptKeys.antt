@@ -1,13 +1,10 @@
 -- Keys ` name=` of fields by their names, taken apart.
-use Rattle.cell_script.proofs.Common.{◌≡◌, ℕ, ◌+◌, Bool, true, false, List, [], ◌∷◌, ◌++◌, length, drop, codes, refl, sym, ap, ◌∙◌}
-use Rattle.cell_script.proofs.Common.{and_parts, arith, begins_with, get_or, key_of, leb-true, length-append, nat_le, suc, zero, ◌≤◌}
-use Rattle.cell_script.proofs.Common.{nat_lt}
-use Rattle.line_text.proofs.Digits.{all_below}
+use Rattle.cell_script.proofs.Common.{◌≡◌, ℕ, ◌+◌, Bool, true, false, List, [], ◌∷◌, ◌++◌, length, drop, codes, refl, sym, ap, ◌∙◌, arith}
+use Rattle.cell_script.proofs.Common.{and_parts, begins_with, get_or, key_of, leb-true, length-append, nat_le, suc, zero, ◌≤◌, nat_lt, ◌&&◌}
+use Rattle.cell_script.proofs.Common.{all_below, IsAscii, nat_eq}
 use Rattle.std.specs.List.{list_all}
-use Rattle.std.specs.Prelude.{IsAscii}
 use Rattle.std.proofs.lemmas.Str.Ascii.{IsAscii-from_all}
 use Rattle.sync_message.specs.Rows.{sync_widths}
-use Rattle.std.proofs.Common.{◌&&◌, nat_eq}
 use Rattle.std.proofs.lemmas.List as lists
 
 both : (a b c : Bool) → (a && (b && c)) ≡ ((a && b) && c)

@@ -1,13 +1,11 @@
 -- Rows and gains of the channels of a script: there are at most seven paging channels of different
 -- numbers, and 62 traffic channels of different rows.
-use Rattle.cell_script.proofs.Common.{◌≡◌, ◌≢◌, ℕ, suc, ◌<◌, ◌≤◌, Bool, true, false, cond, List, [], ◌∷◌, ◌++◌, length, refl, sym, arith}
-use Rattle.cell_script.proofs.Common.{None, Some, ◌==◌, All, eqb-false, length-map, All-cons, All-head, All-map, All-nil, All-tail}
-use Rattle.cell_script.proofs.Common.{All-weaker, Rate, PagingPlan, TrafficPlan, AreLawfulBeside, HaveOwnNumbers, HaveOwnTrafficRows}
-use Rattle.cell_script.proofs.Common.{IsFreeOf, IsPagingPlan, IsTrafficPlan, ChannelLine, channel, first_channels, is_used, paging_lines}
-use Rattle.cell_script.proofs.Common.{repeated, repeated_after, silent, traffic_lines, IsStatedPaging, IsStatedTraffic, map, nat_eq}
-use Rattle.cell_script.proofs.Common.{ne_eqb, ◌∙◌}
+use Rattle.cell_script.proofs.Common.{HaveOwnTrafficRows, AreLawfulBeside, IsStatedTraffic, HaveOwnNumbers, first_channels, repeated_after}
+use Rattle.cell_script.proofs.Common.{IsStatedPaging, IsTrafficPlan, traffic_lines, IsPagingPlan, paging_lines, TrafficPlan, ChannelLine, ℕ}
+use Rattle.cell_script.proofs.Common.{length-map, All-weaker, PagingPlan, eqb-false, All-cons, All-head, All-tail, IsFreeOf, repeated, Bool}
+use Rattle.cell_script.proofs.Common.{or_parts, All-map, All-nil, channel, is_used, length, silent, nat_eq, ne_eqb, false, arith, true, ◌≡◌}
+use Rattle.cell_script.proofs.Common.{cond, List, ◌++◌, refl, None, Some, ◌==◌, Rate, ◌≢◌, suc, ◌<◌, ◌≤◌, ◌∷◌, sym, All, map, ◌∙◌, []}
 use Rattle.std.specs.List.{IsDistinct}
-use Rattle.std.proofs.lemmas.Bool.{or_parts}
 use Rattle.std.proofs.lemmas.Bool.Decides.{Decides-eqb}
 use Rattle.std.proofs.lemmas.List.Elements.{All-contains, recursion_from_All}
 use Rattle.std.proofs.lemmas.Map.Made.{is_member-Decides}

@@ -1,15 +1,13 @@
 -- What the lines of a script state is in the ranges of its fields, so that it can be written, and within its bounds.
-use Rattle.cell_script.proofs.Common.{AreUpTo, Bool, CellIdentity, FieldsFit, FrameRate, IfSome, IsLawfulStatement, IsSaid, IsStatedCell}
+use Rattle.cell_script.proofs.Common.{AreUpTo, Bool, CellIdentity, FieldsFit, FrameRate, IfSome, IsLawfulStatement, IsSaid, IsStatedCell, ℕ}
 use Rattle.cell_script.proofs.Common.{IsStatedLink, LinkPlan, List, None, Option, Page, Some, Statement, SyncFields, SyncPlan, TrafficFrame}
 use Rattle.cell_script.proofs.Common.{abs_fits, admitted, and_parts, ap, arith, begins_with, bits_in_text, cell_in, cell_statement, codes}
-use Rattle.cell_script.proofs.Common.{cond, cond_some, eqb-false, eqb-true, false, fixed_fields, frame_rate, frame_statement, freq_in}
-use Rattle.cell_script.proofs.Common.{gain_row}
-use Rattle.cell_script.proofs.Common.{get_or, has_lawful_rest, information_bits_of, lawful_message, length, link_in, link_statement}
-use Rattle.cell_script.proofs.Common.{local_rows, ltb-true, nat_lt, network_rows, norm, not-true, numbers_in, option_map, page_statement}
-use Rattle.cell_script.proofs.Common.{paging_in}
-use Rattle.cell_script.proofs.Common.{paging_statement, pilot_in, pilot_statement, read_as, reader_of, refl, same_Some, script_field}
-use Rattle.cell_script.proofs.Common.{stated_page_in, statement_in, subst, suc, sync_after, sync_fields, sync_in, traffic_frame_in}
-use Rattle.cell_script.proofs.Common.{traffic_in, traffic_statement, true, unsigned_abs, zero, ℕ, ◌*◌, ◌+◌, ◌<◌, ◌==◌, ◌^◌, ◌≡◌, ◌≤◌}
+use Rattle.cell_script.proofs.Common.{cond, cond_some, eqb-false, eqb-true, false, fixed_fields, frame_rate, frame_statement, freq_in, norm}
+use Rattle.cell_script.proofs.Common.{gain_row, get_or, has_lawful_rest, information_bits_of, lawful_message, length, link_in, local_rows}
+use Rattle.cell_script.proofs.Common.{link_statement, ltb-true, nat_lt, network_rows, not-true, numbers_in, option_map, page_statement, suc}
+use Rattle.cell_script.proofs.Common.{paging_in, paging_statement, pilot_in, pilot_statement, read_as, reader_of, refl, same_Some, subst}
+use Rattle.cell_script.proofs.Common.{script_field, stated_page_in, statement_in, sync_after, sync_fields, sync_in, traffic_frame_in, true}
+use Rattle.cell_script.proofs.Common.{traffic_in, traffic_statement, unsigned_abs, zero, ◌*◌, ◌+◌, ◌<◌, ◌==◌, ◌^◌, ◌≡◌, ◌≤◌}
 use Rattle.cell_script.proofs.LineForms.{line_said}
 use Rattle.cell_script.proofs.ScriptBounds.{both_steps, ended, number_field, numbers_up_to}
 use Rattle.cell_script.proofs.ScriptMessages.{is_tail}

@@ -1,14 +1,13 @@
 -- The two readings of a script: what was read so far, and what one more line adds.
 use Rattle.cell_script.proofs.Common.{◌≡◌, ℕ, zero, suc, ◌+◌, ◌*◌, ◌-◌, ◌^◌, ◌<◌, ◌≤◌, Bool, true, false, List, length, take, drop, refl}
-use Rattle.cell_script.proofs.Common.{sym, ap, ◌∙◌, arith, cond, Option, None, Some, Result, Ok, Err, IsOk, subst, nat_lt, ok_or}
-use Rattle.cell_script.proofs.Common.{option_map, option_and_then, cond-true, cond-false, lt-ltb, ltb-false, ltb-true, CellPlan, Judge}
-use Rattle.cell_script.proofs.Common.{Stage, Cell, Statement, lines, stated, stated_plan, draft_at, empty_plan, plan_at, with_line}
-use Rattle.cell_script.proofs.Common.{with_next, with_statement, HasJudged, IsInOrder, IsJudged, statement_in, first_stated, is_complete}
-use Rattle.cell_script.proofs.Common.{next_stage, length_before}
+use Rattle.cell_script.proofs.Common.{sym, ap, ◌∙◌, arith, cond, Option, None, Some, Result, Ok, Err, IsOk, subst, nat_lt, ok_or, cond-true}
+use Rattle.cell_script.proofs.Common.{option_map, option_and_then, cond-false, lt-ltb, ltb-false, ltb-true, CellPlan, Judge, Stage, Cell}
+use Rattle.cell_script.proofs.Common.{Statement, lines, stated, stated_plan, draft_at, empty_plan, plan_at, with_line, with_next, HasJudged}
+use Rattle.cell_script.proofs.Common.{with_statement, IsInOrder, IsJudged, statement_in, first_stated, is_complete, next_stage, before_most}
+use Rattle.cell_script.proofs.Common.{length_before}
 use Rattle.cell_script.proofs.ChannelStages.{added, empty_said, in_order, IsAt}
 use Rattle.cell_script.proofs.ScriptRanges.{line_bounds}
 use Rattle.cell_script.proofs.ScriptSplits.{line_counted, line_read, line_refused, line_unended, lines_read, stated_plan-lines}
-use Rattle.line_text.proofs.StatedTexts.{before_most}
 
 -- ---- the first line of a text
 

@@ -1,13 +1,13 @@
 -- What a judge knows of the paging and traffic channels, one statement after another.
 use Rattle.cell_script.proofs.Common.{◌≡◌, ℕ, ◌+◌, ◌*◌, ◌<◌, ◌==◌, Bool, true, false, cond, List, [], ◌∷◌, ◌++◌, length, get_or, refl, sym}
 use Rattle.cell_script.proofs.Common.{ap, ◌∙◌, arith, append_assoc, replicate, subst, inl, inr, Option, None, Some, set, ◌||◌, unsigned_abs}
-use Rattle.cell_script.proofs.Common.{option_or, cases_eq, eq-eqb, ne_eqb, or_right, append-nil, get_or-set_other, get_or-set_same}
-use Rattle.cell_script.proofs.Common.{length-set, get_or-replicate, Width, paging_gains, sync_gain, traffic_gains, CellPlan, LinkPlan, Page}
-use Rattle.cell_script.proofs.Common.{PagingPlan, PilotPlan, SyncPlan, TrafficPlan, Judge, ChannelRows, ScriptFault, TrafficFrame}
-use Rattle.cell_script.proofs.Common.{ChannelLine, channel, channel_lines, first_channels, gain_fault, is_used, long_fault, loud_fault}
-use Rattle.cell_script.proofs.Common.{paging_lines, plan_fault, repeated, repeated_after, silent, traffic_lines, walsh_fault, on_last}
-use Rattle.cell_script.proofs.Common.{with_page, map, one_frame_more, one_page_more, with_frame, gains_of, judged_fault, HasJudged, HasSeen}
-use Rattle.cell_script.proofs.Common.{PagingLine, TrafficLine, map-append, opened_paging, opened_traffic}
+use Rattle.cell_script.proofs.Common.{option_or, cases_eq, eq-eqb, ne_eqb, or_right, append-nil, get_or-set_other, get_or-set_same, Width}
+use Rattle.cell_script.proofs.Common.{length-set, get_or-replicate, paging_gains, sync_gain, traffic_gains, CellPlan, LinkPlan, Page, Judge}
+use Rattle.cell_script.proofs.Common.{PagingPlan, PilotPlan, SyncPlan, TrafficPlan, ChannelRows, ScriptFault, TrafficFrame, ChannelLine}
+use Rattle.cell_script.proofs.Common.{channel, channel_lines, first_channels, gain_fault, is_used, long_fault, loud_fault, paging_lines}
+use Rattle.cell_script.proofs.Common.{plan_fault, repeated, repeated_after, silent, traffic_lines, walsh_fault, on_last, with_page, map}
+use Rattle.cell_script.proofs.Common.{one_frame_more, one_page_more, with_frame, gains_of, judged_fault, HasJudged, HasSeen, PagingLine}
+use Rattle.cell_script.proofs.Common.{TrafficLine, map-append, opened_paging, opened_traffic}
 use Rattle.std.proofs.Math.Bool.{or-false}
 
 -- ---- one line more

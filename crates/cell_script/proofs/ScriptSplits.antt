@@ -1,10 +1,9 @@
 -- The lines of a script, one after another, and the plan that they state.
-use Rattle.cell_script.proofs.Common.{◌≡◌, ℕ, zero, suc, ◌+◌, ◌-◌, ◌<◌, ◌≤◌, ◌==◌, Bool, true, false, List, [], ◌∷◌, ◌++◌, length, take}
-use Rattle.cell_script.proofs.Common.{drop, refl, sym, ap, ◌∙◌, arith, Option, None, Some, Err, option_map_or, ok_or, cond-true, cond-false}
-use Rattle.cell_script.proofs.Common.{eqb-true, false≢true, take-append-drop, take_all, length-drop, length-take-le, CellPlan}
-use Rattle.cell_script.proofs.Common.{length_before, Draft, plan_at, with_line, is_line, lines, onto_first, draft_after, stated}
-use Rattle.cell_script.proofs.Common.{stated_plan, empty_draft, eqb-false}
-use Rattle.line_text.proofs.StatedTexts.{before-mark, before-other}
+use Rattle.cell_script.proofs.Common.{◌≡◌, ℕ, zero, suc, ◌+◌, ◌-◌, ◌<◌, ◌≤◌, ◌==◌, Bool, true, false, List, [], ◌∷◌, ◌++◌, length, take, ap}
+use Rattle.cell_script.proofs.Common.{drop, refl, sym, ◌∙◌, arith, Option, None, Some, Err, option_map_or, ok_or, cond-true, cond-false}
+use Rattle.cell_script.proofs.Common.{eqb-true, false≢true, take-append-drop, take_all, length-drop, length-take-le, CellPlan, Draft, lines}
+use Rattle.cell_script.proofs.Common.{length_before, plan_at, with_line, is_line, onto_first, draft_after, stated, stated_plan, empty_draft}
+use Rattle.cell_script.proofs.Common.{eqb-false, before-mark, before-other}
 
 -- ---- clauses
 

@@ -1,9 +1,7 @@
 -- Lines of several fields, which were read one after another.
 use Rattle.cell_script.proofs.Common.{Bool, LineForm, LinkPlan, List, None, Option, Some, Values, [], ap, arith, at_end, codes, cond-false}
-use Rattle.cell_script.proofs.Common.{cond-true, false, is_link, lawful_line, link_in, link_statement, not, number_up_to}
-use Rattle.cell_script.proofs.Common.{past, read64, refl, script_field, signed_in, sym}
-use Rattle.cell_script.proofs.Common.{true, unsigned_abs, w64, ℕ, ℤ, ◌∙◌, ◌∷◌, ◌≡◌, ◌≤◌}
-use Rattle.std.proofs.Common.{of_z, to_z}
+use Rattle.cell_script.proofs.Common.{cond-true, false, is_link, lawful_line, link_in, link_statement, number_up_to, past, read64, refl, ℕ}
+use Rattle.cell_script.proofs.Common.{script_field, signed_in, sym, true, unsigned_abs, w64, ℤ, ◌∙◌, ◌∷◌, ◌≡◌, ◌≤◌, of_z, to_z}
 use Rattle.cell_script.proofs.ScriptBounds.{step}
 
 -- what is made of the values of a line, by what is left after them

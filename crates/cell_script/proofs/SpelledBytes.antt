@@ -3,14 +3,11 @@
 use Rattle.cell_script.proofs.Common.{◌≡◌, ℕ, zero, suc, ◌+◌, ◌*◌, ◌/◌, ◌%◌, ◌^◌, ◌<◌, ◌≤◌, Bool, true, false, ◌&&◌, nat_le, List, [], ◌∷◌}
 use Rattle.cell_script.proofs.Common.{◌++◌, length, refl, ap, ◌∙◌, arith, decimal, slice_index, take, drop, codes, inl, inr, length-append}
 use Rattle.cell_script.proofs.Common.{length-drop, is_ascii_digit, byte_at, bytes_high_first, to_be_bytes, w32, w64, all_ascii_digits}
-use Rattle.cell_script.proofs.Common.{pow-le-pow_right, and_from, and_parts, cases_lt, le-leb, leb-true, ne_eqb, digits_decimal}
-use Rattle.cell_script.proofs.Common.{length-decimal-le, length-take, length-encode_with, IsBytes, encode_lower, encode_with, lower_digits}
-use Rattle.cell_script.proofs.Common.{number_lt, number, bit_text, digit_of, digits_of, octet_count, packed_octets, padded, serial_digits}
-use Rattle.cell_script.proofs.Common.{state_digits, is_line, length_before}
-use Rattle.line_text.proofs.Digits.{length-packed}
-use Rattle.line_text.proofs.Numerals.{own_numerals}
+use Rattle.cell_script.proofs.Common.{pow-le-pow_right, and_from, and_parts, cases_lt, le-leb, leb-true, ne_eqb, digits_decimal, IsBytes}
+use Rattle.cell_script.proofs.Common.{length-decimal-le, length-take, length-encode_with, encode_lower, encode_with, lower_digits, number}
+use Rattle.cell_script.proofs.Common.{number_lt, bit_text, digit_of, digits_of, octet_count, packed_octets, padded, serial_digits, is_line}
+use Rattle.cell_script.proofs.Common.{state_digits, length_before, length-packed, own_numerals, before-other}
 use Rattle.cell_script.proofs.ScriptSplits.{is_line-end, is_line-more}
-use Rattle.line_text.proofs.StatedTexts.{before-other}
 
 -- whether all bytes are in a range
 abbrev pub are_within : ℕ → ℕ → List ℕ → Bool

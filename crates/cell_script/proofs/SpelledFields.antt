@@ -1,9 +1,9 @@
 -- Fields read back: a key, and after it a value that ends at a space or with the text.
 use Rattle.cell_script.proofs.Common.{◌≡◌, ℕ, ◌==◌, true, List, [], ◌∷◌, ◌++◌, length, refl, ap, ◌∙◌, arith, take, drop, Option, nat_eq}
 use Rattle.cell_script.proofs.Common.{append-nil, pointwise, drop-append_seam, take-append_seam, and_from, cond-true, eq-eqb, script_field}
-use Rattle.cell_script.proofs.Common.{append_assoc, keyed, Some, subst, sym, past, value_of, begins_with, length_before}
+use Rattle.cell_script.proofs.Common.{append_assoc, keyed, Some, subst, sym, past, value_of, begins_with, length_before, before-mark}
+use Rattle.cell_script.proofs.Common.{before-none}
 use Rattle.cell_script.proofs.SpelledBytes.{are_within, before_low_mark}
-use Rattle.line_text.proofs.StatedTexts.{before-mark, before-none}
 
 same_bytes : (xs : List ℕ) → pointwise nat_eq xs xs ≡ true
 same_bytes [] = refl

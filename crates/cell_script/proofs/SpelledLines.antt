@@ -1,18 +1,17 @@
 -- Lines read back: what each kind of statement is, from the text that it is written with.
-use Rattle.cell_script.proofs.Common.{Bool, CellIdentity, CheckForm, Complemented, FieldsFit, FrameRate, IsSaid, IsStatedCell}
-use Rattle.cell_script.proofs.Common.{IsSyncMessage, IsTail, IsTrafficFrame, LineForm, List, None, NumberRow, Option, Page, Plain, R9600}
-use Rattle.cell_script.proofs.Common.{SetOne, SetTwo, Some, Statement, SyncFields, SyncPlan, TrafficFrame, TrafficLine, Values, [], admits}
-use Rattle.cell_script.proofs.Common.{and_parts, ap, append_assoc, arith, bit_text, bits_in_text, cell_in, cell_line, cell_statement}
-use Rattle.cell_script.proofs.Common.{check_form, codes, decimal, eq-eqb, false, fields_text, fixed_fields, fixed_fit, form_bit}
-use Rattle.cell_script.proofs.Common.{frame_statement, freq_in, gain_row, information_bits_of, is_body, key_of, lawful_message, leb-true}
-use Rattle.cell_script.proofs.Common.{length, length_before, link_in, link_statement, local_rows, local_values, nat_le, network_rows}
-use Rattle.cell_script.proofs.Common.{network_values, number, number_up_to, numbers_in, numbers_text, option_map, page_statement, paging_in}
-use Rattle.cell_script.proofs.Common.{paging_statement, past, past_freq, past_numbers, pilot_in, pilot_statement, ranged, read_as, refl}
-use Rattle.cell_script.proofs.Common.{script_field, stated_page_in, statement_in, statement_text, subst, suc, sym, sync_after, sync_fields}
-use Rattle.cell_script.proofs.Common.{sync_in, tail_of, take, traffic_frame_in, traffic_in, traffic_statement, true, written_as}
-use Rattle.cell_script.proofs.Common.{written_cell, written_frame, written_freq, written_link, written_page, written_paging, written_pilot}
-use Rattle.cell_script.proofs.Common.{written_sync, written_traffic, zero, ℕ, ◌%◌, ◌&&◌, ◌*◌, ◌++◌, ◌+◌, ◌-◌, ◌/◌, ◌<◌, ◌==◌, ◌^◌, ◌∙◌, ◌∷◌}
-use Rattle.cell_script.proofs.Common.{◌≡◌, ◌≤◌}
+use Rattle.cell_script.proofs.Common.{Bool, CellIdentity, CheckForm, Complemented, FieldsFit, FrameRate, IsSaid, IsStatedCell, IsTail, List}
+use Rattle.cell_script.proofs.Common.{IsSyncMessage, IsTrafficFrame, LineForm, None, NumberRow, Option, Page, Plain, R9600, SetOne, SetTwo}
+use Rattle.cell_script.proofs.Common.{Some, Statement, SyncFields, SyncPlan, TrafficFrame, TrafficLine, Values, [], admits, and_parts, ap}
+use Rattle.cell_script.proofs.Common.{append_assoc, arith, bit_text, bits_in_text, cell_in, cell_line, cell_statement, check_form, codes, ℕ}
+use Rattle.cell_script.proofs.Common.{decimal, eq-eqb, false, fields_text, fixed_fields, fixed_fit, form_bit, frame_statement, freq_in, suc}
+use Rattle.cell_script.proofs.Common.{gain_row, information_bits_of, is_body, key_of, lawful_message, leb-true, length, length_before, past}
+use Rattle.cell_script.proofs.Common.{link_in, link_statement, local_rows, local_values, nat_le, network_rows, network_values, number, refl}
+use Rattle.cell_script.proofs.Common.{number_up_to, numbers_in, numbers_text, option_map, page_statement, paging_in, paging_statement, sym}
+use Rattle.cell_script.proofs.Common.{past_freq, past_numbers, pilot_in, pilot_statement, ranged, read_as, script_field, stated_page_in}
+use Rattle.cell_script.proofs.Common.{statement_in, statement_text, subst, sync_after, sync_fields, sync_in, tail_of, take, traffic_in, ◌%◌}
+use Rattle.cell_script.proofs.Common.{traffic_frame_in, traffic_statement, true, written_as, written_cell, written_frame, written_freq, ◌*◌}
+use Rattle.cell_script.proofs.Common.{written_link, written_page, written_paging, written_pilot, written_sync, written_traffic, zero, ◌&&◌}
+use Rattle.cell_script.proofs.Common.{◌++◌, ◌+◌, ◌-◌, ◌/◌, ◌<◌, ◌==◌, ◌^◌, ◌∙◌, ◌∷◌, ◌≡◌, ◌≤◌}
 use Rattle.cell_script.proofs.LineForms.{IsLineForm, are_sound, bits_word, keyed_within, number_word, said_back, said_within}
 use Rattle.cell_script.proofs.ScriptMessages.{is_message}
 use Rattle.cell_script.proofs.SpelledBytes.{are_within, within-append, within-wider}

@@ -1,20 +1,17 @@
 -- Values read back from the texts that they are spelled with.
-use Rattle.cell_script.proofs.Common.{◌≡◌, ℕ, zero, suc, ◌+◌, ◌-◌, ◌*◌, ◌/◌, ◌%◌, ◌^◌, ◌<◌, ◌≤◌, ◌==◌, Bool, true, false, List, [], ◌∷◌}
-use Rattle.cell_script.proofs.Common.{◌++◌, length, refl, sym, ap, ◌∙◌, arith, decimal, slice_index, take, drop, replicate, codes, Some}
-use Rattle.cell_script.proofs.Common.{None, Option, unwrap_or, append_assoc, append-nil, length-append, length-take-le, take-append-drop}
-use Rattle.cell_script.proofs.Common.{flat_map, option_and_then, byte_at, bytes_high_first, to_be_bytes, w32, drop-append_seam}
-use Rattle.cell_script.proofs.Common.{take-append_seam, cond-false, cond-true, eq-eqb, eqb-true, le-ltb, lt-leb, lt-ltb, ne_eqb}
-use Rattle.cell_script.proofs.Common.{length-replicate, from_be_bytes-to_be_bytes_4, from_be_bytes-to_be_bytes_8, decode_of-encode_lower}
-use Rattle.cell_script.proofs.Common.{IsBytes, encode_lower, encode_with, lower_digits, binary, number, IsState, binary-number, bit_text}
-use Rattle.cell_script.proofs.Common.{digits_of, octet_count, packed_octets, padded, serial_digits, state_digits, all_clear, as_state}
-use Rattle.cell_script.proofs.Common.{text_after, bits_in_text, power_bits_in, digits_after, hex_bits, hex_digit, hex_from, length_before}
-use Rattle.cell_script.proofs.Common.{number_up_to, octets_in, serial_number_in, state_in, unpadded, ℤ, FitsSigned, w16, signed_in}
-use Rattle.cell_script.proofs.Common.{signed_decimal}
-use Rattle.line_text.proofs.Numerals.{one_numeral, one_signed_numeral}
-use Rattle.std.proofs.lemmas.List.{length-drop}
+use Rattle.cell_script.proofs.Common.{◌≡◌, ℕ, zero, suc, ◌+◌, ◌-◌, ◌*◌, ◌/◌, ◌%◌, ◌^◌, ◌<◌, ◌≤◌, ◌==◌, Bool, true, false, List, [], ◌∷◌, ap}
+use Rattle.cell_script.proofs.Common.{◌++◌, length, refl, sym, ◌∙◌, arith, decimal, slice_index, take, drop, replicate, codes, Some, None}
+use Rattle.cell_script.proofs.Common.{Option, unwrap_or, append_assoc, append-nil, length-append, length-take-le, take-append-drop, byte_at}
+use Rattle.cell_script.proofs.Common.{flat_map, option_and_then, bytes_high_first, to_be_bytes, w32, drop-append_seam, take-append_seam, ℤ}
+use Rattle.cell_script.proofs.Common.{cond-false, cond-true, eq-eqb, eqb-true, le-ltb, lt-leb, lt-ltb, ne_eqb, length-replicate, IsBytes}
+use Rattle.cell_script.proofs.Common.{from_be_bytes-to_be_bytes_4, from_be_bytes-to_be_bytes_8, decode_of-encode_lower, encode_lower, w16}
+use Rattle.cell_script.proofs.Common.{encode_with, lower_digits, binary, number, IsState, binary-number, bit_text, digits_of, octet_count}
+use Rattle.cell_script.proofs.Common.{packed_octets, padded, serial_digits, state_digits, all_clear, as_state, text_after, bits_in_text}
+use Rattle.cell_script.proofs.Common.{power_bits_in, digits_after, hex_bits, hex_digit, hex_from, length_before, number_up_to, octets_in}
+use Rattle.cell_script.proofs.Common.{serial_number_in, state_in, unpadded, FitsSigned, signed_in, signed_decimal, one_numeral, length-drop}
+use Rattle.cell_script.proofs.Common.{one_signed_numeral, before-mark, hex_from-digit, hex_from-none}
 use Rattle.cell_script.proofs.SpelledBytes.{are_within, at_below, before_high_mark, bytes_are, decimal_within, digits_of_long, octet_digits}
 use Rattle.cell_script.proofs.SpelledBytes.{octet_digits_long, octets_are, serial_long, state_long}
-use Rattle.line_text.proofs.StatedTexts.{before-mark, hex_from-digit, hex_from-none}
 
 -- ---- numbers
 

@@ -1,16 +1,15 @@
 -- Lines of fields that have no sign: what was read of them by their table, and what the line says.
-use Rattle.cell_script.proofs.Common.{List, None, Option, Some, [], ap, arith, at_end, cases_eq, drop, get_or, get_or-set_other}
-use Rattle.cell_script.proofs.Common.{get_or-set_same, inl, inr, length, option_map, past, script_field, set, subst, sym, ℕ}
-use Rattle.cell_script.proofs.Common.{◌+◌, ◌<◌, ◌∙◌, ◌∷◌, ◌≡◌, ◌≤◌, refl}
-use Rattle.cell_script.proofs.Common.{Bool, CellIdentity, CheckForm, PagingLine, PilotPlan, TrafficLine, cell_in, cell_line, codes}
-use Rattle.cell_script.proofs.Common.{check_form, cond, false, not, number_up_to, paging_in, pilot_in, serial_number_in, state_in}
-use Rattle.cell_script.proofs.Common.{traffic_in, true, ◌%◌, ◌/◌, ◌==◌}
+use Rattle.cell_script.proofs.Common.{List, None, Option, Some, [], ap, arith, at_end, cases_eq, drop, get_or, get_or-set_other, inl, inr}
+use Rattle.cell_script.proofs.Common.{get_or-set_same, length, option_map, past, script_field, set, subst, sym, ℕ, ◌+◌, ◌<◌, ◌∙◌, ◌∷◌, ◌≡◌}
+use Rattle.cell_script.proofs.Common.{◌≤◌, refl, Bool, CellIdentity, CheckForm, PagingLine, PilotPlan, TrafficLine, cell_in, cell_line, not}
+use Rattle.cell_script.proofs.Common.{codes, check_form, cond, false, number_up_to, paging_in, pilot_in, serial_number_in, state_in, true}
+use Rattle.cell_script.proofs.Common.{traffic_in, ◌%◌, ◌/◌, ◌==◌}
 use Rattle.std.proofs.lemmas.List.{at_drop_all, at_drop_more, get_or-map}
 use Rattle.cell_script.specs.ScriptFields.{AreOfForms, IsOfForm, row_form, unsigned_from, unsigned_line, unsigned_of}
 use Rattle.cell_script.specs.declared.tables.FieldForm.{FieldForm}
-use Rattle.cell_script.specs.declared.tables.FieldForm.TheVariants as forms
 use Rattle.cell_script.specs.declared.tables.StatementField.{StatementField}
 use Rattle.cell_script.proofs.ScriptBounds.{step}
+use Rattle.cell_script.specs.declared.tables.FieldForm.TheVariants as forms
 
 -- ---- one field after another
 

@@ -1,15 +1,14 @@
 -- The script of a plan states that plan again, where some script states it.
 use Rattle.cell_script.proofs.Common.{◌≡◌, ℕ, ◌+◌, ◌-◌, ◌==◌, cond, List, [], ◌∷◌, ◌++◌, length, take, refl, sym, ap, subst, ◌∙◌, Option}
 use Rattle.cell_script.proofs.Common.{None, Some, Ok, ok_or, option_map, append_assoc, append-nil, map-append, flat_map, flat_map-append}
-use Rattle.cell_script.proofs.Common.{cond_some, same_Some, Rate, R9600, R4800, CellPlan, SyncPlan, Page, PagingPlan, TrafficPlan}
-use Rattle.cell_script.proofs.Common.{TrafficFrame, PagingLine, TrafficLine, Statement, Stage, Cell, Link, Pilot, Sync, Paging, FirstPage}
-use Rattle.cell_script.proofs.Common.{Pages, Traffic, FirstFrame, Frames, Draft, draft_at, empty_draft, plan_at, with_line, with_next}
-use Rattle.cell_script.proofs.Common.{with_page, with_statement, on_last, opened_paging, opened_traffic, draft_after, is_line, lines}
-use Rattle.cell_script.proofs.Common.{stated, stated_plan, statement_in, stage_after_sync, count_after, is_complete, is_cycle, may_follow}
-use Rattle.cell_script.proofs.Common.{next_stage, page_stage, ◌&&◌, line_of_paging, line_of_traffic, lines_of, paging_statements}
-use Rattle.cell_script.proofs.Common.{statement_line, statement_text, statements_of, sync_statements, traffic_statements, script_of}
-use Rattle.cell_script.proofs.Common.{one_frame_more, one_page_more, with_frame, sent_paging_rate, HasSaid, IsLawfulStatement}
-use Rattle.std.proofs.lemmas.Bool.{cond_both}
+use Rattle.cell_script.proofs.Common.{cond_some, same_Some, Rate, R9600, R4800, CellPlan, SyncPlan, Page, PagingPlan, TrafficPlan, Stage}
+use Rattle.cell_script.proofs.Common.{TrafficFrame, PagingLine, TrafficLine, Statement, Cell, Link, Pilot, Sync, Paging, FirstPage, Pages}
+use Rattle.cell_script.proofs.Common.{Traffic, FirstFrame, Frames, Draft, draft_at, empty_draft, plan_at, with_line, with_next, with_page}
+use Rattle.cell_script.proofs.Common.{with_statement, on_last, opened_paging, opened_traffic, draft_after, is_line, lines, stated, is_cycle}
+use Rattle.cell_script.proofs.Common.{stated_plan, statement_in, stage_after_sync, count_after, is_complete, may_follow, next_stage, ◌&&◌}
+use Rattle.cell_script.proofs.Common.{page_stage, line_of_paging, line_of_traffic, lines_of, paging_statements, statement_line, script_of}
+use Rattle.cell_script.proofs.Common.{statement_text, statements_of, sync_statements, traffic_statements, one_frame_more, one_page_more}
+use Rattle.cell_script.proofs.Common.{with_frame, sent_paging_rate, HasSaid, IsLawfulStatement, cond_both}
 use Rattle.cell_script.proofs.ChannelStages.{HasChannels, IsAt, IsBare, IsOpen, IsOpenTraffic, added, all_said, empty_said, frame_next}
 use Rattle.cell_script.proofs.ChannelStages.{page_next, paging_next, said_at, said_whole, traffic_next, with_channel, with_more, with_sent}
 use Rattle.cell_script.proofs.ChannelStages.{with_traffic}

@@ -1,4 +1,4 @@
--- The modules of definitions of `cell_script`.
+pub mod Common
 pub mod LineForms
 pub mod Rows
 pub mod Script

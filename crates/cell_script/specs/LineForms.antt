@@ -1,16 +1,16 @@
 -- Lines that state their fields one after another: by one table of keys and of the forms of their
 -- values a line is read and written.
+use Rattle.cell_script.specs.Common.{FieldForm}
 use Rattle.std.specs.Prelude.{ℕ, ℤ, ◌≡◌, ◌≤◌, ◌<◌, ◌^◌, Bool, true, if◌then◌else◌, List, [], ◌∷◌}
 use Rattle.std.specs.Prelude.{◌++◌, length, decimal, FitsSigned, Option, None, Some}
 use Rattle.std.specs.Fmt.{signed_decimal}
 use Rattle.std.specs.Int.{w16}
 use Rattle.long_code.specs.LongCode.{IsState}
 use Rattle.line_text.specs.Texts.{bit_text, digits_of, serial_digits, state_digits}
-use Rattle.cell_script.specs.declared.tables.FieldForm.{FieldForm}
-use Rattle.cell_script.specs.declared.tables.FieldForm.TheVariants as forms
 use Rattle.cell_script.specs.ScriptFields.{◌>>=◌, at_end, script_field, past}
-use Rattle.line_text.specs.StatedValues.{bits_in_text, number_up_to, power_bits_in}
-use Rattle.line_text.specs.StatedValues.{serial_number_in, signed_in, state_in}
+use Rattle.line_text.specs.StatedValues.{bits_in_text, number_up_to, power_bits_in, signed_in}
+use Rattle.line_text.specs.StatedValues.{serial_number_in, state_in}
+use Rattle.cell_script.specs.declared.tables.FieldForm.TheVariants as forms
 
 -- ---- values
 

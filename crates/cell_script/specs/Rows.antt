@@ -1,6 +1,6 @@
 -- Fields that hold numbers, of which several follow one another in a line.
 use Rattle.std.specs.Prelude.{ℕ, List, [], ◌∷◌, length, map, get_or, ◌<◌, ◌≤◌, ◌^◌, ◌-◌, ◌++◌, ◌+◌}
-use Rattle.std.specs.Prelude.{codes, Option, None, Some}
+use Rattle.std.specs.Prelude.{codes, Option, Some}
 use Rattle.sync_message.specs.Rows.{sync_names, sync_widths}
 use Rattle.cell_script.specs.ScriptFields.{◌>>=◌, script_field, past}
 use Rattle.line_text.specs.StatedValues.{number_up_to}

@@ -1,20 +1,13 @@
 -- Scripts: the plan that a script states, and the first fault of one that states none.
+use Rattle.cell_script.specs.Common.{Width, CellPlan, PagingPlan, PilotPlan, SyncPlan, TrafficPlan}
+use Rattle.cell_script.specs.Common.{ScriptFault, loudness, most_part}
 use Rattle.std.specs.Prelude.{ℕ, ◌+◌, ◌-◌, ◌==◌, nat_lt, Bool, true, false, if◌then◌else◌, List, []}
 use Rattle.std.specs.Prelude.{◌∷◌, ◌++◌, length, map, take, Option, None, Some, Result, Ok, Err}
 use Rattle.std.specs.Prelude.{ok_or, option_map}
 use Rattle.std.specs.Option.{option_map_or, option_or}
 use Rattle.cdma_io.specs.SampleFile.{most_samples}
-use Rattle.chip_core.specs.declared.width.Width.{Width}
-use Rattle.cell_plan.specs.declared.plan.CellPlan.{CellPlan}
-use Rattle.cell_plan.specs.declared.plan.PagingPlan.{PagingPlan}
-use Rattle.cell_plan.specs.declared.plan.PilotPlan.{PilotPlan}
-use Rattle.cell_plan.specs.declared.plan.SyncPlan.{SyncPlan}
-use Rattle.cell_plan.specs.declared.plan.TrafficPlan.{TrafficPlan}
-use Rattle.cell_script.specs.declared.script_fault.ScriptFault.{ScriptFault}
-use Rattle.cell_script.specs.declared.script_fault.ScriptFault.TheVariants.{Line, Walsh, Gain}
-use Rattle.cell_script.specs.declared.script_fault.ScriptFault.TheVariants.{TooLoud, TooLong}
-use Rattle.cell_script.specs.declared.script_fault.ScriptFault.TheVariants.{TooBig}
-use Rattle.cell_plan.specs.Plan.{loudness, most_part}
+use Rattle.cell_script.specs.declared.script_fault.ScriptFault.TheVariants.{TooLoud, TooLong, Walsh}
+use Rattle.cell_script.specs.declared.script_fault.ScriptFault.TheVariants.{TooBig, Line, Gain}
 use Rattle.cell_script.specs.ScriptDrafts.{Draft, empty_draft, plan_at, with_line}
 
 -- ---- lines

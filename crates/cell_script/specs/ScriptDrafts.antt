@@ -1,20 +1,14 @@
 -- The plan that the statements of a script make, one after another.
-use Rattle.std.specs.Prelude.{ℕ, if◌then◌else◌, List, [], ◌∷◌, ◌++◌, pos, option_map}
-use Rattle.std.specs.Prelude.{option_and_then, Option, None, Some}
-use Rattle.chip_core.specs.declared.check_form.CheckForm.TheVariants.{Plain}
-use Rattle.cell_plan.specs.declared.plan.CellPlan.{CellPlan}
-use Rattle.cell_plan.specs.declared.plan.Page.{Page}
-use Rattle.cell_plan.specs.declared.plan.PagingPlan.{PagingPlan}
+use Rattle.cell_script.specs.Common.{Plain, CellPlan, Page, PagingPlan, TrafficPlan, TrafficLine}
+use Rattle.cell_script.specs.Common.{TrafficFrame, Statement}
+use Rattle.std.specs.Prelude.{ℕ, if◌then◌else◌, List, [], ◌∷◌, ◌++◌, pos, option_map, Option, None}
+use Rattle.std.specs.Prelude.{option_and_then, Some}
 use Rattle.cell_script.specs.declared.stage.Stage.{Stage}
 use Rattle.cell_script.specs.declared.stage.Stage.TheVariants.{Cell}
-use Rattle.cell_plan.specs.declared.plan.TrafficPlan.{TrafficPlan}
 use Rattle.cell_script.specs.declared.statements.PagingLine.{PagingLine}
-use Rattle.cell_script.specs.declared.statements.TrafficLine.{TrafficLine}
-use Rattle.cell_plan.specs.declared.traffic_frame.TrafficFrame.{TrafficFrame}
-use Rattle.cell_script.specs.declared.statements.Statement.{Statement}
-use Rattle.cell_script.specs.declared.statements.Statement.TheVariants as statements
 use Rattle.cell_script.specs.ScriptLines.{statement_in}
 use Rattle.cell_script.specs.ScriptStages.{is_complete, next_stage}
+use Rattle.cell_script.specs.declared.statements.Statement.TheVariants as statements
 
 -- what stands for the parts of a plan that weren't stated yet
 abbrev pub empty_plan : CellPlan

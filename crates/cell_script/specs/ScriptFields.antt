@@ -1,12 +1,12 @@
 -- The fields of a script's lines, read one after another.
-use Rattle.std.specs.Prelude.{ℕ, ◌+◌, if◌then◌else◌, List, [], ◌∷◌, length, take, drop, ◌<◌}
-use Rattle.std.specs.Prelude.{◌≤◌, ◌^◌, Option, None, Some, ℤ, map, get_or, set}
+use Rattle.std.specs.Prelude.{ℕ, ◌+◌, if◌then◌else◌, List, [], ◌∷◌, length, take, drop, ◌<◌, ◌≤◌, ℤ}
+use Rattle.std.specs.Prelude.{◌^◌, Option, None, Some, map, get_or, set}
 use Rattle.long_code.specs.LongCode.{IsState}
 use Rattle.cell_script.specs.declared.tables.FieldForm.{FieldForm}
-use Rattle.cell_script.specs.declared.tables.FieldForm.TheVariants as forms
 use Rattle.cell_script.specs.declared.tables.StatementField.{StatementField}
-use Rattle.line_text.specs.StatedValues.{begins_with, length_before, number_up_to}
-use Rattle.line_text.specs.StatedValues.{serial_number_in, signed_in, state_in}
+use Rattle.line_text.specs.StatedValues.{begins_with, length_before, number_up_to, serial_number_in}
+use Rattle.line_text.specs.StatedValues.{signed_in, state_in}
+use Rattle.cell_script.specs.declared.tables.FieldForm.TheVariants as forms
 
 -- what stands after a key, from there up to the next space, and from that space on
 abbrev pub keyed : List ℕ → List ℕ → List ℕ

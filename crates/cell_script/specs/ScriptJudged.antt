@@ -1,18 +1,14 @@
 -- What a judge knows of a plan while the lines that make it are read.
-use Rattle.std.specs.Prelude.{◌≡◌, ℕ, ◌+◌, ◌*◌, ◌<◌, ◌^◌, false, length, get_or, List, [], ◌∷◌}
-use Rattle.std.specs.Prelude.{◌++◌, Option, Ok, unsigned_abs}
+use Rattle.cell_script.specs.Common.{Width, CellPlan, Statement, ScriptFault, sync_gain}
+use Rattle.std.specs.Prelude.{◌≡◌, ℕ, ◌+◌, ◌*◌, ◌<◌, ◌^◌, false, length, get_or, List, [], ◌∷◌, Ok}
+use Rattle.std.specs.Prelude.{◌++◌, Option, unsigned_abs}
 use Rattle.std.specs.Option.{option_or}
-use Rattle.chip_core.specs.declared.width.Width.{Width}
-use Rattle.cell_plan.specs.declared.plan.CellPlan.{CellPlan}
 use Rattle.cell_script.specs.declared.judge.Judge.{Judge}
 use Rattle.cell_script.specs.declared.judge.ChannelRows.{ChannelRows}
-use Rattle.cell_script.specs.declared.statements.Statement.{Statement}
-use Rattle.cell_script.specs.declared.statements.Statement.TheVariants as statements
-use Rattle.cell_script.specs.declared.script_fault.ScriptFault.{ScriptFault}
-use Rattle.cell_plan.specs.Plan.{sync_gain}
-use Rattle.cell_script.specs.Script.{ChannelLine, channel_lines, first_channels, gain_fault}
-use Rattle.cell_script.specs.Script.{is_used, long_fault, loud_fault, repeated, silent, stated_plan}
+use Rattle.cell_script.specs.Script.{ChannelLine, channel_lines, first_channels, gain_fault, silent}
+use Rattle.cell_script.specs.Script.{is_used, long_fault, loud_fault, repeated, stated_plan}
 use Rattle.cell_script.specs.Script.{walsh_fault}
+use Rattle.cell_script.specs.declared.statements.Statement.TheVariants as statements
 
 abbrev pub gains_of : List ChannelLine → ℕ
 gains_of [] = 0

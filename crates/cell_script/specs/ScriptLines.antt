@@ -1,35 +1,22 @@
 -- The lines of a script: what each kind of statement says, whatever stands before it.
+use Rattle.cell_script.specs.Common.{Plain, Complemented, is_body, SyncFields, information_bits_of}
+use Rattle.cell_script.specs.Common.{PilotPlan, SyncPlan, CellIdentity, LinkPlan, Page, FrameRate}
+use Rattle.cell_script.specs.Common.{SetOne, SetTwo, TrafficFrame, R14400, R7200, R3600, R1800}
+use Rattle.cell_script.specs.Common.{R9600, R4800, R2400, R1200, TrafficLine, Statement}
 use Rattle.std.specs.Prelude.{ℕ, ◌+◌, ◌*◌, ◌/◌, ◌%◌, ◌==◌, nat_le, nat_lt, Bool, true, false, not}
-use Rattle.std.specs.Prelude.{ℤ}
-use Rattle.std.specs.Prelude.{if◌then◌else◌, ◌&&◌, ◌||◌, List, [], ◌∷◌, length, get_or, codes}
+use Rattle.std.specs.Prelude.{ℤ, if◌then◌else◌, ◌&&◌, ◌||◌, List, [], ◌∷◌, length, get_or, codes}
 use Rattle.std.specs.Prelude.{Option, None, Some, unsigned_abs, option_map}
 use Rattle.chip_core.specs.declared.check_form.CheckForm.{CheckForm}
-use Rattle.chip_core.specs.declared.check_form.CheckForm.TheVariants.{Plain, Complemented}
-use Rattle.paging_message.specs.Reading.{is_body}
 use Rattle.sync_message.specs.Rows.{freq_row}
-use Rattle.sync_message.specs.declared.fields.SyncFields.{SyncFields}
-use Rattle.cell_plan.specs.TrafficFrames.{information_bits_of}
-use Rattle.cell_plan.specs.declared.plan.PilotPlan.{PilotPlan}
-use Rattle.cell_plan.specs.declared.plan.SyncPlan.{SyncPlan}
-use Rattle.cell_plan.specs.declared.plan.CellIdentity.{CellIdentity}
-use Rattle.cell_plan.specs.declared.plan.LinkPlan.{LinkPlan}
-use Rattle.cell_plan.specs.declared.plan.Page.{Page}
-use Rattle.cell_plan.specs.declared.traffic_frame.FrameRate.{FrameRate}
-use Rattle.cell_plan.specs.declared.traffic_frame.FrameRate.TheVariants.{SetOne, SetTwo}
-use Rattle.cell_plan.specs.declared.traffic_frame.TrafficFrame.{TrafficFrame}
-use Rattle.symbol_path.specs.declared.rate_two.Rate2.TheVariants.{R14400, R7200, R3600, R1800}
-use Rattle.quality_bits.specs.declared.rate.Rate.TheVariants.{R9600, R4800, R2400, R1200}
 use Rattle.cell_script.specs.declared.statements.PagingLine.{PagingLine}
-use Rattle.cell_script.specs.declared.statements.TrafficLine.{TrafficLine}
-use Rattle.cell_script.specs.declared.statements.Statement.{Statement}
-use Rattle.cell_script.specs.declared.statements.Statement.TheVariants as statements
-use Rattle.cell_script.specs.declared.tables.FieldForm.TheVariants as forms
 use Rattle.cell_script.specs.LineForms.{LineForm, StatementRow, formed, read_as, reader_of, valued}
 use Rattle.cell_script.specs.LineForms.TextForm.{BitList, SixteenDigits}
 use Rattle.cell_script.specs.Rows.{NumberRow, local_rows, network_rows, numbers_in, past_numbers}
 use Rattle.cell_script.specs.Rows.{ranged}
 use Rattle.cell_script.specs.ScriptFields.{◌>>=◌, at_end, script_field, past}
 use Rattle.line_text.specs.StatedValues.{begins_with, bits_in_text, number_up_to}
+use Rattle.cell_script.specs.declared.statements.Statement.TheVariants as statements
+use Rattle.cell_script.specs.declared.tables.FieldForm.TheVariants as forms
 
 -- ---- statements
 

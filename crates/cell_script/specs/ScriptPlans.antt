@@ -1,13 +1,11 @@
 -- What a statement says, within its bounds.
+use Rattle.cell_script.specs.Common.{IsStatedCell, IsStatedLink, IsTrafficFrame, Statement}
 use Rattle.std.specs.Prelude.{◌≤◌, ◌<◌}
 use Rattle.chip_core.specs.Complex.{norm}
 use Rattle.sync_message.specs.SyncMessage.{IsSyncMessage}
 use Rattle.paging_message.specs.Admitted.{HasMessage}
 use Rattle.quality_bits.specs.Capsules.{FillsCapsule}
 use Rattle.quality_bits.specs.declared.kind.Kind.TheVariants.{M30}
-use Rattle.cell_plan.specs.Stated.{IsStatedCell, IsStatedLink}
-use Rattle.cell_plan.specs.TrafficFrames.{IsTrafficFrame}
-use Rattle.cell_script.specs.declared.statements.Statement.{Statement}
 use Rattle.cell_script.specs.declared.statements.Statement.TheVariants as statements
 
 -- a channel's Walsh row is one

@@ -1,6 +1,6 @@
 -- The first line of a script and the lines after it.
+use Rattle.cell_script.specs.Common.{Statement}
 use Rattle.std.specs.Prelude.{ℕ, nat_lt, if◌then◌else◌, List, length, take, Option, None}
-use Rattle.cell_script.specs.declared.statements.Statement.{Statement}
 use Rattle.cell_script.specs.ScriptLines.{statement_in}
 use Rattle.line_text.specs.StatedValues.{length_before}
 

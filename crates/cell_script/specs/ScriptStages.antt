@@ -1,23 +1,17 @@
 -- Which statements of a script may follow one another.
+use Rattle.cell_script.specs.Common.{R9600, R4800, bits_left, half_frame_body, Page, SyncPlan}
+use Rattle.cell_script.specs.Common.{rate_set, FrameRate, SetOne, SetTwo, Statement}
 use Rattle.std.specs.Prelude.{ℕ, ◌+◌, ◌==◌, nat_le, ◌&&◌, Bool, true, false, if◌then◌else◌, length}
 use Rattle.std.specs.Prelude.{Option, None, Some}
 use Rattle.quality_bits.specs.declared.rate.Rate.{Rate}
-use Rattle.quality_bits.specs.declared.rate.Rate.TheVariants.{R9600, R4800}
-use Rattle.paging_message.specs.HalfFrames.{bits_left, half_frame_body}
-use Rattle.cell_plan.specs.declared.plan.Page.{Page}
-use Rattle.cell_plan.specs.declared.plan.SyncPlan.{SyncPlan}
-use Rattle.cell_plan.specs.TrafficFrames.{rate_set}
-use Rattle.cell_plan.specs.declared.traffic_frame.FrameRate.{FrameRate}
-use Rattle.cell_plan.specs.declared.traffic_frame.FrameRate.TheVariants.{SetOne, SetTwo}
 use Rattle.cell_plan.specs.declared.traffic_frame.RateSet.{RateSet}
 use Rattle.cell_plan.specs.declared.traffic_frame.RateSet.TheVariants.{One, Two}
 use Rattle.cell_script.specs.declared.stage.Stage.{Stage}
 use Rattle.cell_script.specs.declared.stage.Stage.TheVariants.{Cell, Link, Pilot, Sync, Paging}
-use Rattle.cell_script.specs.declared.stage.Stage.TheVariants.{FirstPage, Pages, Traffic}
-use Rattle.cell_script.specs.declared.stage.Stage.TheVariants.{FirstFrame, Frames}
-use Rattle.cell_script.specs.declared.statements.Statement.{Statement}
-use Rattle.cell_script.specs.declared.statements.Statement.TheVariants as statements
+use Rattle.cell_script.specs.declared.stage.Stage.TheVariants.{FirstPage, Pages, Traffic, Frames}
+use Rattle.cell_script.specs.declared.stage.Stage.TheVariants.{FirstFrame}
 use Rattle.cell_plan.specs.Pages.{half_frame_bits, laid_after}
+use Rattle.cell_script.specs.declared.statements.Statement.TheVariants as statements
 
 -- ---- pages (TIA/EIA-95-B, 7.7.2.1)
 

@@ -1,21 +1,13 @@
 -- Worked values of scripts, which the checker computes.
+use Rattle.cell_script.specs.Common.{bits_left, fill, is_body, Plain, R1800, SetTwo, CellPlan, Page}
+use Rattle.cell_script.specs.Common.{PagingPlan, TrafficPlan}
 use Rattle.std.specs.Prelude.{ℕ, ◌≡◌, refl, ◌/◌, ◌^◌, ◌++◌, List, [], ◌∷◌, codes, map, false, pos}
 use Rattle.std.specs.Prelude.{negsuc, take, Some, Ok, Err}
 use Rattle.hex.specs.Hex.{decode_pairs}
 use Rattle.paging_message.specs.Admitted.{admits}
-use Rattle.paging_message.specs.HalfFrames.{bits_left}
-use Rattle.paging_message.specs.Laying.{fill}
-use Rattle.paging_message.specs.Reading.{is_body}
 use Rattle.chip_core.specs.Bits.{binary}
-use Rattle.chip_core.specs.declared.check_form.CheckForm.TheVariants.{Plain}
 use Rattle.chip_core.specs.declared.width.Width.TheVariants.{Sixteen}
-use Rattle.symbol_path.specs.declared.rate_two.Rate2.TheVariants.{R1800}
 use Rattle.cell_plan.specs.SomeMessage.{some_sync}
-use Rattle.cell_plan.specs.declared.traffic_frame.FrameRate.TheVariants.{SetTwo}
-use Rattle.cell_plan.specs.declared.plan.CellPlan.{CellPlan}
-use Rattle.cell_plan.specs.declared.plan.Page.{Page}
-use Rattle.cell_plan.specs.declared.plan.PagingPlan.{PagingPlan}
-use Rattle.cell_plan.specs.declared.plan.TrafficPlan.{TrafficPlan}
 use Rattle.cell_script.specs.declared.script_fault.ScriptFault.TheVariants.{Line, TooLoud, TooLong}
 use Rattle.chip_core.specs.Decimals.{digits_from}
 use Rattle.line_text.specs.StatedValues.{bits_in_text, power_bits_in, digits_after, hex_bits}
@@ -25,8 +17,8 @@ use Rattle.cell_script.specs.Rows.{numbers_in, past_numbers}
 use Rattle.cell_script.specs.ScriptFields.{script_field, past}
 use Rattle.cell_script.specs.ScriptDrafts.{with_line, with_next}
 use Rattle.cell_script.specs.ScriptLines.{cell_in, freq_in, link_in, stated_page_in, paging_in}
-use Rattle.cell_script.specs.ScriptLines.{past_freq, pilot_in, statement_in, sync_after}
-use Rattle.cell_script.specs.ScriptLines.{traffic_frame_in, sync_in, traffic_in}
+use Rattle.cell_script.specs.ScriptLines.{past_freq, pilot_in, statement_in, sync_after, sync_in}
+use Rattle.cell_script.specs.ScriptLines.{traffic_frame_in, traffic_in}
 use Rattle.cell_script.specs.ScriptStages.{page_stage}
 use Rattle.cell_script.specs.Script.{is_line, lines, plan_named, draft_after, stated, stated_plan}
 

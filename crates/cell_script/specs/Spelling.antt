@@ -1,29 +1,19 @@
 -- How statements are written, the other side of how they are read, and the script of a plan.
+use Rattle.cell_script.specs.Common.{SyncFields, CellIdentity, CellPlan, LinkPlan, Page, PagingPlan}
+use Rattle.cell_script.specs.Common.{PilotPlan, SyncPlan, TrafficPlan, TrafficFrame, Statement}
+use Rattle.cell_script.specs.Common.{TrafficLine, FieldForm}
 use Rattle.std.specs.Prelude.{ℕ, ◌^◌, ◌<◌, List, [], ◌∷◌, ◌++◌, codes, decimal, map, Option, None}
 use Rattle.std.specs.Prelude.{Some}
 use Rattle.std.specs.List.{flat_map}
 use Rattle.line_text.specs.Texts.{bit_text, serial_digits, state_digits}
-use Rattle.sync_message.specs.declared.fields.SyncFields.{SyncFields}
-use Rattle.cell_plan.specs.declared.plan.CellIdentity.{CellIdentity}
-use Rattle.cell_plan.specs.declared.plan.CellPlan.{CellPlan}
-use Rattle.cell_plan.specs.declared.plan.LinkPlan.{LinkPlan}
-use Rattle.cell_plan.specs.declared.plan.Page.{Page}
-use Rattle.cell_plan.specs.declared.plan.PagingPlan.{PagingPlan}
-use Rattle.cell_plan.specs.declared.plan.PilotPlan.{PilotPlan}
-use Rattle.cell_plan.specs.declared.plan.SyncPlan.{SyncPlan}
-use Rattle.cell_plan.specs.declared.plan.TrafficPlan.{TrafficPlan}
-use Rattle.cell_plan.specs.declared.traffic_frame.TrafficFrame.{TrafficFrame}
 use Rattle.cell_script.specs.declared.statements.PagingLine.{PagingLine}
-use Rattle.cell_script.specs.declared.statements.Statement.{Statement}
-use Rattle.cell_script.specs.declared.statements.Statement.TheVariants as statements
-use Rattle.cell_script.specs.declared.statements.TrafficLine.{TrafficLine}
-use Rattle.cell_script.specs.declared.tables.FieldForm.{FieldForm}
-use Rattle.cell_script.specs.declared.tables.FieldForm.TheVariants as forms
 use Rattle.cell_script.specs.LineForms.{written_as}
 use Rattle.cell_script.specs.Rows.{NumberRow, local_rows, network_rows}
 use Rattle.cell_script.specs.ScriptLines.{cell_statement, frame_statement, freq_number, gain_row}
 use Rattle.cell_script.specs.ScriptLines.{link_statement, page_statement, paging_statement}
 use Rattle.cell_script.specs.ScriptLines.{pilot_statement, traffic_statement}
+use Rattle.cell_script.specs.declared.statements.Statement.TheVariants as statements
+use Rattle.cell_script.specs.declared.tables.FieldForm.TheVariants as forms
 
 -- ---- fields
 

@@ -1,14 +1,13 @@
 //! The fields of a line, read one after another.
 
-ghost use Rattle.std.specs.Prelude.{◌≡◌, ◌<◌, ◌≤◌, ℕ, Bool, List, true, false, length, IfSome};
-ghost use Rattle.std.specs.Prelude.{OnSome, MatchOption, IsTrue, ◌↔◌, unsigned_abs, [], None, Some};
-ghost use Rattle.std.specs.Prelude.{drop, take, ◌^◌, ◌-◌};
+ghost use Rattle.std.specs.Prelude.{◌≡◌, ◌<◌, ◌≤◌, ℕ, Bool, List, true, false, length, IfSome, ◌↔◌};
+ghost use Rattle.std.specs.Prelude.{OnSome, MatchOption, IsTrue, unsigned_abs, [], None, Some, ◌^◌};
+ghost use Rattle.std.specs.Prelude.{drop, take, ◌-◌};
 ghost use Rattle.line_text.specs.StatedValues.{begins_with, bits_in_text, length_before};
 ghost use Rattle.line_text.specs.StatedValues.{number_up_to, power_bits_in};
 ghost use Rattle.cell_script.specs.Rows.{key_of, sync_row};
-ghost use Rattle.cell_script.specs.ScriptFields.{IsOfForm, script_field, past, signed_of};
-ghost use Rattle.cell_script.specs.ScriptFields.{unsigned_of, value_of};
-ghost use Rattle.cell_script.specs.ScriptFields.{AreOfForms, unsigned_line};
+ghost use Rattle.cell_script.specs.ScriptFields.{IsOfForm, script_field, past, signed_of, value_of};
+ghost use Rattle.cell_script.specs.ScriptFields.{unsigned_of, AreOfForms, unsigned_line};
 
 use crate::tables::{FieldForm, StatementField};
 use chip_core::{Bits, PowerBits};

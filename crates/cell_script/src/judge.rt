@@ -1,19 +1,17 @@
 //! What is known of the plan of a script while its lines are read: in memory of a fixed size, what
 //! its faults need.
 
+ghost use Rattle.cell_script.specs.Common.{CellPlan as ThePlan, most_part, sync_gain, IsStatedLink};
 ghost use Rattle.std.specs.Prelude.{◌≡◌, ◌≢◌, ◌<◌, ◌≤◌, ◌+◌, ◌∷◌, ◌++◌, ◌^◌, [], List, Some, None};
 ghost use Rattle.std.specs.Prelude.{IfSome, if◌then◌else◌, option_map};
 ghost use Rattle.std.specs.Option.{option_or};
 ghost use Rattle.cdma_io.specs.SampleFile.{most_samples};
-ghost use Rattle.cell_plan.specs.declared.plan.CellPlan.{CellPlan as ThePlan};
 ghost use Rattle.cell_script.specs.declared.script_fault.ScriptFault.TheVariants.{Gain};
-ghost use Rattle.cell_plan.specs.Plan.{most_part, sync_gain};
 ghost use Rattle.cell_script.specs.Script.{ChannelLine, channel, gain_fault};
 ghost use Rattle.cell_script.specs.ScriptDrafts.{empty_plan, with_statement};
 ghost use Rattle.cell_script.specs.ScriptJudged.{judged_fault, judged_loudness, HasJudged, HasSeen};
 ghost use Rattle.cell_script.specs.ScriptJudged.{IsInOrder};
 ghost use Rattle.cell_script.specs.ScriptPlans.{HasRow};
-ghost use Rattle.cell_plan.specs.Stated.{IsStatedLink};
 
 use crate::script_fault::ScriptFault;
 use crate::statements::Statement;

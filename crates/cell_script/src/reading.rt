@@ -1,8 +1,8 @@
 //! From a script to the plan that it names, or to its fault.
 
+ghost use Rattle.cell_script.specs.Common.{IsLawfulPlan};
 ghost use Rattle.std.specs.Prelude.{◌≡◌, ◌≢◌, ◌≤◌, ◌<◌, ◌+◌, length, Ok, Err, IsOk, IfOk, IfErr};
 ghost use Rattle.std.specs.Prelude.{MatchOption, None, Some};
-ghost use Rattle.cell_plan.specs.Plan.{IsLawfulPlan};
 ghost use Rattle.cell_script.specs.Script.{plan_named, stated_plan};
 ghost use Rattle.cell_script.specs.ScriptJudged.{IsJudged};
 ghost use Rattle.cell_script.specs.ScriptPlans.{HasRow};

@@ -5,11 +5,11 @@ ghost use Rattle.std.specs.Fmt.{signed_decimal};
 ghost use Rattle.sync_message.specs.Rows.{sync_names};
 ghost use Rattle.cell_script.specs.Rows.{key_of, local_rows, network_rows, sync_row};
 ghost use Rattle.cell_script.specs.ScriptLines.{form_bit};
-ghost use Rattle.cell_script.specs.Spelling.{HasDigits, local_values, network_values};
-ghost use Rattle.cell_script.specs.Spelling.{numbers_text, statement_text, value_text};
-ghost use Rattle.cell_script.specs.Spelling.{written_cell, written_frame, written_freq};
-ghost use Rattle.cell_script.specs.Spelling.{written_link, written_page, written_paging};
-ghost use Rattle.cell_script.specs.Spelling.{written_pilot, written_sync, written_traffic};
+ghost use Rattle.cell_script.specs.Spelling.{HasDigits, local_values, network_values, numbers_text};
+ghost use Rattle.cell_script.specs.Spelling.{statement_text, value_text, written_cell};
+ghost use Rattle.cell_script.specs.Spelling.{written_frame, written_freq, written_link};
+ghost use Rattle.cell_script.specs.Spelling.{written_page, written_paging, written_pilot};
+ghost use Rattle.cell_script.specs.Spelling.{written_sync, written_traffic};
 
 use crate::statements::{PagingLine, Statement, TrafficLine, frame_key, page_key};
 use crate::tables::{

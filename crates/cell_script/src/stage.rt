@@ -1,8 +1,7 @@
 //! Which statements of a script may follow one another.
 
+ghost use Rattle.cell_script.specs.Common.{bits_left, half_frame_body, fill};
 ghost use Rattle.std.specs.Prelude.{◌≡◌, ◌<◌, ◌≤◌, true};
-ghost use Rattle.paging_message.specs.HalfFrames.{bits_left, half_frame_body};
-ghost use Rattle.paging_message.specs.Laying.{fill};
 ghost use Rattle.cell_script.specs.ScriptStages.{stage_after_sync, count_after, frames_stage};
 ghost use Rattle.cell_script.specs.ScriptStages.{is_complete, is_cycle, may_follow, next_stage};
 ghost use Rattle.cell_script.specs.ScriptStages.{page_stage};

@@ -1,9 +1,6 @@
 -- Sums modulo 2 of lists of bits, place by place.
-use Rattle.std.proofs.Common.{◌≡◌, ℕ, suc, ◌+◌, ◌<◌, Bool, true, false, List, [], ◌∷◌, ◌++◌, length, take, refl, ap, ◌∙◌, arith, Some}
-use Rattle.std.specs.List.{slice_get}
-use Rattle.std.proofs.lemmas.List.{take_more}
-use Rattle.std.proofs.lemmas.Option.{get_or_from_slice_get, slice_get_within}
-use Rattle.chip_core.specs.Bits.{are_same, xor, zip_with}
+use Rattle.chip_core.proofs.Common.{◌≡◌, ℕ, suc, ◌+◌, ◌<◌, Bool, true, false, List, [], ◌∷◌, ◌++◌, length, take, refl, ap, ◌∙◌, arith, Some}
+use Rattle.chip_core.proofs.Common.{slice_get, take_more, get_or_from_slice_get, slice_get_within, are_same, xor, zip_with}
 
 abbrev pub add : List Bool → List Bool → List Bool
 add a b = zip_with xor a b

@@ -1,10 +1,8 @@
 -- The parity of the bits that two numbers have in common, by a count of set bits.
-use Rattle.std.proofs.Common.{◌≡◌, ℕ, zero, suc, ◌+◌, ◌*◌, ◌/◌, ◌%◌, ◌^◌, ◌<◌, Bool, true, false, cond, List, [], ◌∷◌, ◌++◌, length, refl}
-use Rattle.std.proofs.Common.{sym, ap, ◌∙◌, arith, nat_eq, bit_and, min}
+use Rattle.chip_core.proofs.Common.{◌≡◌, ℕ, zero, suc, ◌+◌, ◌*◌, ◌/◌, ◌%◌, ◌^◌, ◌<◌, Bool, true, false, cond, List, [], ◌∷◌, ◌++◌, length}
+use Rattle.chip_core.proofs.Common.{refl, sym, ap, ◌∙◌, arith, nat_eq, bit_and, min, and_shr, and_le_l, and_mask, ones_cat, bit_at_and, xor}
+use Rattle.chip_core.proofs.Common.{parity, binary, zip_with, common_parity}
 use Rattle.std.specs.Int.RustNames.{count_ones}
-use Rattle.std.proofs.lemmas.Nat.{and_shr, and_le_l, and_mask, ones_cat}
-use Rattle.std.proofs.lemmas.Nat.Bits.{bit_at_and}
-use Rattle.chip_core.specs.Bits.{xor, parity, binary, zip_with, common_parity}
 use Rattle.chip_core.proofs.BitLists.{xor_assoc, zip_push}
 use Rattle.chip_core.proofs.Digits.{one_bit_xor}
 use Rattle.chip_core.proofs.FieldLists.{length-binary}

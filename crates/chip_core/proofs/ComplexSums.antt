@@ -1,6 +1,5 @@
 -- Sums of complex numbers, and products with a conjugate.
-use Rattle.std.proofs.Common.{◌≡◌, List, [], ◌∷◌, ◌++◌, sym, ap, ◌∙◌, arith, ℤ, pos, ◌+ℤ◌, ◌-ℤ◌, ◌*ℤ◌}
-use Rattle.std.proofs.lemmas.Int.{ints}
+use Rattle.chip_core.proofs.Common.{◌≡◌, List, [], ◌∷◌, ◌++◌, sym, ap, ◌∙◌, arith, ℤ, pos, ◌+ℤ◌, ◌-ℤ◌, ◌*ℤ◌, ints}
 use Rattle.std.proofs.Math.IntN.{neg_ℤ, +ℤ_assoc}
 use Rattle.chip_core.specs.Complex.{origin, plus, sum_of}
 use Rattle.chip_core.specs.declared.sample.Pair.{Pair}

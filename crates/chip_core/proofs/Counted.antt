@@ -1,8 +1,6 @@
 -- Lists made number by number.
-use Rattle.std.proofs.Common.{◌≡◌, ℕ, zero, suc, ◌+◌, ◌-◌, ◌<◌, ◌≤◌, List, [], ◌∷◌, ◌++◌, map, take, sym, ap, ◌∙◌, arith, append_assoc}
-use Rattle.std.specs.List.{flat_map}
-use Rattle.std.proofs.lemmas.List.{append-nil, take_at}
-use Rattle.chip_core.specs.Bits.{places}
+use Rattle.chip_core.proofs.Common.{◌≡◌, ℕ, zero, suc, ◌+◌, ◌-◌, ◌<◌, ◌≤◌, List, [], ◌∷◌, ◌++◌, map, take, sym, ap, ◌∙◌, arith, flat_map}
+use Rattle.chip_core.proofs.Common.{append_assoc, append-nil, take_at, places}
 use Rattle.chip_core.proofs.Places.{length-map-places, map-places-more, places-none}
 use Rattle.chip_core.proofs.Ranges.{flat_map-places-more}
 

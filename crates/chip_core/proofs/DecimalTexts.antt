@@ -1,11 +1,8 @@
 -- Lemmas on the digits of a text: what each step of a loop over it reads.
-use Rattle.std.proofs.Common.{◌≡◌, ℕ, ◌+◌, ◌*◌, ◌-◌, ◌^◌, ◌<◌, ◌≤◌, true, false, List, [], ◌∷◌, length, get_or, drop, refl, sym, ap, ◌∙◌}
-use Rattle.std.proofs.Common.{arith, None, Some}
-use Rattle.std.proofs.lemmas.Bool.{cond-true, cond-false}
-use Rattle.std.proofs.lemmas.List.{at_drop_more, drop_all}
+use Rattle.chip_core.proofs.Common.{◌≡◌, ℕ, ◌+◌, ◌*◌, ◌-◌, ◌^◌, ◌<◌, ◌≤◌, true, false, List, [], ◌∷◌, length, get_or, drop, refl, sym, ap}
+use Rattle.chip_core.proofs.Common.{◌∙◌, arith, None, Some, cond-true, cond-false, at_drop_more, drop_all, digits_from}
 use Rattle.std.proofs.Math.Nat.{pow-le-pow_right, pow-suc}
 use Rattle.std.specs.Char.{is_ascii_digit}
-use Rattle.chip_core.specs.Decimals.{digits_from}
 
 digits_from-digit : (number digit : ℕ) (digits : List ℕ) → is_ascii_digit digit ≡ true →
     digits_from number (digit ∷ digits) ≡ digits_from (10 * number + (digit - 48)) digits

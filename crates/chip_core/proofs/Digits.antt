@@ -1,14 +1,10 @@
 -- Numbers of so many bits, and their digits: sums, shifts and the numbers again.
-use Rattle.std.proofs.Common.{◌≡◌, ℕ, zero, suc, ◌+◌, ◌*◌, ◌/◌, ◌%◌, ◌^◌, ◌<◌, Bool, false, List, [], ◌∷◌, ◌++◌, length, refl, sym, ap, ◌∙◌}
-use Rattle.std.proofs.Common.{arith, nat_eq, bit_xor}
-use Rattle.std.proofs.lemmas.Nat.{xor_shr, pow_pos, field_of}
+use Rattle.chip_core.proofs.Common.{◌≡◌, ℕ, zero, suc, ◌+◌, ◌*◌, ◌/◌, ◌%◌, ◌^◌, ◌<◌, Bool, false, List, [], ◌∷◌, ◌++◌, length, refl, sym}
+use Rattle.chip_core.proofs.Common.{ap, ◌∙◌, arith, nat_eq, bit_xor, xor_shr, pow_pos, field_of, bit_at_xor, mod-mod-pow, xor, number}
+use Rattle.chip_core.proofs.Common.{binary, digit_again}
 use Rattle.std.proofs.Math.Nat.{lt-div-mul-add}
-use Rattle.std.proofs.lemmas.Nat.Bits.{bit_at_xor}
-use Rattle.std.proofs.Math.Pow.{mod-mod-pow}
-use Rattle.chip_core.specs.Bits.{xor, number, binary}
 use Rattle.chip_core.proofs.Numerals.{number_from-append, number_from-front}
 use Rattle.chip_core.proofs.BitLists.{add, zip_push}
-use Rattle.chip_core.specs.Packing.{digit_again}
 use Rattle.chip_core.proofs.FieldLists.{length-binary}
 
 same_length : (w a b : ℕ) → length (binary w a) ≡ length (binary w b)

@@ -1,10 +1,9 @@
 -- Lemmas on fields and the bits that spell them.
-use Rattle.std.proofs.Common.{◌≡◌, ℕ, zero, suc, ◌+◌, ◌/◌, ◌%◌, ◌^◌, ◌<◌, ◌≤◌, Bool, List, [], ◌∷◌, ◌++◌, length, get_or, take, drop}
-use Rattle.std.proofs.Common.{refl, sym, ap, ◌∙◌, arith, nat_eq, append_assoc, length-append, slice_get, Some}
-use Rattle.std.proofs.lemmas.List.{take_more, length-drop, get_or-drop, take-append-drop, append-nil}
-use Rattle.std.proofs.lemmas.Option.{get_or_from_slice_get, slice_get-get_or, slice_get_within}
-use Rattle.chip_core.specs.Bits.{binary}
-use Rattle.chip_core.specs.Fields.{spelled, FieldsFit, HaveWidths}
+use Rattle.chip_core.proofs.Common.{◌≡◌, ℕ, zero, suc, ◌+◌, ◌/◌, ◌%◌, ◌^◌, ◌<◌, ◌≤◌, Bool, List, [], ◌∷◌, ◌++◌, length, get_or, take, drop}
+use Rattle.chip_core.proofs.Common.{refl, sym, ap, ◌∙◌, arith, nat_eq, append_assoc, length-append, Some, take_more, length-drop, binary}
+use Rattle.chip_core.proofs.Common.{get_or-drop, take-append-drop, append-nil, get_or_from_slice_get, slice_get-get_or, slice_get_within}
+use Rattle.chip_core.proofs.Common.{spelled, FieldsFit, HaveWidths}
+use Rattle.std.proofs.Common.{slice_get}
 use Rattle.chip_core.specs.declared.field.Field.{Field}
 
 pub length-binary : (w n : ℕ) → length (binary w n) ≡ w

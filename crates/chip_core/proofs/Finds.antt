@@ -1,11 +1,7 @@
 -- A list that a loop reads from its start: what stands at a place, what is left, what is found first.
-use Rattle.std.proofs.Common.{◌≡◌, ℕ, zero, suc, ◌+◌, ◌<◌, Bool, true, false, List, [], ◌∷◌, length, drop, get_or, refl, ap, ◌∙◌}
-use Rattle.std.proofs.Common.{arith, nat_eq, Some, sym, ⊎_elim}
-use Rattle.std.specs.Prelude.{cond, slice_get}
-use Rattle.std.specs.List.{find}
-use Rattle.std.proofs.lemmas.Bool.{cases_eq, eq-eqb, ne_eqb}
-use Rattle.std.proofs.lemmas.List.{drop_more}
-use Rattle.std.proofs.lemmas.Option.{get_or_from_slice_get}
+use Rattle.chip_core.proofs.Common.{◌≡◌, ℕ, zero, suc, ◌+◌, ◌<◌, Bool, true, false, List, [], ◌∷◌, length, drop, get_or, refl, ap, ◌∙◌, sym}
+use Rattle.chip_core.proofs.Common.{arith, nat_eq, Some, ⊎_elim, cond, find, cases_eq, eq-eqb, ne_eqb, drop_more, get_or_from_slice_get}
+use Rattle.std.specs.Prelude.{slice_get}
 
 -- whether two numbers are the same is asked either way round
 pub nat_eq-flipped : (x y : ℕ) → nat_eq x y ≡ nat_eq y x

@@ -1,8 +1,5 @@
 -- Sums of signed numbers by index.
-use Rattle.std.proofs.Common.{◌≡◌, ◌≢◌, ℕ, zero, suc, ◌+◌, ◌<◌, refl, sym, arith, ⊎_elim, ℤ, pos}
-use Rattle.std.specs.Prelude.{◌+ℤ◌, neg_ℤ}
-use Rattle.std.proofs.lemmas.Int.{ints}
-use Rattle.std.proofs.lemmas.Bool.{cases_eq}
+use Rattle.chip_core.proofs.Common.{◌≡◌, ◌≢◌, ℕ, zero, suc, ◌+◌, ◌<◌, refl, sym, arith, ⊎_elim, ℤ, pos, ◌+ℤ◌, neg_ℤ, ints, cases_eq}
 use Rattle.chip_core.specs.Sums.{sum_below}
 
 pub sum_same : (n : ℕ) (f g : ℕ → ℤ) → ((k : ℕ) → k < n → f k ≡ g k) → sum_below n f ≡ sum_below n g

@@ -1,5 +1,5 @@
--- The modules of lemmas of `chip_core`.
 pub mod BitLists
+pub mod Common
 pub mod CommonParity
 pub mod Counted
 pub mod ComplexSums

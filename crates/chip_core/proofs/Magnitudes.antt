@@ -1,8 +1,5 @@
 -- How large signs, sums, differences and signed numbers are at most.
-use Rattle.std.proofs.Common.{◌≡◌, ◌+◌, ◌≤◌, Bool, true, false, arith, ℤ, ◌+ℤ◌, ◌*ℤ◌, unsigned_abs, FitsSigned, w16}
-use Rattle.std.specs.Prelude.{◌-ℤ◌}
-use Rattle.std.proofs.lemmas.Int.{ints}
-use Rattle.chip_core.specs.Bits.{sign}
+use Rattle.chip_core.proofs.Common.{◌≡◌, ◌+◌, ◌≤◌, Bool, true, false, arith, ℤ, ◌+ℤ◌, ◌*ℤ◌, unsigned_abs, FitsSigned, w16, ◌-ℤ◌, ints, sign}
 
 pub sign_unit : (b : Bool) → unsigned_abs (sign b) ≤ 1
 sign_unit true = omega arith

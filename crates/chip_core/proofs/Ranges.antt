@@ -1,12 +1,8 @@
 -- Lists of numbers from a place on, filtered and joined.
-use Rattle.std.proofs.Common.{◌≡◌, ℕ, zero, suc, ◌+◌, ◌-◌, ◌<◌, ◌≤◌, Bool, true, false, ◌&&◌, List, [], ◌∷◌, ◌++◌, map, refl, sym, ap, ◌∙◌}
-use Rattle.std.proofs.Common.{arith, nat_le, inl, inr}
-use Rattle.std.specs.List.{flat_map, filter, range_with_len}
-use Rattle.std.proofs.lemmas.Bool.{cases_Bool, le-leb, lt-leb, cases_order, cases_lt}
-use Rattle.std.proofs.lemmas.List.{append-nil}
+use Rattle.chip_core.proofs.Common.{◌≡◌, ℕ, zero, suc, ◌+◌, ◌-◌, ◌<◌, ◌≤◌, Bool, true, false, ◌&&◌, List, [], ◌∷◌, ◌++◌, map, refl, sym, ap}
+use Rattle.chip_core.proofs.Common.{◌∙◌, arith, nat_le, inl, inr, flat_map, filter, range_with_len, cases_Bool, le-leb, lt-leb, cases_order}
+use Rattle.chip_core.proofs.Common.{cases_lt, append-nil, flat_map-append, places}
 use Rattle.std.proofs.lemmas.List.Elements.{filter-append}
-use Rattle.std.proofs.lemmas.Grind.{flat_map-append}
-use Rattle.chip_core.specs.Bits.{places}
 use Rattle.chip_core.proofs.Places.{places-more}
 
 -- maps that agree from a place on, below its end

@@ -1,11 +1,8 @@
 -- The bits of shift registers, and sums modulo 2 of them.
-use Rattle.std.proofs.Common.{◌≡◌, ℕ, zero, suc, ◌+◌, ◌-◌, ◌*◌, ◌/◌, ◌%◌, ◌^◌, ◌<◌, ◌≤◌, Bool, true, false, not, List, [], length, get_or}
-use Rattle.std.proofs.Common.{map, drop, refl, sym, ap, ◌∙◌, arith, bit_and, nat_eq}
-use Rattle.std.proofs.lemmas.List.{at_drop_more, drop_all, get_or_append_left, get_or_push}
-use Rattle.std.proofs.lemmas.Nat.{and_mask, field_of, shr-shr}
-use Rattle.std.proofs.Math.Pow.{mod-mod-pow}
+use Rattle.chip_core.proofs.Common.{◌≡◌, ℕ, zero, suc, ◌+◌, ◌-◌, ◌*◌, ◌/◌, ◌%◌, ◌^◌, ◌<◌, ◌≤◌, Bool, true, false, not, List, [], length, ap}
+use Rattle.chip_core.proofs.Common.{get_or, map, drop, refl, sym, ◌∙◌, arith, bit_and, nat_eq, at_drop_more, drop_all, get_or_append_left}
+use Rattle.chip_core.proofs.Common.{get_or_push, and_mask, field_of, shr-shr, mod-mod-pow, xor, parity, digit, bit_of, binary}
 use mathlib.Core.Bool.{beq}
-use Rattle.chip_core.specs.Bits.{xor, parity, digit, bit_of, binary}
 use Rattle.chip_core.proofs.Numerals.{half_of}
 use Rattle.chip_core.proofs.FieldLists.{length-binary}
 

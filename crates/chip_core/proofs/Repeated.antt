@@ -1,12 +1,7 @@
 -- Lists repeated.
-use Rattle.std.proofs.Common.{◌≡◌, ℕ, zero, suc, ◌+◌, ◌-◌, ◌*◌, ◌%◌, ◌<◌, ◌≤◌, List, [], ◌++◌, length, get_or, map, take, drop, refl, sym}
-use Rattle.std.proofs.Common.{ap, ◌∙◌, arith, length-append, length-drop, inl, inr}
-use Rattle.std.specs.List.{flat_map}
-use Rattle.std.proofs.lemmas.Bool.{cases_lt}
-use Rattle.std.proofs.lemmas.Grind.{flat_map-append}
-use Rattle.std.proofs.lemmas.List.{get_or-append_right, get_or-drop, get_or-take, get_or_append_left, length-take-le}
-use Rattle.std.proofs.lemmas.Nat.{mod-mul-add}
-use Rattle.chip_core.specs.Bits.{places}
+use Rattle.chip_core.proofs.Common.{◌≡◌, ℕ, zero, suc, ◌+◌, ◌-◌, ◌*◌, ◌%◌, ◌<◌, ◌≤◌, List, [], ◌++◌, length, get_or, map, take, drop, refl}
+use Rattle.chip_core.proofs.Common.{sym, ap, ◌∙◌, arith, length-append, length-drop, inl, inr, flat_map, cases_lt, flat_map-append, places}
+use Rattle.chip_core.proofs.Common.{get_or-append_right, get_or-drop, get_or-take, get_or_append_left, length-take-le, mod-mul-add}
 use Rattle.chip_core.proofs.Places.{map-places-all}
 
 -- a list so many times

@@ -1,8 +1,6 @@
 -- Identities of signed numbers: each number as a difference of two naturals, and the rest by linear
 -- arithmetic.
-use Rattle.std.proofs.Common.{◌≡◌, ℕ, ◌+◌, ◌*◌, arith, ℤ, ap}
-use Rattle.std.specs.Prelude.{pos, negsuc, ◌+ℤ◌, ◌*ℤ◌, neg_ℤ}
-use Rattle.std.proofs.lemmas.Int.{ints}
+use Rattle.chip_core.proofs.Common.{◌≡◌, ℕ, ◌+◌, ◌*◌, arith, ℤ, ap, pos, negsuc, ◌+ℤ◌, ◌*ℤ◌, neg_ℤ, ints}
 use borrow.Author.Differences.{up, down}
 
 unfoldable pub diff : ℕ → ℕ → ℤ

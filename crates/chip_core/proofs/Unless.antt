@@ -1,10 +1,7 @@
 -- The greatest of the numbers that aren't taken yet.
-use Rattle.std.proofs.Common.{◌≡◌, ℕ, zero, suc, ◌+◌, ◌<◌, Bool, true, false, List, [], ◌∷◌, ◌++◌, length, refl, sym, ap, ◌∙◌, subst, arith}
-use Rattle.std.proofs.Common.{ℤ, ◌<ℤ◌, ◌≤ℤ◌, below_more, add-one, ⊎_elim, ◌⊎◌, inl, inr, nat_eq, Option, Some, None}
-use Rattle.std.specs.Prelude.{int_lt, nat_lt, if◌then◌else◌}
-use Rattle.std.specs.List.{list_any}
-use Rattle.std.proofs.lemmas.Int.{ints}
-use Rattle.std.proofs.lemmas.Bool.{cases_order}
+use Rattle.chip_core.proofs.Common.{◌≡◌, ℕ, zero, suc, ◌+◌, ◌<◌, Bool, true, false, List, [], ◌∷◌, ◌++◌, length, refl, sym, ap, ◌∙◌, subst}
+use Rattle.chip_core.proofs.Common.{arith, ℤ, ◌<ℤ◌, ◌≤ℤ◌, below_more, add-one, ⊎_elim, ◌⊎◌, inl, inr, nat_eq, Option, Some, None, int_lt}
+use Rattle.chip_core.proofs.Common.{nat_lt, if◌then◌else◌, list_any, ints, cases_order}
 use Rattle.std.proofs.lemmas.Bool.Decides.{nat_tests}
 use Rattle.chip_core.proofs.Greatest.{tested, untested}
 use Rattle.chip_core.specs.Sums.{value_unless, is_less, greatest_unless, first_places}

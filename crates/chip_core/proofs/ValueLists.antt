@@ -1,9 +1,7 @@
 -- Lists of numbers in fields of given widths, spelled and read again.
-use Rattle.std.proofs.Common.{◌≡◌, ℕ, zero, suc, ◌+◌, ◌*◌, ◌^◌, ◌<◌, ◌≤◌, Bool, List, [], ◌∷◌, ◌++◌, length, get_or, take, drop, refl}
-use Rattle.std.proofs.Common.{sym, ap, subst, ◌∙◌, arith, append_assoc, length-append}
-use Rattle.std.proofs.lemmas.List.{append-nil, drop-drop, drop_at, length-drop, length-take-le, take_at}
-use Rattle.chip_core.specs.Bits.{number, binary}
-use Rattle.chip_core.specs.Fields.{field, spelled, in_widths, total_width, AreWidths, FieldsFit}
+use Rattle.chip_core.proofs.Common.{◌≡◌, ℕ, zero, suc, ◌+◌, ◌*◌, ◌^◌, ◌<◌, ◌≤◌, Bool, List, [], ◌∷◌, ◌++◌, length, get_or, take, drop, refl}
+use Rattle.chip_core.proofs.Common.{sym, ap, subst, ◌∙◌, arith, append_assoc, length-append, append-nil, drop-drop, drop_at, length-drop}
+use Rattle.chip_core.proofs.Common.{length-take-le, take_at, number, binary, field, spelled, in_widths, total_width, AreWidths, FieldsFit}
 use Rattle.chip_core.specs.Readings.{number_at, values_at, column_at}
 use Rattle.chip_core.specs.declared.field.Field.{Field}
 use Rattle.chip_core.proofs.Digits.{number-binary, number_lt}

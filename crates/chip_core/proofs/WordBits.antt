@@ -1,19 +1,14 @@
 -- One more bit in a list of packed bits.
-use Rattle.std.proofs.Common.{◌≡◌, ◌≢◌, ℕ, ◌+◌, ◌*◌, ◌/◌, ◌%◌, ◌^◌, ◌<◌, max, Bool, true, false, List, [], ◌∷◌, ◌++◌, length, get_or, set}
-use Rattle.std.proofs.Common.{map, refl, sym, ap, ◌∙◌, arith, nat_eq, ⊎_elim, bit_or, bit_and, Some}
-use Rattle.std.specs.List.{range_with_len, slice_get}
-use Rattle.std.proofs.lemmas.List.{get_or-set_same, get_or-set_other, length-set}
+use Rattle.chip_core.proofs.Common.{◌≡◌, ◌≢◌, ℕ, ◌+◌, ◌*◌, ◌/◌, ◌%◌, ◌^◌, ◌<◌, max, Bool, true, false, List, [], ◌∷◌, ◌++◌, length, get_or}
+use Rattle.chip_core.proofs.Common.{set, map, refl, sym, ap, ◌∙◌, arith, nat_eq, ⊎_elim, bit_or, bit_and, Some, range_with_len, slice_get}
+use Rattle.chip_core.proofs.Common.{get_or-set_same, get_or-set_other, length-set, slice_get-get_or, bit_at-zero, shr_and_one, bit_at_or}
+use Rattle.chip_core.proofs.Common.{bit_at_set_same, bit_at_set_other, cases_eq, bit_of, length-unpacked, get_or-unpacked, words_again}
 use Rattle.std.proofs.lemmas.List.FromFn.{get_or-map-range_with_len, map-range_with_len_more, fill_by_all, length-map-range_with_len}
-use Rattle.std.proofs.lemmas.Option.{slice_get-get_or}
-use Rattle.std.proofs.lemmas.Nat.Bits.{bit_at-zero, shr_and_one, bit_at_or, bit_at_set_same, bit_at_set_other}
-use Rattle.std.proofs.lemmas.Bool.{cases_eq}
 use mir.Val.{bool_byte}
 use mir.Syntax.{w64}
-use Rattle.chip_core.specs.Bits.{bit_of}
 use lib.Pointwise.{pointwise}
 use mathlib.Core.Bool.{◌&&◌}
 use Rattle.chip_core.specs.Packed.{word_bit, unpacked, packed, IsPacked}
-use Rattle.chip_core.specs.Packing.{length-unpacked, get_or-unpacked, words_again}
 
 -- a zero bit that is set in a word leaves it as it is
 or_nothing : (word place i : ℕ) → bit_of (bit_or word (0 * 2 ^ place % 2 ^ 64)) i ≡ bit_of word i

@@ -1,4 +1,3 @@
--- The modules of definitions of `chip_core`.
 pub mod Bits
 pub mod Complex
 pub mod Fields

@@ -1,4 +1,3 @@
--- The modules of definitions of `clean_frames`.
 pub mod Common
 pub mod SentFrames
 pub mod WholePages

@@ -1,15 +1,14 @@
 -- The frames of a traffic channel that a cell sends from the mark on and a file holds whole
 -- (TIA/EIA-95-B, 7.1.3.5).
+use Rattle.clean_frames.specs.Common.{data_frame_chips, frame_offset_chips, places, sign, frames_of}
+use Rattle.clean_frames.specs.Common.{traffic_mask, power_places, frame_codeword, IsUnshared, split}
+use Rattle.clean_frames.specs.Common.{ShowSymbols, frame_symbols, is_replaced, cycled_frame}
+use Rattle.clean_frames.specs.Common.{sent_frame_state, sent_with, set_one, set_two, CellPlan}
+use Rattle.clean_frames.specs.Common.{traffic_frame_symbols, TrafficPlan, SetOneFrame, Traffic}
 use Rattle.std.specs.Prelude.{ℕ, ◌+◌, ◌-◌, ◌*◌, ◌/◌, ◌<◌, ◌≤◌, ◌≡◌, ◌&&◌, Bool, true, false, nat_le}
 use Rattle.std.specs.Prelude.{List, map, filter, length, get_or, ℤ, pos, ◌*ℤ◌, All, Option}
 use Rattle.std.specs.List.{flat_map}
 use Rattle.std.specs.Option.{option_to_list}
-use Rattle.clean_frames.specs.Common.{data_frame_chips, frame_offset_chips, places, sign}
-use Rattle.clean_frames.specs.Common.{traffic_mask, power_places, frame_codeword, IsUnshared}
-use Rattle.clean_frames.specs.Common.{ShowSymbols, frame_symbols, is_replaced, frames_of}
-use Rattle.clean_frames.specs.Common.{cycled_frame, sent_frame_state, sent_with, set_one, set_two}
-use Rattle.clean_frames.specs.Common.{traffic_frame_symbols, CellPlan, TrafficPlan, SetOneFrame}
-use Rattle.clean_frames.specs.Common.{Traffic, split}
 use Rattle.clean_frames.specs.WholePages.{end_chip}
 
 -- ---- a channel that is followed

@@ -1,14 +1,13 @@
 -- The pages that a cell sends whole on its paging channels, each with the number of samples at
 -- which it is known, and the capsules that the frames of half-frames end.
+use Rattle.clean_frames.specs.Common.{half_frame_capsule_ending, paging_frame_size, half_frame_body}
+use Rattle.clean_frames.specs.Common.{data_frame_chips, sent_paging_rate, PagingMessage, message_at}
+use Rattle.clean_frames.specs.Common.{AreSendable, PagingPlan, page_cycle, number_at, CheckForm}
+use Rattle.clean_frames.specs.Common.{CellPlan, AreHeard, capsule, places, cycled, Rate, Page, M30}
 use Rattle.std.specs.Prelude.{ℕ, ◌+◌, ◌-◌, ◌*◌, ◌/◌, ◌≤◌, ◌≡◌, ◌==◌, Bool, if◌then◌else◌, List, []}
 use Rattle.std.specs.Prelude.{◌∷◌, map, filter, drop, ◌&&◌, ◌++◌, length, take, nat_le, nat_lt}
 use Rattle.std.specs.List.{flat_map}
 use Rattle.std.specs.Option.{option_to_list}
-use Rattle.clean_frames.specs.Common.{data_frame_chips, places, M30, half_frame_body, message_at}
-use Rattle.clean_frames.specs.Common.{number_at, PagingMessage, sent_paging_rate, CellPlan}
-use Rattle.clean_frames.specs.Common.{PagingPlan, CheckForm, Rate, half_frame_capsule_ending}
-use Rattle.clean_frames.specs.Common.{page_cycle, AreSendable, AreHeard, Page, capsule, cycled}
-use Rattle.clean_frames.specs.Common.{paging_frame_size}
 use Rattle.clean_frames.specs.WholeSendings.{heard_after}
 
 -- ---- what frames end

@@ -1,9 +1,8 @@
 -- The whole transmissions of a sync channel: those of which a file holds all chips.
+use Rattle.clean_frames.specs.Common.{superframe_chips, places, sync_capsule, SyncFields, phase_at}
+use Rattle.clean_frames.specs.Common.{superframes_a_sending, CellPlan, SyncPlan, told_superframes}
 use Rattle.std.specs.Prelude.{ℕ, ◌+◌, ◌-◌, ◌*◌, ◌/◌, ◌%◌, ◌&&◌, Bool, if◌then◌else◌, nat_le, List}
 use Rattle.std.specs.Prelude.{[], ◌∷◌, length, filter, Option, None, Some}
-use Rattle.clean_frames.specs.Common.{superframe_chips, places, sync_capsule, SyncFields}
-use Rattle.clean_frames.specs.Common.{superframes_a_sending, phase_at, CellPlan, SyncPlan}
-use Rattle.clean_frames.specs.Common.{told_superframes}
 
 -- ---- frames
 

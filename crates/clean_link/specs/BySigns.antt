@@ -1,13 +1,12 @@
 -- What comes back of a file of any origin, channel by channel and frame by frame: of each channel
 -- whose soft values have the signs that a cell sends, just what the cell sends.
+use Rattle.clean_link.specs.Common.{is_received, received_frames, told_with_sync, superframe_chips}
+use Rattle.clean_link.specs.Common.{CellPlan, PagingPlan, TrafficPlan, Event, IsReceivable, Sample}
+use Rattle.clean_link.specs.Common.{Traffic, Tuning, Width, events, mark}
 use Rattle.std.specs.Prelude.{◌≡◌, ℕ, ◌*◌, true, All, List, [], filter, length, map, None, Option}
 use Rattle.std.specs.Prelude.{Some}
 use Rattle.std.specs.List.{Contains}
-use Rattle.clean_frames.specs.SentFrames.{is_received, received_frames}
-use Rattle.clean_frames.specs.WholeSendings.{told_with_sync}
 use Rattle.clean_link.specs.CleanLink.{sync_sent, IsNotDirected, IsOnPath}
-use Rattle.clean_link.specs.Common.{superframe_chips, CellPlan, PagingPlan, TrafficPlan, Event}
-use Rattle.clean_link.specs.Common.{IsReceivable, Sample, Traffic, Tuning, Width, events, mark}
 use Rattle.clean_link.specs.HeardEach.{is_frame, is_message, is_page, is_sync, AreMessagesAfter}
 use Rattle.clean_link.specs.HeardEach.{FollowsOne, IsEventOf}
 use Rattle.clean_link.specs.SentEvents.{pages_after, sent_events}

@@ -1,24 +1,20 @@
 -- What a file of any origin gives back, by the signs of its soft values, of a frame's own bits on
 -- any channel, and then of the sync channel and of paging channels, the latter after the cell's
 -- mark; what the soft values of a clean link are; and that bounded noise keeps their signs.
-use Rattle.std.specs.Prelude.{ℕ, ◌+◌, ◌<◌, ◌≡◌, true, false, nat_lt, length, replicate, pos}
-use Rattle.std.specs.Prelude.{is_some, None, Some, List, ◌*◌, ◌≤◌, ◌≢◌, All, Bool}
+use Rattle.clean_link.specs.Common.{places, signed, Width, made_samples, sync_frame_bits, CellPlan}
+use Rattle.clean_link.specs.Common.{sync_symbols, SyncPlan, mark, frame_own_bits, frame_softs, Mark}
+use Rattle.clean_link.specs.Common.{is_in_file, span_first, span_frames, sync_events_at, Tuning}
+use Rattle.clean_link.specs.Common.{sync_stream, IsReceivable, Sample, cycle_frame_bits, cycle_of}
+use Rattle.clean_link.specs.Common.{PagingPlan, paging_stream, Data, data_shape, sent, repeats_of}
+use Rattle.clean_link.specs.Common.{Cycle, IsFreeOf, continued_symbols, Carrier, carriers, Stream}
+use Rattle.clean_link.specs.Common.{IsOnlyBest, span_codeword, soft_strength, AreReadBy, IsHeardBy}
+use Rattle.clean_link.specs.Common.{first_sync_frame, Bears, IsNear, Form}
+use Rattle.std.specs.Prelude.{ℕ, ◌+◌, ◌<◌, ◌≡◌, true, false, nat_lt, length, replicate, pos, None}
+use Rattle.std.specs.Prelude.{is_some, Some, List, ◌*◌, ◌≤◌, ◌≢◌, All, Bool}
 use Rattle.std.specs.List.{flat_map, Contains}
-use Rattle.clean_link.specs.Common.{places, signed, Width, made_samples, sync_frame_bits}
-use Rattle.clean_link.specs.Common.{sync_symbols, CellPlan, SyncPlan, mark, frame_own_bits}
-use Rattle.clean_link.specs.Common.{frame_softs, is_in_file, span_first, span_frames}
-use Rattle.clean_link.specs.Common.{sync_events_at, Tuning, sync_stream, Mark, IsReceivable, Sample}
-use Rattle.clean_link.specs.Common.{cycle_frame_bits, cycle_of, PagingPlan, paging_stream, Data}
-use Rattle.clean_link.specs.Common.{data_shape, sent, repeats_of, Cycle, IsFreeOf}
-use Rattle.clean_link.specs.Common.{continued_symbols, Carrier, carriers, Stream}
 use Rattle.rake_finger.specs.declared.form.Form.TheVariants.{Sync}
-use Rattle.clean_signal.specs.Signals.{IsOnlyBest, span_codeword, soft_strength, AreReadBy}
-use Rattle.clean_signal.specs.Signals.{IsHeardBy}
 use Rattle.clean_link.specs.CleanLink.{IsOnPath, IsTrueMark, sync_sent}
 use Rattle.clean_link.specs.SentSigns.{FrameHasSigns, HasSyncSigns, IsCellMark, PagingFrameHasSigns}
-use Rattle.clean_frames.specs.WholeSendings.{first_sync_frame}
-use Rattle.clean_signal.specs.BoundedNoise.{Bears, IsNear}
-use Rattle.clean_signal.specs.Common.{Form}
 use Rattle.clean_frames.specs.WholePages.{pages_of_channel}
 use Rattle.clean_link.specs.HeardPages.{pages_within}
 

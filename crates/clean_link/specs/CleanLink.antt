@@ -1,11 +1,11 @@
 -- A clean link: a file that holds what one cell sends over one path, without noise, and what a
 -- handset has to hear in it.
-use Rattle.std.specs.Prelude.{ℕ, ◌+◌, ◌-◌, ◌*◌, ◌≤◌, ◌≡◌, List, [], ◌∷◌, map, pos, Option, None}
-use Rattle.std.specs.Prelude.{Some}
 use Rattle.clean_link.specs.Common.{superframe_chips, after, sync_capsule, SyncFields, IsFreeOf}
 use Rattle.clean_link.specs.Common.{message_of, phase_at, CellPlan, SyncPlan, TrafficBody, Tuning}
-use Rattle.clean_link.specs.Common.{Event, Sync, Mark, Traffic}
-use Rattle.clean_frames.specs.WholeSendings.{heard_after, sending_ends, whole_sendings}
+use Rattle.clean_link.specs.Common.{Event, Sync, Mark, Traffic, heard_after, sending_ends}
+use Rattle.clean_link.specs.Common.{whole_sendings}
+use Rattle.std.specs.Prelude.{ℕ, ◌+◌, ◌-◌, ◌*◌, ◌≤◌, ◌≡◌, List, [], ◌∷◌, map, pos, Option, None}
+use Rattle.std.specs.Prelude.{Some}
 use Rattle.heard_events.specs.declared.event.Event.TheVariants.{Traffic as OnTraffic}
 use Rattle.traffic_message.specs.declared.body.TrafficBody.TheVariants as bodies
 

@@ -1,15 +1,14 @@
 -- Frames of a traffic channel that no other codeword shares.
+use Rattle.clean_link.specs.Common.{places, xor, code_symbols, g0, g1, symbol, address, data_shape}
+use Rattle.clean_link.specs.Common.{traffic_codeword, R9600, frame_codeword, IsUnshared, repeats_of}
+use Rattle.clean_link.specs.Common.{is_replaced, Rate, codeword_bits, is_dropped, repeated_symbol}
+use Rattle.clean_link.specs.Common.{Rate2, frame_bits, binary, R2400, R1200, SetOneFrame}
+use Rattle.clean_link.specs.Common.{IsDistinctFrame}
 use Rattle.std.specs.Prelude.{◌≡◌, ℕ, zero, suc, ◌+◌, ◌-◌, ◌*◌, Bool, true, false, not, ◌&&◌, List}
 use Rattle.std.specs.Prelude.{[], ◌∷◌, ◌++◌, length, map, filter, get_or, drop, replicate, ◌≢◌, ◌/◌}
 use Rattle.std.specs.Prelude.{if◌then◌else◌}
 use Rattle.std.specs.List.{list_all, list_any, flat_map, range_with_len}
 use Rattle.std.proofs.Math.Bool.{beq}
-use Rattle.clean_link.specs.Common.{places, xor, code_symbols, g0, g1, symbol, address, data_shape}
-use Rattle.clean_link.specs.Common.{traffic_codeword, R9600, frame_codeword, IsUnshared}
-use Rattle.clean_link.specs.Common.{is_replaced, repeats_of, Rate, codeword_bits, is_dropped}
-use Rattle.clean_link.specs.Common.{repeated_symbol, Rate2, frame_bits, binary, R2400, R1200}
-use Rattle.clean_link.specs.Common.{SetOneFrame}
-use Rattle.clean_frames.specs.SentFrames.{IsDistinctFrame}
 use Rattle.symbol_path.specs.RatesTwo as rates_two
 use Rattle.rate_set_two.specs.Laws as laws_two
 use Rattle.rate_set_two.specs.TrafficFrames as frames_two

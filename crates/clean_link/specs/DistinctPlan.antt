@@ -1,18 +1,16 @@
 -- A cell with a mark, and after it a distinct frame of each rate of both rate sets.
+use Rattle.clean_link.specs.Common.{binary, Plain, Sixteen, before, Rate, R9600, R4800, R2400}
+use Rattle.clean_link.specs.Common.{R1200, Rate2, R14400, R7200, R3600, R1800, SyncFields, planned}
+use Rattle.clean_link.specs.Common.{frames_of, some_message, some_sync, cycled_frame, SetOne}
+use Rattle.clean_link.specs.Common.{SetTwo, CellPlan, TrafficPlan, TrafficFrame, SetOneFrame}
+use Rattle.clean_link.specs.Common.{SetTwoFrame, Traffic, IsReceivable, is_received, replaced_of}
+use Rattle.clean_link.specs.Common.{received_frames, IsAssigned, SendsSetTwo, told_with_sync}
 use Rattle.std.specs.Prelude.{◌≡◌, ℕ, true, All, Bool, List, [], ◌∷◌, ◌++◌, map, replicate, pos}
 use Rattle.std.specs.Prelude.{negsuc, Some}
 use Rattle.std.specs.List.{Contains, flat_map}
-use Rattle.clean_link.specs.Common.{binary, Plain, Sixteen, before, Rate, R9600, R4800, R2400}
-use Rattle.clean_link.specs.Common.{R1200, Rate2, R14400, R7200, R3600, R1800, SyncFields}
-use Rattle.clean_link.specs.Common.{frames_of, some_message, some_sync, cycled_frame, planned}
-use Rattle.clean_link.specs.Common.{SetOne, SetTwo, CellPlan, TrafficPlan, TrafficFrame}
-use Rattle.clean_link.specs.Common.{SetOneFrame, SetTwoFrame, Traffic, IsReceivable}
 use Rattle.clean_link.specs.DistinctFrames.{distinct_frame_with}
-use Rattle.clean_frames.specs.SentFrames.{is_received, received_frames, replaced_of, IsAssigned}
-use Rattle.clean_frames.specs.SentFrames.{SendsSetTwo}
 use Rattle.clean_link.specs.ReceivedFrames.{cycled_frame2, IsDistinctFrame2}
 use Rattle.clean_link.specs.SentEvents.{signaling_sent, IsFollowed}
-use Rattle.clean_frames.specs.WholeSendings.{told_with_sync}
 
 -- ---- the cell
 

@@ -1,10 +1,8 @@
 -- Worked values of the frames of a traffic channel on a clean link, which the checker computes.
-use Rattle.std.specs.Prelude.{◌≡◌, ℕ, refl, true, false, List, [], ◌∷◌, length, map, replicate}
 use Rattle.clean_link.specs.Common.{places, Plain, R1200, R2400, CellPlan, SetOneFrame, at_of}
-use Rattle.clean_link.specs.Common.{Event, Frame}
+use Rattle.clean_link.specs.Common.{Event, Frame, sent_bits, sent_power_bits, cell_of_frames}
+use Rattle.std.specs.Prelude.{◌≡◌, ℕ, refl, true, false, List, [], ◌∷◌, length, map, replicate}
 use Rattle.clean_link.specs.HeardFrames.{frames_sent}
-use Rattle.clean_frames.specs.SentFrames.{sent_bits, sent_power_bits}
-use Rattle.clean_signal.specs.WorkedCells.{cell_of_frames}
 
 -- two frames, whose power control bits tell a handset to raise its power, and to lower it
 slow : SetOneFrame

@@ -1,21 +1,18 @@
 -- What a handset hears of a clean link's cell, and of one whose link has bounded noise, channel by
 -- channel and frame by frame.
+use Rattle.clean_link.specs.Common.{superframe_chips, Width, Decoded, IsFreeOf, made_samples, Event}
+use Rattle.clean_link.specs.Common.{frames_of, cycled_frame, CellPlan, PagingPlan, TrafficPlan}
+use Rattle.clean_link.specs.Common.{SetOneFrame, events, frame_event, Tuning, Frame, Paging, Sync}
+use Rattle.clean_link.specs.Common.{Traffic, IsReceivable, frame_ends, is_received, received_frames}
+use Rattle.clean_link.specs.Common.{replaced_of, sent_power_bits, AreDistinct, IsAssigned, Bears}
+use Rattle.clean_link.specs.Common.{IsDistinctFrame, SendsSetOne, told_with_sync}
 use Rattle.std.specs.Prelude.{◌≡◌, ◌≤◌, ℕ, ◌*◌, true, false, All, Bool, List, [], ◌∷◌, map, filter}
 use Rattle.std.specs.Prelude.{None, Option, Some}
 use Rattle.std.specs.List.{Contains}
-use Rattle.clean_link.specs.Common.{superframe_chips, Width, Decoded, IsFreeOf, made_samples}
-use Rattle.clean_link.specs.Common.{frames_of, cycled_frame, CellPlan, PagingPlan, TrafficPlan}
-use Rattle.clean_link.specs.Common.{SetOneFrame, events, frame_event, Tuning, Event, Frame, Paging}
-use Rattle.clean_link.specs.Common.{Sync, Traffic, IsReceivable}
 use Rattle.heard_events.specs.declared.event.Event.TheVariants.{Traffic as OnTraffic}
 use Rattle.clean_link.specs.CleanLink.{IsNotDirected, IsOnPath, sync_sent}
-use Rattle.clean_frames.specs.SentFrames.{frame_ends, is_received, received_frames, replaced_of}
-use Rattle.clean_frames.specs.SentFrames.{sent_power_bits, AreDistinct, IsAssigned, IsDistinctFrame}
-use Rattle.clean_frames.specs.SentFrames.{SendsSetOne}
 use Rattle.clean_link.specs.HeardFrames.{sent_frame_event, messages_of_channel}
 use Rattle.clean_link.specs.SentEvents.{paging_sent}
-use Rattle.clean_frames.specs.WholeSendings.{told_with_sync}
-use Rattle.clean_signal.specs.BoundedNoise.{Bears}
 
 -- ---- events of a kind
 

@@ -1,12 +1,11 @@
 -- The frames of a traffic channel that a clean link gives back, and the messages in them, as a
 -- handset hears them (TIA/EIA-95-B, 7.1.3.5).
+use Rattle.clean_link.specs.Common.{frames_of, cycled_frame, CellPlan, TrafficPlan, SetOneFrame}
+use Rattle.clean_link.specs.Common.{Finger, Event, Frame, Leg, Traffic, capsule_with, signal_in}
+use Rattle.clean_link.specs.Common.{message_events, sent_power_bits, received_frames, frame_ends}
+use Rattle.clean_link.specs.Common.{signal_sent, signals_received}
 use Rattle.std.specs.Prelude.{ℕ, ◌≡◌, ◌==◌, true, if◌then◌else◌, List, [], ◌∷◌, map}
 use Rattle.std.specs.List.{flat_map}
-use Rattle.clean_link.specs.Common.{frames_of, cycled_frame, CellPlan, TrafficPlan, SetOneFrame}
-use Rattle.clean_link.specs.Common.{Finger, Event, Frame, Leg, Traffic, capsule_with}
-use Rattle.clean_link.specs.Common.{message_events, signal_in}
-use Rattle.clean_frames.specs.SentFrames.{sent_power_bits, received_frames, frame_ends, signal_sent}
-use Rattle.clean_frames.specs.SentFrames.{signals_received}
 
 -- The pilots that a frame is heard from are the reference's alone, with the channel's row: it has
 -- all of the handset's fingers, and the one power control subchannel.

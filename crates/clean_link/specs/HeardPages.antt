@@ -1,10 +1,10 @@
 -- The pages that a handset hears of a paging channel on a clean link, each with the number of
 -- samples at which it is known.
+use Rattle.clean_link.specs.Common.{places, Sample, Width, sent_paging_rate, IsFreeOf, made_samples}
+use Rattle.clean_link.specs.Common.{IsStatedPaging, IsReceivable, CellPlan, SyncPlan, Tuning, Mark}
+use Rattle.clean_link.specs.Common.{pages_if_marked, as_spelled_page}
 use Rattle.std.specs.Prelude.{ℕ, ◌+◌, ◌<◌, ◌≤◌, ◌≡◌, All, List, [], map, None, Option, Some}
 use Rattle.std.specs.List.{flat_map}
-use Rattle.clean_link.specs.Common.{places, Sample, Width, sent_paging_rate, IsFreeOf}
-use Rattle.clean_link.specs.Common.{made_samples, IsStatedPaging, IsReceivable, CellPlan, SyncPlan}
-use Rattle.clean_link.specs.Common.{pages_if_marked, as_spelled_page, Tuning, Mark}
 use Rattle.clean_link.specs.CleanLink.{IsOnPath, IsTrueMark}
 use Rattle.clean_frames.specs.WholePages.{KnownPage, pages_sent}
 

@@ -1,13 +1,12 @@
 -- Worked values of the whole pages of a clean link, and of a cycle of them, which the checker
 -- computes.
+use Rattle.clean_link.specs.Common.{binary, places, Plain, capsule, check_bits, fill, framed, Page}
+use Rattle.clean_link.specs.Common.{half_frames_of, laid_on, number_at, page_cycle, CellPlan, M30}
+use Rattle.clean_link.specs.Common.{R9600, cell_with}
 use Rattle.std.specs.Prelude.{◌≡◌, ℕ, refl, Bool, true, false, List, [], ◌∷◌, ◌++◌, map, replicate}
 use Rattle.std.specs.Prelude.{None}
-use Rattle.clean_link.specs.Common.{binary, places, Plain, capsule, check_bits, fill, framed}
-use Rattle.clean_link.specs.Common.{half_frames_of, laid_on, number_at, page_cycle, CellPlan, Page}
-use Rattle.clean_link.specs.Common.{M30, R9600}
 use Rattle.clean_frames.specs.WholePages.{KnownPage, pages_sent, cycle_half_frames}
 use Rattle.clean_frames.specs.WholePages.{sendings_between, whole_page_sendings}
-use Rattle.clean_signal.specs.WorkedCells.{cell_with}
 
 -- nine octets with a message type
 page : Bool → ℕ → Page

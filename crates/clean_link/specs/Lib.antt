@@ -1,4 +1,3 @@
--- The modules of definitions of `clean_link`.
 pub mod Common
 pub mod BySigns
 pub mod CleanLaws

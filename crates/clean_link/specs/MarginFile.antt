@@ -1,13 +1,11 @@
 -- The worked file with noise meets the premises of the laws of bounded noise, and its margin is
 -- exact.
+use Rattle.clean_link.specs.Common.{IsReceivable, Sample, Sixteen, made_samples, some_message}
+use Rattle.clean_link.specs.Common.{sync_symbols, Bears, IsNear, HaveSigns}
 use Rattle.std.specs.Prelude.{◌≡◌, ◌≤◌, ◌↔◌, ℕ, List, Some}
 use Rattle.cell_plan.specs.Transmitter.{header_of}
 use Rattle.clean_link.specs.CleanLaws.{HearsSentSync}
-use Rattle.clean_link.specs.Common.{IsReceivable, Sample, Sixteen, made_samples, some_message}
-use Rattle.clean_link.specs.Common.{sync_symbols}
 use Rattle.clean_link.specs.NoisyFile.{cell, cell_beside, file, first_softs, sync_with}
-use Rattle.clean_signal.specs.BoundedNoise.{Bears, IsNear}
-use Rattle.clean_signal.specs.Common.{HaveSigns}
 use Rattle.clean_signal.specs.NearFiles.{IsNearFile}
 
 pub record MeetsNoisePremises : Type 0 where

@@ -1,15 +1,11 @@
 -- The frames of a traffic channel of either rate set that a clean link gives back, each received of
 -- the reference base station alone (TIA/EIA-95-B, 7.1.3.5).
-use Rattle.std.specs.Prelude.{ℕ, ◌*◌, ◌≡◌, true, Bool, List, map, ℤ, pos, Option, Some}
 use Rattle.clean_link.specs.Common.{superframe_chips, kept_count, Data, good_frame2, decoded2}
-use Rattle.clean_link.specs.Common.{Decoded2, set_two, FrameCycle, CellPlan, TrafficPlan}
-use Rattle.clean_link.specs.Common.{SetTwoFrame, SoftFrame}
-use Rattle.rate_set_two.specs.Laws.{IsUnshared2}
-use Rattle.rate_set_two.specs.TrafficFrames.{frame_symbols2, frame_codeword2}
-use Rattle.cell_plan.specs.TrafficFrames.{frames_in_turn}
-use Rattle.clean_signal.specs.Signals.{soft_strength}
-use Rattle.clean_frames.specs.SentFrames.{frame_ends, is_received, received_frames, replaced_of}
-use Rattle.clean_frames.specs.SentFrames.{sent_bits, ShowFrame}
+use Rattle.clean_link.specs.Common.{Decoded2, set_two, FrameCycle, CellPlan, TrafficPlan, SoftFrame}
+use Rattle.clean_link.specs.Common.{SetTwoFrame, IsUnshared2, frame_symbols2, frame_codeword2}
+use Rattle.clean_link.specs.Common.{frames_in_turn, soft_strength, frame_ends, is_received}
+use Rattle.clean_link.specs.Common.{received_frames, replaced_of, sent_bits, ShowFrame}
+use Rattle.std.specs.Prelude.{ℕ, ◌*◌, ◌≡◌, true, Bool, List, map, ℤ, pos, Option, Some}
 
 -- ---- any frame
 

@@ -1,24 +1,21 @@
 -- What a file of any origin gives back of a traffic channel of either rate set, whose frames are
 -- received of the reference base station alone.
+use Rattle.clean_link.specs.Common.{codeword_symbols, traffic_channel, received_frames, SetTwoFrame}
+use Rattle.clean_link.specs.Common.{IsDistinctFrame, frame_codeword2, frame_codeword, IsSetTwoFrame}
+use Rattle.clean_link.specs.Common.{IsSetOneFrame, soft_strength, ShowPowerBits, cycled_frame, Data}
+use Rattle.clean_link.specs.Common.{made_samples, IsReceivable, SendsSymbols, SetOneFrame, CellPlan}
+use Rattle.clean_link.specs.Common.{TrafficPlan, good_frame2, soft_frames, is_received, replaced_of}
+use Rattle.clean_link.specs.Common.{SendsSetTwo, soft_frame, IsAssigned, SoftFrame, frames_of, Mark}
+use Rattle.clean_link.specs.Common.{Decoded2, decoded2, Traffic, Sample, Tuning, raw_at, Width}
 use Rattle.std.specs.Prelude.{ℕ, ◌+◌, ◌-◌, ◌*◌, ◌≡◌, true, Bool, List, [], ◌∷◌, length, map, Some}
 use Rattle.std.specs.Prelude.{ℤ, Option}
 use Rattle.std.specs.List.{Contains}
-use Rattle.clean_link.specs.Common.{IsSetTwoFrame, SetTwoFrame, traffic_channel, SetOneFrame, Width}
-use Rattle.clean_link.specs.Common.{cycled_frame, made_samples, IsReceivable, TrafficPlan}
-use Rattle.clean_link.specs.Common.{good_frame2, soft_frame, soft_frames, CellPlan, Decoded2}
-use Rattle.clean_link.specs.Common.{SoftFrame, decoded2, frames_of, Data, Mark, Sample, Traffic}
-use Rattle.clean_link.specs.Common.{Tuning, raw_at, IsSetOneFrame, frame_codeword}
 use Rattle.clean_link.specs.CleanLink.{IsOnPath}
-use Rattle.clean_signal.specs.Signals.{soft_strength}
-use Rattle.clean_frames.specs.SentFrames.{is_received, received_frames, codeword_symbols}
-use Rattle.clean_frames.specs.SentFrames.{IsAssigned, replaced_of, SendsSetTwo, SendsSymbols}
-use Rattle.clean_frames.specs.SentFrames.{ShowPowerBits, IsDistinctFrame}
 use Rattle.clean_link.specs.ReceivedFrames.{IsDistinctFrame2, codeword_symbols2, cycled_frame2}
 use Rattle.clean_link.specs.ReceivedFrames.{AreReceivedFrom, IsReceived, IsReceivedAs, IsSentFrame2}
 use Rattle.clean_link.specs.SentSigns.{MarkIsAt, TrafficFrameHasSigns}
 use Rattle.clean_link.specs.TrafficLaws.{HavePowerSigns, HearsSentTraffic, IsOnlyBestFrame}
 use Rattle.clean_link.specs.TrafficLaws.{IsOnlyBestFrame2, NoisyFrame}
-use Rattle.rate_set_two.specs.TrafficFrames.{frame_codeword2}
 
 -- ---- what is sent
 

@@ -1,16 +1,15 @@
 -- All that a handset hears of a clean link's cell, in the order in which it is known.
+use Rattle.clean_link.specs.Common.{superframe_chips, places, Width, made_samples, phase_at, events}
+use Rattle.clean_link.specs.Common.{CellPlan, SyncPlan, TrafficPlan, at_of, Tuning, Event, Paging}
+use Rattle.clean_link.specs.Common.{Pilot, Traffic, IsReceivable, Sample, mark, frames_at, sets_at}
+use Rattle.clean_link.specs.Common.{messages_at, page_event, pages_if_marked, if_followed}
+use Rattle.clean_link.specs.Common.{told_with_sync, AreDistinct, IsAssigned, SendsSetOne}
 use Rattle.std.specs.Prelude.{ℕ, ◌+◌, ◌*◌, ◌==◌, ◌≡◌, Bool, if◌then◌else◌, nat_lt, List, [], ◌∷◌}
 use Rattle.std.specs.Prelude.{◌++◌, map, filter, All, Option, None, Some}
 use Rattle.std.specs.List.{Contains, flat_map}
-use Rattle.clean_link.specs.Common.{superframe_chips, places, Width, made_samples, phase_at}
-use Rattle.clean_link.specs.Common.{CellPlan, SyncPlan, TrafficPlan, events, at_of, Tuning, Event}
-use Rattle.clean_link.specs.Common.{Paging, Pilot, Traffic, IsReceivable, Sample, mark, frames_at}
-use Rattle.clean_link.specs.Common.{messages_at, sets_at, page_event, pages_if_marked, if_followed}
 use Rattle.clean_link.specs.CleanLink.{sync_sent, IsNotDirected, IsOnPath, IsTunedToPlan, tuning_to}
-use Rattle.clean_frames.specs.WholeSendings.{told_with_sync}
 use Rattle.clean_link.specs.HeardFrames.{frames_sent, messages_sent}
 use Rattle.clean_link.specs.SentSigns.{FromMark, HasSyncSigns, TrafficFrameHasSigns}
-use Rattle.clean_frames.specs.SentFrames.{AreDistinct, IsAssigned, SendsSetOne}
 use Rattle.clean_frames.specs.WholePages.{KnownPage, pages_sent}
 
 -- those of the paging channel that end when just n samples have been taken

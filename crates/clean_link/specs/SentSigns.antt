@@ -1,13 +1,12 @@
 -- Soft values with the signs that a cell sends, in a file of any origin, and a mark that is the
 -- cell's.
+use Rattle.clean_link.specs.Common.{CellPlan, PagingPlan, SyncPlan, TrafficPlan, Carrier, Data}
+use Rattle.clean_link.specs.Common.{IsReceivable, Mark, Sample, softs, Tuning, Width, mark, symbols}
+use Rattle.clean_link.specs.Common.{Form, HaveSigns, path_finger, IsFrameAt, IsFrameOf}
 use Rattle.std.specs.Prelude.{◌≡◌, ℕ, ◌+◌, ◌*◌, List, [], ◌∷◌, length, pos, replicate, None, Option}
 use Rattle.std.specs.Prelude.{Some}
 use Rattle.cell_plan.specs.Signal.{sync_carrier, paging_carrier, traffic_carrier}
 use Rattle.clean_link.specs.CleanLink.{IsOnPath, IsTrueMark}
-use Rattle.clean_link.specs.Common.{CellPlan, PagingPlan, SyncPlan, TrafficPlan, Carrier, Data}
-use Rattle.clean_link.specs.Common.{IsReceivable, Mark, Sample, softs, Tuning, Width, mark}
-use Rattle.clean_signal.specs.Common.{symbols, Form, HaveSigns}
-use Rattle.clean_signal.specs.Signals.{path_finger, IsFrameAt, IsFrameOf}
 use Rattle.rake_finger.specs.declared.form.Form.TheVariants.{Sync}
 
 -- ---- soft values with the sent signs

@@ -1,16 +1,15 @@
 -- Worked values of the messages of a traffic channel on a clean link, which the checker computes.
-use Rattle.std.specs.Prelude.{◌≡◌, ℕ, refl, Bool, true, false, List, [], ◌∷◌, ◌++◌, take, drop}
-use Rattle.std.specs.Prelude.{replicate}
 use Rattle.clean_link.specs.Common.{binary, places, Complemented, fields_at, group_at, number_part}
 use Rattle.clean_link.specs.Common.{octets_at, part_at, presence_at, reading, records_at, capsule}
 use Rattle.clean_link.specs.Common.{front_capsule, is_stated, capsule_ending, check_bits, R1200}
 use Rattle.clean_link.specs.Common.{R9600, Message, traffic_message_body, traffic_capsule, split}
-use Rattle.clean_link.specs.Common.{split_9600, traffic_body_reading, head_at, head_of}
-use Rattle.clean_link.specs.Common.{is_traffic_body, part_reading, spelling, traffic_reading, Other}
-use Rattle.clean_link.specs.Common.{CellPlan, SetOneFrame}
+use Rattle.clean_link.specs.Common.{split_9600, traffic_body_reading, head_at, head_of, spelling}
+use Rattle.clean_link.specs.Common.{is_traffic_body, part_reading, traffic_reading, Other, CellPlan}
+use Rattle.clean_link.specs.Common.{SetOneFrame, cell_of_frames}
+use Rattle.std.specs.Prelude.{◌≡◌, ℕ, refl, Bool, true, false, List, [], ◌∷◌, ◌++◌, take, drop}
+use Rattle.std.specs.Prelude.{replicate}
 use Rattle.heard_events.specs.declared.event.Event.TheVariants.{Traffic}
 use Rattle.clean_link.specs.HeardFrames.{messages_sent}
-use Rattle.clean_signal.specs.WorkedCells.{cell_of_frames}
 
 -- a message of twelve octets, whose capsule has 120 bits
 message : Message

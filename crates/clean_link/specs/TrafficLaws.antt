@@ -1,21 +1,19 @@
 -- What a file of any origin gives back of a traffic channel after a true mark, by the signs of its
 -- soft values, and what those of a clean link are (TIA/EIA-95-B, 7.1.3.5).
-use Rattle.std.specs.Prelude.{ℕ, ◌+◌, ◌-◌, ◌*◌, ◌<◌, ◌≤◌, ◌≡◌, true, List, [], ◌∷◌, length, map}
-use Rattle.std.specs.Prelude.{pos, All, ℤ, ◌<ℤ◌, ◌/◌, Bool, false, get_or}
+use Rattle.clean_link.specs.Common.{places, Sample, Width, kept_count, ShowSymbols, Data, frames_of}
+use Rattle.clean_link.specs.Common.{made_samples, cycled_frame, CellPlan, TrafficPlan, SetOneFrame}
+use Rattle.clean_link.specs.Common.{frames_at, legs_at, messages_at, frame_softs, power_bits_at}
+use Rattle.clean_link.specs.Common.{decoded_at, frame_heard, raw_softs, has_frame, replaced_in, Leg}
+use Rattle.clean_link.specs.Common.{stream_of, Tuning, Mark, Traffic, IsReceivable, Decoded, Rate}
+use Rattle.clean_link.specs.Common.{Rate2, IsAllowed, Codeword, Zero, frame_codeword, unreplaced}
+use Rattle.clean_link.specs.Common.{FrameFormat, bits_in, format_of, score_in, HasSign, KeepSigns}
+use Rattle.clean_link.specs.Common.{is_replaced, soft_strength, frame_ends, received_frames}
+use Rattle.clean_link.specs.Common.{sent_power_bits, codeword_symbols, AreDistinct, IsAssigned}
+use Rattle.clean_link.specs.Common.{IsDistinctFrame, SendsSetOne, ShowPowerBits}
+use Rattle.std.specs.Prelude.{ℕ, ◌+◌, ◌-◌, ◌*◌, ◌<◌, ◌≤◌, ◌≡◌, true, List, [], ◌∷◌, length, map, ℤ}
+use Rattle.std.specs.Prelude.{pos, All, ◌<ℤ◌, ◌/◌, Bool, false, get_or}
 use Rattle.std.specs.List.{Contains, flat_map}
-use Rattle.clean_link.specs.Common.{places, Sample, Width, kept_count, ShowSymbols, Data}
-use Rattle.clean_link.specs.Common.{made_samples, frames_of, cycled_frame, CellPlan, TrafficPlan}
-use Rattle.clean_link.specs.Common.{SetOneFrame, frames_at, legs_at, messages_at, frame_softs}
-use Rattle.clean_link.specs.Common.{power_bits_at, decoded_at, frame_heard, raw_softs, has_frame}
-use Rattle.clean_link.specs.Common.{replaced_in, stream_of, Tuning, Leg, Mark, Traffic}
-use Rattle.clean_link.specs.Common.{IsReceivable, Decoded, Rate, Rate2, IsAllowed, Codeword, Zero}
-use Rattle.clean_link.specs.Common.{frame_codeword, unreplaced, FrameFormat, bits_in, format_of}
-use Rattle.clean_link.specs.Common.{score_in, HasSign, KeepSigns, is_replaced}
 use Rattle.clean_link.specs.CleanLink.{IsNotDirected, IsOnPath, IsTrueMark}
-use Rattle.clean_signal.specs.Signals.{soft_strength}
-use Rattle.clean_frames.specs.SentFrames.{frame_ends, received_frames, sent_power_bits}
-use Rattle.clean_frames.specs.SentFrames.{codeword_symbols, AreDistinct, IsAssigned}
-use Rattle.clean_frames.specs.SentFrames.{IsDistinctFrame, SendsSetOne, ShowPowerBits}
 use Rattle.clean_link.specs.HeardFrames.{frames_of_channel, IsOnePilot, messages_of_channel}
 use Rattle.clean_link.specs.SentSigns.{TrafficFrameHasSigns}
 use Rattle.rate_set_two.specs.TrafficFrames as second

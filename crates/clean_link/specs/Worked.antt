@@ -1,13 +1,11 @@
 -- Worked values of a clean link, which the checker computes.
-use Rattle.std.specs.Prelude.{◌≡◌, refl, ℕ, ◌-◌, List, [], ◌∷◌, map, Some}
 use Rattle.clean_link.specs.Common.{Plain, capsule, check_bits, binary, places, Data, sync_body}
-use Rattle.clean_link.specs.Common.{spelling, sync_capsule, CellPlan, some_sync}
+use Rattle.clean_link.specs.Common.{spelling, sync_capsule, CellPlan, some_sync, first_sync_frame}
+use Rattle.clean_link.specs.Common.{heard_after, sending_ends, whole_sendings, soft_strength}
+use Rattle.clean_link.specs.Common.{cell_with}
+use Rattle.std.specs.Prelude.{◌≡◌, refl, ℕ, ◌-◌, List, [], ◌∷◌, map, Some}
 use Rattle.rake_finger.specs.declared.form.Form.TheVariants.{Sync}
-use Rattle.clean_frames.specs.WholeSendings.{first_sync_frame, heard_after, sending_ends}
-use Rattle.clean_frames.specs.WholeSendings.{whole_sendings}
-use Rattle.clean_signal.specs.Signals.{soft_strength}
 use Rattle.clean_link.specs.DistinctPlan.{told_message}
-use Rattle.clean_signal.specs.WorkedCells.{cell_with}
 
 -- a second of a cell, from a local chip on, whose sync message has 25 octets, and so nine frames of
 -- which seven have bits of it

@@ -1,12 +1,12 @@
 -- The soft values of any channel that is sent over a clean link, to any stream that hears it, and
 -- the codewords that they show.
+use Rattle.clean_signal.specs.Common.{frame_chips, softs, symbols, Form, sent, signed, Width}
+use Rattle.clean_signal.specs.Common.{made_samples, continued_symbols, Carrier, carriers, CellPlan}
+use Rattle.clean_signal.specs.Common.{frame_softs, is_in_file, span_first, span_frames, StreamOf}
+use Rattle.clean_signal.specs.Common.{IsReceivable, Channel}
 use Rattle.std.specs.Prelude.{ℕ, ◌+◌, ◌<◌, ◌≤◌, ◌≡◌, ◌≢◌, true, All, Bool, List, [], ◌∷◌, length}
 use Rattle.std.specs.Prelude.{pos, replicate}
 use Rattle.std.specs.List.{Contains}
-use Rattle.clean_signal.specs.Common.{frame_chips, softs, symbols, Form, sent, signed, Width}
-use Rattle.clean_signal.specs.Common.{made_samples, continued_symbols, Carrier, carriers, CellPlan}
-use Rattle.clean_signal.specs.Common.{frame_softs, is_in_file, span_first, span_frames}
-use Rattle.clean_signal.specs.Common.{IsReceivable, StreamOf, Channel}
 use Rattle.clean_signal.specs.Signals.{soft_strength, AreReadBy, IsOnlyBest, span_codeword}
 use Rattle.clean_signal.specs.Signals.{IsFrameAt, IsFrameOf, IsHeardBy, path_finger}
 

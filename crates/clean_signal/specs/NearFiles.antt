@@ -1,10 +1,10 @@
 -- A file that holds what one cell sends over one path, with noise of a bounded size, and what such
 -- noise is: another path, and rounding.
+use Rattle.clean_signal.specs.Common.{Sample, Width, Header, best_phase, made_samples, IsReceivable}
+use Rattle.clean_signal.specs.Common.{phase_at, CellPlan, gain_sum, scaled, LinkPlan}
 use Rattle.std.specs.Prelude.{◌≡◌, ℕ, ◌+◌, List, take, ◌*◌, ◌<◌, ◌≤◌, map, pos, unsigned_abs, ℤ}
 use Rattle.std.specs.Prelude.{◌-ℤ◌, ◌*ℤ◌}
 use Rattle.std.specs.List.{AllZip}
-use Rattle.clean_signal.specs.Common.{Sample, Width, Header, best_phase, made_samples, IsReceivable}
-use Rattle.clean_signal.specs.Common.{phase_at, CellPlan, gain_sum, scaled, LinkPlan}
 use Rattle.clean_signal.specs.BoundedNoise.{IsNear, with_added}
 
 -- A file holds what a lawful cell sends, with noise of at most e in I and in Q of each sample: its

@@ -1,12 +1,12 @@
 -- Channels that are sent together, and one of them as a stream hears it over the cell's path.
+use Rattle.clean_signal.specs.Common.{Finger, Form, Carrier, level, phase_at, CellPlan, places, xor}
+use Rattle.clean_signal.specs.Common.{zip_with, Sample, sent, shape_of, size, Kind, Codeword, Free}
+use Rattle.clean_signal.specs.Common.{IsAllowed, Channel, score, sending, bits_before, Scrambles}
+use Rattle.clean_signal.specs.Common.{continued_symbols, frame_softs, span_first, span_frames, norm}
+use Rattle.clean_signal.specs.Common.{StreamOf}
 use Rattle.std.specs.Prelude.{ℕ, ◌+◌, ◌*◌, ◌%◌, ◌<◌, ◌≤◌, ◌≡◌, ◌≢◌, ◌==◌, if◌then◌else◌, All, List}
 use Rattle.std.specs.Prelude.{[], ◌∷◌, ℤ, pos, ◌+ℤ◌, Bool, length, ◌<ℤ◌}
 use Rattle.std.specs.List.{flat_map}
-use Rattle.clean_signal.specs.Common.{Finger, Form, Carrier, level, phase_at, CellPlan, places, xor}
-use Rattle.clean_signal.specs.Common.{zip_with, Sample, sent, shape_of, size, Kind, Codeword}
-use Rattle.clean_signal.specs.Common.{IsAllowed, Free, Channel, score, sending, bits_before}
-use Rattle.clean_signal.specs.Common.{continued_symbols, Scrambles, frame_softs, span_first}
-use Rattle.clean_signal.specs.Common.{span_frames, StreamOf, norm}
 use Rattle.rake_finger.specs.Soft as soft
 
 -- ---- channels that can be told apart

@@ -1,7 +1,7 @@
 -- Cells of which values are worked out.
-use Rattle.std.specs.Prelude.{ℕ, ◌^◌, pos, negsuc, List, [], ◌∷◌, map, Option, None}
 use Rattle.clean_signal.specs.Common.{CheckForm, Plain, SetOne, CellPlan, PagingPlan, SyncPlan}
 use Rattle.clean_signal.specs.Common.{TrafficPlan, SetOneFrame, planned}
+use Rattle.std.specs.Prelude.{ℕ, ◌^◌, pos, negsuc, List, [], ◌∷◌, map, Option, None}
 
 -- so much of a cell, from a local chip on, with these channels, and this form of checks of 16 bits
 abbrev pub cell_with : ℕ → ℕ → CheckForm → Option SyncPlan → List PagingPlan → List TrafficPlan →

@@ -2,22 +2,19 @@
 
 ghost use Rattle.clean_signal.specs.BoundedNoise.{BearsAllWithin, BearsBelowItsAmplitude};
 ghost use Rattle.clean_signal.specs.BoundedNoise.{LessIsBorne, MarginsAreOne, NoNoiseIsBorne};
-ghost use Rattle.clean_signal.specs.BoundedNoise.{NoisyChannelsHaveSentSigns};
-ghost use Rattle.clean_signal.specs.BoundedNoise.{NoisyCodewordsAreTheOnlyBest, OtherCellsAreNoise};
+ghost use Rattle.clean_signal.specs.BoundedNoise.{NoisyChannelsHaveSentSigns, OtherCellsAreNoise};
+ghost use Rattle.clean_signal.specs.BoundedNoise.{NoisyCodewordsAreTheOnlyBest, MarginsAreExact};
 ghost use Rattle.clean_signal.specs.BoundedNoise.{NoisyStreamsShowSymbols, TheLeastBearsForAll};
-ghost use Rattle.clean_signal.specs.BoundedNoise.{ChannelsAreTakenAway, MarginsAreExact};
-ghost use Rattle.clean_signal.specs.ChannelLaws.{ChannelCodewordsAreTheOnlyBest};
+ghost use Rattle.clean_signal.specs.BoundedNoise.{ChannelsAreTakenAway};
+ghost use Rattle.clean_signal.specs.ChannelLaws.{ChannelCodewordsAreTheOnlyBest, SilentRowsAreZero};
 ghost use Rattle.clean_signal.specs.ChannelLaws.{ChannelsHaveSentSigns, EarlyFramesAreZero};
-ghost use Rattle.clean_signal.specs.ChannelLaws.{SilentRowsAreZero, StreamsShowSymbols};
-ghost use Rattle.clean_signal.specs.ChannelLaws.{StrengthsArePositive};
-ghost use Rattle.clean_signal.specs.NearFiles.{NearWithinNoneIsSame, NoiseAddsUp};
+ghost use Rattle.clean_signal.specs.ChannelLaws.{StreamsShowSymbols, StrengthsArePositive};
+ghost use Rattle.clean_signal.specs.NearFiles.{NearWithinNoneIsSame, NoiseAddsUp, RoundingIsNoise};
 ghost use Rattle.clean_signal.specs.NearFiles.{LouderLinksAreLouder, OtherPathsAreNoise};
-ghost use Rattle.clean_signal.specs.NearFiles.{RoundingIsNoise};
 ghost use Rattle.clean_signal.specs.NoisySearch.{FoundThroughLess, NearFilesAreFound};
 ghost use Rattle.clean_signal.specs.NoisySearch.{LoudPilotsAreFoundFirst, LoudPilotsAreGreatest};
 ghost use Rattle.clean_signal.specs.NoisySearch.{LouderPilotsAreFound, LouderPlansAreFiles};
-ghost use Rattle.clean_signal.specs.NoisySearch.{LouderPilotsBearNoise};
-ghost use Rattle.clean_signal.specs.NoisySearch.{SearchBearsNoise};
+ghost use Rattle.clean_signal.specs.NoisySearch.{LouderPilotsBearNoise, SearchBearsNoise};
 
 /// On a clean link the soft values of each frame in the file are `4 |h|^2 g0 g V C` times the signs
 /// of the symbols that the channel sends in it, where h is the link, g0 and g are the gains of the

@@ -1,9 +1,7 @@
 -- Lemmas on the commands of clap that the table of options makes.
-use Rattle.command_line.proofs.Common.{◌≡◌, ◌&&◌, ◌++◌, ◌∙◌, ℕ, Bool, true, false, not, List, [], ◌∷◌, append_assoc, append-nil, ap, ap₂}
-use Rattle.command_line.proofs.Common.{count_by, is_some, map, refl, sym, list_all, list_any, Shape, built, filled_from, is_ready}
-use Rattle.command_line.proofs.Common.{is_ready_leaf, is_simple, is_early_multiple, App, with_rule, OptionEntry, Text, app_from, bare_app}
-use Rattle.command_line.proofs.Common.{rule_by}
-use Rattle.clap.specs.Words.{Rule}
+use Rattle.command_line.proofs.Common.{is_early_multiple, is_ready_leaf, append_assoc, filled_from, OptionEntry, append-nil, is_simple, ◌≡◌}
+use Rattle.command_line.proofs.Common.{with_rule, count_by, list_all, list_any, is_ready, app_from, bare_app, is_some, rule_by, false, ◌&&◌}
+use Rattle.command_line.proofs.Common.{Shape, built, ◌++◌, Bool, true, List, refl, Text, Rule, ◌∙◌, not, ◌∷◌, ap₂, map, sym, App, [], ap, ℕ}
 use Rattle.command_line.proofs.ArgWalks.{names_in, opt, opts, shape}
 
 pub app-none : (app : App) → app_from app [] ≡ app

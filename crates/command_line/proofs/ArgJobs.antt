@@ -1,8 +1,8 @@
 -- Lemmas on the jobs of the commands.
 use Rattle.command_line.proofs.Common.{◌≡◌, ◌≤◌, ◌↔◌, List, [], ◌∷◌, true, false, refl, sym, ap, ap₂, ◌∙◌, arith, rules, Result, Ok, Err}
 use Rattle.command_line.proofs.Common.{IfOk, ok_or, length, map, string_bytes, String, Global, Option, None, Some, is_some, option_and_then}
-use Rattle.command_line.proofs.Common.{Job, WordFault, Bad, CommandEntry, Given, OptionEntry, Text, given_after, job_after, job_by}
-use Rattle.command_line.proofs.Common.{job_in, job_named, job_with, number_by, numbers_by, text_in, option_text}
+use Rattle.command_line.proofs.Common.{Job, WordFault, Bad, CommandEntry, Given, OptionEntry, Text, given_after, job_after, job_by, job_in}
+use Rattle.command_line.proofs.Common.{job_named, job_with, number_by, numbers_by, text_in, option_text}
 use Rattle.command_line.proofs.ArgTexts.{texts_given}
 
 pub given_of : (o : Option Given) → is_some o ≡ true → (given : Given) × (o ≡ Some given)

@@ -1,14 +1,14 @@
 -- Lemmas on the test of arguments: what each step of it reads.
 use Rattle.command_line.proofs.Common.{◌≡◌, ℕ, zero, suc, ◌+◌, ◌<◌, ◌≤◌, Bool, true, false, not, ◌&&◌, ◌||◌, if◌then◌else◌, List, [], ◌∷◌}
 use Rattle.command_line.proofs.Common.{◌++◌, length, map, take, drop, get_or, nat_eq, nat_le, refl, sym, ap, ap₂, ◌∙◌, subst, arith, rules}
-use Rattle.command_line.proofs.Common.{Option, None, Some, option_and_then, option_map, unwrap_or, eqb-true, find, is_some, ◌*◌, ◌-◌}
-use Rattle.command_line.proofs.Common.{String, Global, string_bytes, Result, Ok, Err, at_drop_more, drop-map, drop_all, length-drop}
-use Rattle.command_line.proofs.Common.{length-map, take-map, take_all, AllPass, list_any, is_ascii_digit, from_be_bytes, w32, option_map_or}
-use Rattle.command_line.proofs.Common.{result_ok, bytes_eq, digits_from, decode_sized, is_hex_digit, FromHexError, IsOk-decode_sized}
-use Rattle.command_line.proofs.Common.{long_of, long_of_rest, short_of, short_of_rest, strip_byte, OptionRule, ValueForm, Between}
-use Rattle.command_line.proofs.Common.{EightDigits, Given, OptionEntry, Text, added, form_admits, given_after, has_name, is_allowed}
-use Rattle.command_line.proofs.Common.{is_joined, is_named_in, option_joined, names, argument_number_in, part_by, part_of, parted}
-use Rattle.command_line.proofs.Common.{eight_digits_in, value_spelled_in, text_in, value_in}
+use Rattle.command_line.proofs.Common.{Option, None, Some, option_and_then, option_map, unwrap_or, eqb-true, find, is_some, ◌*◌, ◌-◌, Ok}
+use Rattle.command_line.proofs.Common.{String, Global, string_bytes, Result, Err, at_drop_more, drop-map, drop_all, length-drop, length-map}
+use Rattle.command_line.proofs.Common.{take-map, take_all, AllPass, list_any, is_ascii_digit, from_be_bytes, w32, option_map_or, result_ok}
+use Rattle.command_line.proofs.Common.{bytes_eq, digits_from, decode_sized, is_hex_digit, FromHexError, IsOk-decode_sized, long_of, Between}
+use Rattle.command_line.proofs.Common.{long_of_rest, short_of, short_of_rest, strip_byte, OptionRule, ValueForm, EightDigits, Given, Text}
+use Rattle.command_line.proofs.Common.{OptionEntry, added, form_admits, given_after, has_name, is_allowed, is_joined, is_named_in, names}
+use Rattle.command_line.proofs.Common.{option_joined, argument_number_in, part_by, part_of, parted, eight_digits_in, value_spelled_in}
+use Rattle.command_line.proofs.Common.{text_in, value_in}
 use Rattle.std.proofs.Math.Bool.{or-false}
 
 -- ---- an item of a list after the first k of them

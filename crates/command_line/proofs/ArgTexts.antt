@@ -1,8 +1,7 @@
 -- Lemmas on the texts of options, as the arguments after a command give them.
-use Rattle.command_line.proofs.Common.{◌≡◌, ◌++◌, ◌∙◌, Bool, true, false, if◌then◌else◌, List, [], ◌∷◌, refl, sym, ap, rules, find}
-use Rattle.command_line.proofs.Common.{option_map, option_and_then, Option, None, Some, option_map_or, bytes_eq, long_of, Given}
-use Rattle.command_line.proofs.Common.{OptionEntry, Text, added, given_after, is_joined, option_joined, part_by, parted, text_in}
-use Rattle.command_line.proofs.Common.{option_text}
+use Rattle.command_line.proofs.Common.{◌≡◌, ◌++◌, ◌∙◌, Bool, true, false, if◌then◌else◌, List, [], ◌∷◌, refl, sym, ap, rules, find, Option}
+use Rattle.command_line.proofs.Common.{option_map, option_and_then, None, Some, option_map_or, bytes_eq, long_of, Given, OptionEntry, Text}
+use Rattle.command_line.proofs.Common.{added, given_after, is_joined, option_joined, part_by, parted, text_in, option_text}
 use Rattle.command_line.proofs.ArgTests.{IsPlain, none_stays}
 use Rattle.command_line.proofs.ArgWalks.{is_added}
 

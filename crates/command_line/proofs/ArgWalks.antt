@@ -1,18 +1,16 @@
 -- What clap makes of arguments that are in the grammar: one lemma a step of its walk.
 use Rattle.command_line.proofs.Common.{◌≡◌, nat_lt, Bool, true, false, not, ◌&&◌, ◌||◌, List, [], ◌∷◌, ◌++◌, map, refl, sym, ap, ap₂, ◌∙◌}
-use Rattle.command_line.proofs.Common.{subst, rules, Option, None, Some, find, fold, is_some, option_map, option_and_then, append-nil}
-use Rattle.command_line.proofs.Common.{if◌then◌else◌, drop, slice_get, bytes_eq, list_any, list_all, option_map_or, map-append}
-use Rattle.command_line.proofs.Common.{bytes_eq-Decides, Bor, Entry, first_value, Found, long_of, Held, Row, Rule, Walk, Step, idle, option}
-use Rattle.command_line.proofs.Common.{next, arg_by_id, arg_by_long, has_row, reacted, settled, used_by_id, used, walk_from, walked, walk}
-use Rattle.command_line.proofs.Common.{with_values, more_values, without, at_row, word_met, long_or_other, after_flag, after_step, long_met}
-use Rattle.command_line.proofs.Common.{short_or_plain, option_word, pushed, with_default, nothing_held, trailing, finished, rows_after}
-use Rattle.command_line.proofs.Common.{rows_of, first_of, bundle_passes, settle_passes, turn_passes, walk_passes, word_passes}
-use Rattle.command_line.proofs.Common.{flag_word_passes, long_passes, use_passes, step_passes, default_passes, is_valid, is_given}
-use Rattle.command_line.proofs.Common.{level_passes, built_takes, entered_passes, takes, Shape, new_rule, new_app, is_simple, built}
-use Rattle.command_line.proofs.Common.{matches_of, names_of, entered, Set, CommandLine, Given, OptionEntry, Text, added, given_after}
-use Rattle.command_line.proofs.Common.{has_name, is_allowed, is_joined, option_joined, parted, option_text, value_in}
-use Rattle.clap.specs.Walk.{row_of}
-use Rattle.clap.specs.Simple.{App}
+use Rattle.command_line.proofs.Common.{subst, rules, Option, None, Some, find, fold, is_some, option_map, option_and_then, append-nil, drop}
+use Rattle.command_line.proofs.Common.{if◌then◌else◌, slice_get, bytes_eq, list_any, list_all, option_map_or, map-append, bytes_eq-Decides}
+use Rattle.command_line.proofs.Common.{Bor, Entry, first_value, Found, long_of, Held, Row, Rule, Walk, Step, idle, option, next, arg_by_id}
+use Rattle.command_line.proofs.Common.{arg_by_long, has_row, reacted, settled, used_by_id, used, walk_from, walked, walk, with_values, Set}
+use Rattle.command_line.proofs.Common.{more_values, without, at_row, word_met, long_or_other, after_flag, after_step, long_met, option_word}
+use Rattle.command_line.proofs.Common.{short_or_plain, pushed, with_default, nothing_held, trailing, finished, rows_after, rows_of, takes}
+use Rattle.command_line.proofs.Common.{first_of, bundle_passes, settle_passes, turn_passes, walk_passes, word_passes, flag_word_passes, App}
+use Rattle.command_line.proofs.Common.{long_passes, use_passes, step_passes, default_passes, is_valid, is_given, level_passes, built_takes}
+use Rattle.command_line.proofs.Common.{entered_passes, Shape, new_rule, new_app, is_simple, built, matches_of, names_of, entered, Given}
+use Rattle.command_line.proofs.Common.{CommandLine, OptionEntry, Text, added, given_after, has_name, is_allowed, is_joined, option_joined}
+use Rattle.command_line.proofs.Common.{parted, option_text, value_in, row_of}
 use Rattle.command_line.proofs.ArgTests.{IsPlain, none_stays, value_plain}
 use Rattle.clap.specs.declared.builder.value_parser.ValueParser.TheVariants as vp
 use Rattle.clap.specs.declared.builder.value_parser.Reading.TheVariants as reading

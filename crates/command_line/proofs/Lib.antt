@@ -1,4 +1,3 @@
--- The modules of lemmas of `command_line`.
 pub mod Common
 mod ArgApps
 mod ArgJobs

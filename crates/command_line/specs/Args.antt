@@ -23,14 +23,14 @@ use Rattle.chip_core.specs.declared.width.Width.TheVariants.{Sixteen, Eight}
 use Rattle.command_line.specs.declared.job.Job.{Job}
 use Rattle.command_line.specs.declared.job.Job.TheVariants.{Find, Follow, Rate2, Idle, Survey, Make}
 use Rattle.command_line.specs.declared.job.Job.TheVariants.{Trial}
-use Rattle.command_line.specs.declared.job.Job.TheVariants as jobs
 use Rattle.chip_core.specs.declared.assignment.Traffic.{Traffic}
 use Rattle.command_line.specs.declared.commands.Command.{Command}
-use Rattle.command_line.specs.declared.commands.Command.TheVariants as named
 use Rattle.command_line.specs.declared.grammar.ValueForm.{ValueForm}
 use Rattle.command_line.specs.declared.grammar.ValueForm.TheVariants.{Between, EightDigits, Either}
 use Rattle.command_line.specs.declared.grammar.OptionRule.{OptionRule}
 use Rattle.command_line.specs.declared.receiving.ReceptionOptions.{ReceptionOptions}
+use Rattle.command_line.specs.declared.job.Job.TheVariants as jobs
+use Rattle.command_line.specs.declared.commands.Command.TheVariants as named
 
 abbrev pub Text : Type 0
 Text = List ℕ

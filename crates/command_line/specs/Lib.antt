@@ -1,2 +1,1 @@
--- The modules of definitions of `command_line`.
 pub mod Args

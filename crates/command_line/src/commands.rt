@@ -2,11 +2,10 @@
 
 ghost use Rattle.std.specs.Prelude.{◌≡◌, IfSome, find, map, nat_eq, option_map};
 ghost use Rattle.std.specs.Cmp.Lexicographic.{pointwise};
-ghost use Rattle.command_line.specs.Args.{IsLawfulJob, command_entry, commands, find_entry};
-ghost use Rattle.command_line.specs.Args.{follow_entry, idle_entry, job_with, limit_entries};
-ghost use Rattle.command_line.specs.Args.{limits_with, list_entry, make_entry, numbers_by};
-ghost use Rattle.command_line.specs.Args.{rate2_entry, entry_of, survey_entry, trial_entry};
-ghost use Rattle.command_line.specs.Args.{width_of_bits};
+ghost use Rattle.command_line.specs.Args.{command_entry, limit_entries, width_of_bits, IsLawfulJob};
+ghost use Rattle.command_line.specs.Args.{follow_entry, survey_entry, limits_with, rate2_entry};
+ghost use Rattle.command_line.specs.Args.{trial_entry, find_entry, idle_entry, list_entry};
+ghost use Rattle.command_line.specs.Args.{make_entry, numbers_by, commands, job_with, entry_of};
 
 use crate::grammar::{
     BASE, BITS, CYCLE, FINGERS, FRAMES, KEY, LIST_LENGTH, MESSAGES, NUMBER, OFFSET, OptionRule,

@@ -1,8 +1,8 @@
 //! The options of the commands, as data.
 
 ghost use Rattle.std.specs.Prelude.{◌≡◌, IfSome};
-ghost use Rattle.command_line.specs.Args.{IsAdmitted, form_admits, eight_digits_in};
-ghost use Rattle.command_line.specs.Args.{argument_number_in, value_spelled_in, value_in};
+ghost use Rattle.command_line.specs.Args.{IsAdmitted, form_admits, eight_digits_in, value_in};
+ghost use Rattle.command_line.specs.Args.{argument_number_in, value_spelled_in};
 
 use chip_core::digits_in;
 use hex::FromHex;

@@ -1,8 +1,7 @@
 //! The job that the arguments of the command line ask for.
 
 ghost use Rattle.std.specs.Prelude.{◌≡◌, ◌↔◌, IfOk, map, string_bytes, Some, None, Err};
-ghost use Rattle.command_line.specs.Args.{IsLawfulJob, command_entry, job_after, job_by};
-ghost use Rattle.command_line.specs.Args.{job_named};
+ghost use Rattle.command_line.specs.Args.{IsLawfulJob, command_entry, job_after, job_by, job_named};
 
 use crate::commands::Command;
 use crate::matching::matches_by;

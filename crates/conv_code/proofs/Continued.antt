@@ -1,8 +1,8 @@
 -- The symbols of bits after other bits.
 use Rattle.conv_code.proofs.Common.{◌≡◌, ℕ, zero, suc, ◌+◌, ◌-◌, ◌*◌, ◌<◌, ◌≤◌, Bool, true, false, List, [], ◌∷◌, ◌++◌, length, get_or, map}
 use Rattle.conv_code.proofs.Common.{drop, refl, sym, ap, ◌∙◌, arith, append_assoc, append-nil, length-append, length-drop, nat_le, flat_map}
-use Rattle.conv_code.proofs.Common.{list_all, get_or_append_left, get_or-drop, drop-append-le, drop-drop, flat_map-append, and_parts}
-use Rattle.conv_code.proofs.Common.{leb-true, parity, places, places-none, places-more, symbol, g0, g1, code_symbols, state_after}
+use Rattle.conv_code.proofs.Common.{list_all, get_or_append_left, get_or-drop, drop-append-le, drop-drop, flat_map-append, and_parts, g0}
+use Rattle.conv_code.proofs.Common.{leb-true, parity, places, places-none, places-more, symbol, g1, code_symbols, state_after}
 use Rattle.conv_code.proofs.Common.{IsContinuedCode, flat_map_ext_places}
 
 -- the two symbols of a place

@@ -1,4 +1,3 @@
--- The modules of lemmas of `conv_code`.
 pub mod Common
 pub mod Parities
 pub mod Solved

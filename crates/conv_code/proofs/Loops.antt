@@ -1,7 +1,7 @@
 -- Steps of the loops over bits and symbols.
-use Rattle.conv_code.proofs.Common.{◌≡◌, ℕ, ◌+◌, ◌*◌, ◌<◌, Bool, true, false, not, List, [], ◌∷◌, ◌++◌, length, get_or, map, take, drop}
-use Rattle.conv_code.proofs.Common.{sym, ap, ◌∙◌, arith, append_assoc, Some, refl, ◌&&◌, ◌/◌, slice_get, at_drop_more, length-binary}
-use Rattle.conv_code.proofs.Common.{get_or_from_slice_get, beq, xor, parity, binary, xor_step, symbol, g0, g1, code_symbols, state_after}
+use Rattle.conv_code.proofs.Common.{◌≡◌, ℕ, ◌+◌, ◌*◌, ◌<◌, Bool, true, false, not, List, [], ◌∷◌, ◌++◌, length, get_or, map, take, drop, ap}
+use Rattle.conv_code.proofs.Common.{sym, ◌∙◌, arith, append_assoc, Some, refl, ◌&&◌, ◌/◌, slice_get, at_drop_more, length-binary, beq, xor}
+use Rattle.conv_code.proofs.Common.{get_or_from_slice_get, parity, binary, xor_step, symbol, g0, g1, code_symbols, state_after}
 use Rattle.conv_code.proofs.Continued.{pair, code_symbols-push, state_after-append, length-code_symbols}
 use Rattle.conv_code.proofs.Pairs.{AreAt, symbols_at, pair_from_state}
 

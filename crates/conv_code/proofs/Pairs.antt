@@ -1,7 +1,7 @@
 -- The symbols of a list of bits, place by place.
 use Rattle.conv_code.proofs.Common.{◌≡◌, ℕ, zero, suc, ◌+◌, ◌*◌, ◌<◌, Bool, false, List, [], ◌∷◌, ◌++◌, length, get_or, take, drop, sym, ap}
-use Rattle.conv_code.proofs.Common.{◌∙◌, arith, below_more, append_assoc, flat_map, get_or_append_left, get_or-append-add, drop_more}
-use Rattle.conv_code.proofs.Common.{length-take-le, take-append-drop, take_more, flat_map-append, places, places-more, symbol, g0, g1}
+use Rattle.conv_code.proofs.Common.{◌∙◌, arith, below_more, append_assoc, flat_map, get_or_append_left, get_or-append-add, drop_more, g0}
+use Rattle.conv_code.proofs.Common.{length-take-le, take-append-drop, take_more, flat_map-append, places, places-more, symbol, g1}
 use Rattle.conv_code.proofs.Common.{code_symbols, state_after}
 use Rattle.conv_code.proofs.Continued.{pair, before, following, length_pairs, length-state_after}
 

@@ -1,7 +1,7 @@
 -- The start bits as sums of the first sixteen symbols.
 use Rattle.conv_code.proofs.Common.{◌≡◌, ℕ, zero, suc, ◌+◌, ◌*◌, ◌/◌, ◌%◌, ◌<◌, ◌≤◌, Bool, true, false, cond, List, [], ◌∷◌, ◌++◌, length}
-use Rattle.conv_code.proofs.Common.{get_or, map, refl, sym, ap, ◌∙◌, arith, nat_eq, nat_lt, list_all, get_or_append_left, and_parts}
-use Rattle.conv_code.proofs.Common.{agree_below, agree_below_at, ltb-true, parity, symbol, g0, g1, code_symbols, state_after}
+use Rattle.conv_code.proofs.Common.{get_or, map, refl, sym, ap, ◌∙◌, arith, nat_eq, nat_lt, list_all, get_or_append_left, and_parts, parity}
+use Rattle.conv_code.proofs.Common.{agree_below, agree_below_at, ltb-true, symbol, g0, g1, code_symbols, state_after}
 use Rattle.conv_code.proofs.Continued.{length-code_symbols}
 use Rattle.conv_code.proofs.Pairs.{AreAt, symbols_at}
 use Rattle.conv_code.proofs.Solved.{solutions, generator_of, place_of, entry_solved}

@@ -2,8 +2,8 @@
 use Rattle.conv_code.proofs.Common.{◌≡◌, ℕ, zero, suc, ◌+◌, ◌-◌, ◌*◌, ◌%◌, ◌^◌, ◌<◌, ◌≤◌, Bool, true, false, List, [], ◌∷◌, ◌++◌, length}
 use Rattle.conv_code.proofs.Common.{get_or, map, drop, refl, sym, ap, ◌∙◌, arith, length-append, length-drop, bit_and, nat_le, list_all}
 use Rattle.conv_code.proofs.Common.{get_or_append_left, get_or_push, get_or-drop, ext_get_or, and_parts, leb-true, bit_of, binary, digit}
-use Rattle.conv_code.proofs.Common.{parity, and_mask, bool_byte, bool_byte-digit, low_bit, bit_of-first, bit_of-next, length-binary}
-use Rattle.conv_code.proofs.Common.{get_or-binary, symbol, state_after}
+use Rattle.conv_code.proofs.Common.{parity, and_mask, bool_byte, bool_byte-digit, low_bit, bit_of-first, bit_of-next, length-binary, symbol}
+use Rattle.conv_code.proofs.Common.{get_or-binary, state_after}
 
 -- the register's number with one more bit at its low end
 abbrev pub window : ℕ → Bool → ℕ

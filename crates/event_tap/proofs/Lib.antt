@@ -1,4 +1,4 @@
--- The modules of lemmas of `event_tap`.
+pub mod Common
 mod PartTexts
 mod SaidTexts
 mod TrafficTexts

@@ -1,23 +1,15 @@
 -- Lemmas on what lines of messages have in common: items joined by commas, values after their
 -- names, and the text of few bits.
-use Rattle.std.proofs.Common.{◌≡◌, ℕ, zero, suc, ◌+◌, ◌^◌, ◌<◌, ◌≤◌, ◌&&◌, nat_lt, Bool, true, All, List, [], ◌∷◌, Some, slice_get}
-use Rattle.std.proofs.Common.{◌++◌, length, get_or, map, take, codes, decimal, sym, ap, ◌∙◌, arith, rules, append_assoc}
-use Rattle.std.proofs.Common.{append-nil, length-append, subst}
-use Rattle.std.specs.List.{list_all}
-use Rattle.std.specs.Str.{IsAscii}
+use Rattle.event_tap.proofs.Common.{◌≡◌, ℕ, zero, suc, ◌+◌, ◌^◌, ◌<◌, ◌≤◌, ◌&&◌, nat_lt, Bool, true, List, [], ◌∷◌, ◌++◌, length, get_or}
+use Rattle.event_tap.proofs.Common.{take, codes, decimal, sym, ap, ◌∙◌, arith, rules, append_assoc, append-nil, length-append, list_all}
+use Rattle.event_tap.proofs.Common.{IsAscii, length-decimal-le, flat_map_more, AllPass-from_list_all, IsAscii-from_all, fit_value, commas}
+use Rattle.event_tap.proofs.Common.{are_short, comma_before, named_values}
 use Rattle.std.proofs.lemmas.Bool.{and_parts}
-use Rattle.std.proofs.lemmas.Fmt.{length-decimal-le}
-use Rattle.std.proofs.lemmas.List.{flat_map_more}
-use Rattle.std.proofs.lemmas.Option.{get_or_from_slice_get, slice_get_within}
-use Rattle.std.proofs.lemmas.List.Sums.{AllPass-from_list_all}
-use Rattle.std.proofs.lemmas.Str.Ascii.{IsAscii-from_all}
 use Rattle.hex.specs.Hex.{encode_lower, lower_digits}
 use Rattle.hex.proofs.HexLemmas.{length-encode_with}
 use Rattle.chip_core.specs.Fields.{field, FieldsFit, in_widths}
-use Rattle.chip_core.proofs.ValueLists.{fit_value}
 use Rattle.line_text.specs.Texts.{bit_text, spaced_key, octet_count, packed_octets, padded}
 use Rattle.line_text.proofs.Digits.{all_below, length-packed}
-use Rattle.event_tap.specs.Parts.{are_short, commas, comma_before, named_values}
 
 -- no items yet
 pub no_items : (before : List ℕ) → before ≡ before ++ commas []

@@ -1,10 +1,8 @@
 -- Lemmas on beginnings of lists, on sinks that took one, and on calls that went well or failed.
-use Rattle.std.proofs.Common.{◌≡◌, ℕ, ◌+◌, ◌≤◌, ◌++◌, List, length, take, drop, refl, sym, ap, ◌∙◌, subst, arith, append_assoc}
-use Rattle.std.proofs.Common.{length-take, length-take-le, Option, Result, Ok, Err, OnErr, OnOk}
+use Rattle.event_tap.proofs.Common.{◌≡◌, ℕ, ◌+◌, ◌≤◌, ◌++◌, List, length, take, drop, refl, sym, ap, ◌∙◌, subst, arith, append_assoc, Ok}
+use Rattle.event_tap.proofs.Common.{length-take, length-take-le, Option, Result, Err, OnErr, OnOk, take_at, Appends}
 use Rattle.std.proofs.KnownBytes.{starts_with_rest}
-use Rattle.std.proofs.lemmas.List.{take_at}
 use Rattle.std.specs.Io.{StartsWith}
-use Rattle.std.specs.Io.KnownBytes.{Appends}
 use Rattle.cdma_io.specs.Outside.{AppendsPrefix}
 pub use Rattle.event_tap.proofs.TapLists.{prefix_before, prefix_after}
 

@@ -1,13 +1,11 @@
 -- Lemmas on the text of a run: on events that follow one another, on taps that are no longer there,
 -- and on what a single tap, and the taps of a run without limits, write.
-use Rattle.std.proofs.Common.{◌≡◌, ℕ, zero, suc, ◌+◌, ◌-◌, ◌≤◌, ◌<◌, All, List, [], ◌∷◌, ◌++◌, length, take, Option, None, Some, refl, sym}
-use Rattle.std.proofs.Common.{ap, ◌∙◌, subst, arith, rules, append_assoc, append-nil}
-use Rattle.std.proofs.lemmas.List.Elements.{All-append, All-cons, All-nil, All-head, All-tail}
-use Rattle.heard_events.specs.declared.event.Event.{Event}
+use Rattle.event_tap.proofs.Common.{◌≡◌, ℕ, zero, suc, ◌+◌, ◌-◌, ◌≤◌, ◌<◌, List, [], ◌∷◌, ◌++◌, length, take, Option, None, Some, refl, sym}
+use Rattle.event_tap.proofs.Common.{ap, ◌∙◌, arith, rules, append_assoc, append-nil, Event}
 use Rattle.heard_events.specs.declared.event.Event.TheVariants.{Pilot}
 use Rattle.event_tap.specs.EventLines.{event_line, events_text}
-use Rattle.event_tap.specs.Taps.{IsKept, KeptTap, form_line, form_lines, heard_text, joined_lines, kept_by, kept_with, left_after}
-use Rattle.event_tap.specs.Taps.{line_text, line_list, run_taps, run_text, tap_after, taps_after}
+use Rattle.event_tap.specs.Taps.{KeptTap, form_line, form_lines, heard_text, joined_lines, kept_by, kept_with, left_after, line_text}
+use Rattle.event_tap.specs.Taps.{line_list, run_taps, run_text, taps_after}
 
 -- EVENTS THAT FOLLOW ONE ANOTHER
 

@@ -1,28 +1,19 @@
 -- Lemmas on what lines tell of messages by their layouts: how long records are, and which layouts have a line.
-use Rattle.std.proofs.Common.{◌≡◌, ℕ, ◌+◌, ◌*◌, ◌^◌, ◌<◌, ◌≤◌, Bool, true, false, List, [], ◌∷◌, ◌++◌, length, map, get_or}
-use Rattle.std.proofs.Common.{codes, decimal, refl, sym, ap, subst, ◌∙◌, arith, inl, inr, nat_le, nat_lt, Option, None, Some, slice_get}
-use Rattle.std.proofs.Common.{cond, length-append, append_assoc, zero, suc, ◌≢◌}
+use Rattle.event_tap.proofs.Common.{◌≡◌, ℕ, ◌+◌, ◌*◌, ◌^◌, ◌<◌, ◌≤◌, Bool, true, List, [], ◌∷◌, ◌++◌, length, get_or, codes, decimal, refl}
+use Rattle.event_tap.proofs.Common.{sym, ap, subst, ◌∙◌, arith, inl, inr, nat_le, nat_lt, Option, None, Some, slice_get, cond, append_assoc}
+use Rattle.event_tap.proofs.Common.{length-append, zero, suc, ◌≢◌, length-decimal-le, get_or-map, get_or_default, length-map, list_all}
+use Rattle.event_tap.proofs.Common.{AllPass-from_list_all, IsAscii-from_all, IsAscii, fit_value, get-lengths, record_fit, three_long, share}
+use Rattle.event_tap.proofs.Common.{height, record_at, shares, are_short, columns_text, digits_in, end_bytes, field_bytes, has_line}
+use Rattle.event_tap.proofs.Common.{is_short_width, line_tests, list_bytes, record_bytes, slash_text, FillColumns, IsShown}
 use Rattle.std.proofs.lemmas.Bool.{and_parts, cases_lt, le-ltb, leb-true, lt-ltb}
-use Rattle.std.proofs.lemmas.Fmt.{length-decimal-le}
-use Rattle.std.proofs.lemmas.List.{get_or-map, get_or_default, length-map}
-use Rattle.std.proofs.lemmas.List.Sums.{AllPass-from_list_all}
 use Rattle.std.proofs.lemmas.Option.{get_or_from_slice_get}
-use Rattle.std.proofs.lemmas.Str.Ascii.{IsAscii-from_all}
-use Rattle.std.specs.List.{list_all}
-use Rattle.std.specs.Str.{IsAscii}
-use Rattle.chip_core.proofs.ValueLists.{fit_value}
 use Rattle.line_text.proofs.Digits.{all_below}
-use Rattle.message_layout.proofs.Columns.{get-lengths, record_fit, three_long}
-use Rattle.message_layout.specs.Contents.{height, record_at, share, shares}
 use Rattle.message_layout.specs.Shapes.{line_names, shape, MessageShape}
 use Rattle.message_layout.specs.Spelling.{IsOf}
 use Rattle.message_layout.specs.declared.contents.Contents.{Contents}
 use Rattle.message_layout.specs.declared.layout.Layout.{Layout}
 use Rattle.paging_message.proofs.ByLayout.{passes}
 use Rattle.paging_message.specs.Layouts.{paging_names_of, paging_shape_of}
-use Rattle.event_tap.specs.Parts.{are_short}
-use Rattle.event_tap.specs.SaidTexts.{columns_text, digits_in, end_bytes, field_bytes, has_line, is_short_width, line_tests}
-use Rattle.event_tap.specs.SaidTexts.{list_bytes, record_bytes, slash_text, FillColumns, IsShown}
 
 -- what stands after a text stands in front of what follows it
 pub in_front : (text a b c d e : List ℕ) →

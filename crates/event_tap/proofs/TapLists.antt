@@ -1,17 +1,14 @@
 -- Lemmas on lists of taps.
-use Rattle.std.proofs.Common.{◌≡◌, ℕ, zero, suc, ◌+◌, ◌≤◌, ◌<◌, All, List, [], ◌∷◌, ◌++◌, length, map, take, drop, refl, sym, ap, ◌∙◌}
-use Rattle.std.proofs.Common.{subst, arith, rules, append_assoc, append-nil, length-append, Option, None, Some, slice_index_or, slice_set}
-use Rattle.std.proofs.lemmas.List.{take-append-le, get_or-map, length-map, length-set, take_more_set, take-set, drop-set-lt, at_drop_more}
-use Rattle.std.proofs.lemmas.List.{map-append, take_at, drop_at, length-take-le}
+use Rattle.event_tap.proofs.Common.{◌≡◌, ℕ, zero, suc, ◌+◌, ◌≤◌, ◌<◌, All, List, [], ◌∷◌, ◌++◌, length, map, take, drop, refl, sym, ap, ◌∙◌}
+use Rattle.event_tap.proofs.Common.{subst, arith, rules, append_assoc, append-nil, length-append, Option, None, Some, slice_index_or, Event}
+use Rattle.event_tap.proofs.Common.{slice_set, take-append-le, get_or-map, length-map, length-set, take_more_set, take-set, drop-set-lt}
+use Rattle.event_tap.proofs.Common.{at_drop_more, map-append, take_at, drop_at, length-take-le, remove, Appends}
 use Rattle.std.proofs.lemmas.List.Elements.{All-append, All-set, All-take, All-drop, All-map, All-get_or}
 use Rattle.std.proofs.Math.Seq.{take-append-add}
 use Rattle.std.proofs.KnownBytes.{Appends-trans}
-use Rattle.std.specs.List.{remove}
-use Rattle.std.specs.Io.KnownBytes.{Appends}
 use Rattle.cdma_io.specs.Outside.{AppendsPrefix}
-use Rattle.heard_events.specs.declared.event.Event.{Event}
-use Rattle.event_tap.specs.Taps.{KeptTap, IsKept, kept_or_done, heard_text, kept_by, tap_after, kept_with, left_after, line_text}
-use Rattle.event_tap.specs.Taps.{form_line, taps_after}
+use Rattle.event_tap.specs.Taps.{KeptTap, IsKept, kept_or_done, heard_text, kept_by, tap_after, kept_with, left_after, line_text, form_line}
+use Rattle.event_tap.specs.Taps.{taps_after}
 use Rattle.event_tap.specs.declared.tap.Heard.{Heard}
 use Rattle.event_tap.specs.declared.tap.Heard.TheVariants.{Keep, Done}
 

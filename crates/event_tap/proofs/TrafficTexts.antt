@@ -1,5 +1,6 @@
 -- Lemmas on the lines of traffic messages: the records of a handoff direction.
-use Rattle.std.proofs.Common.{◌≡◌, ◌≢◌, true, ℕ, zero, suc, ◌<◌, ◌≤◌, ◌^◌, refl, ap, List, [], ◌∷◌, length, get_or, arith}
+use Rattle.event_tap.proofs.Common.{◌≡◌, ◌≢◌, true, ℕ, zero, suc, ◌<◌, ◌≤◌, ◌^◌, refl, ap, [], ◌∷◌, length, get_or, arith, are_short}
+use Rattle.event_tap.proofs.Common.{has_line, FillColumns}
 use Rattle.traffic_message.specs.Messages.{IsTrafficMessage, Message, bits_of}
 use Rattle.traffic_message.specs.Handoff.{IsHandoffDirection}
 use Rattle.traffic_message.specs.Layouts.{form_in, traffic_names_of, traffic_shape_of}
@@ -9,8 +10,6 @@ use Rattle.traffic_message.specs.declared.fields.DirectionFields.{DirectionField
 use Rattle.traffic_message.proofs.Bodies.{length-message}
 use Rattle.traffic_message.proofs.ByLayout.{combs_paired, record_fits, rows_paired}
 use Rattle.traffic_message.proofs.Directions.{records_room}
-use Rattle.event_tap.specs.Parts.{are_short}
-use Rattle.event_tap.specs.SaidTexts.{has_line, FillColumns}
 use Rattle.event_tap.specs.TrafficLines.{HasFewRecords}
 
 -- they are the records of a list

@@ -1,4 +1,5 @@
 -- The lines of events.
+use Rattle.event_tap.specs.Common.{Event, Pilot, Sync, Frame, Traffic, Sets}
 use Rattle.std.specs.Prelude.{ℕ, List}
 use Rattle.std.specs.List.{flat_map}
 use Rattle.event_tap.specs.FrameLines.{frame_line}
@@ -6,9 +7,7 @@ use Rattle.event_tap.specs.Lines.{pilot_line, sync_line}
 use Rattle.event_tap.specs.PagingLines.{paging_line}
 use Rattle.event_tap.specs.SetsLines.{sets_line}
 use Rattle.event_tap.specs.TrafficLines.{traffic_line}
-use Rattle.heard_events.specs.declared.event.Event.{Event}
-use Rattle.heard_events.specs.declared.event.Event.TheVariants.{Pilot, Sync, Paging, Frame, Traffic}
-use Rattle.heard_events.specs.declared.event.Event.TheVariants.{Sets}
+use Rattle.heard_events.specs.declared.event.Event.TheVariants.{Paging}
 
 -- the line of an event
 unfoldable pub event_line : Event → List ℕ

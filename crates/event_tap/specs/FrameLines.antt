@@ -1,11 +1,10 @@
 -- The lines of frames of traffic channels.
+use Rattle.event_tap.specs.Common.{Rate, bit_text, digit_of, digits_of}
 use Rattle.std.specs.Prelude.{ℕ, ◌/◌, Bool, List, ◌++◌, codes, decimal}
 use Rattle.symbol_path.specs.declared.rate_two.Rate2.{Rate2}
 use Rattle.rate_set_two.specs.declared.traffic.Decoded2.{Decoded2}
-use Rattle.symbol_path.specs.RatesTwo as set_two
 use Rattle.quality_bits.specs.TrafficCodewords.{repeats_of}
-use Rattle.quality_bits.specs.declared.rate.Rate.{Rate}
-use Rattle.line_text.specs.Texts.{bit_text, digit_of, digits_of}
+use Rattle.symbol_path.specs.RatesTwo as set_two
 
 -- how many bits of a frame at this rate would be sent in a second, tail and quality bits among them
 abbrev pub bits_in_a_second : Rate → ℕ

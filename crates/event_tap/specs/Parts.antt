@@ -1,9 +1,9 @@
 -- What lines of messages have in common: values after their names, items joined by commas, the
 -- bits at the end of a line, and the lines of capsules as they came.
+use Rattle.event_tap.specs.Common.{bit_text, spaced_key}
 use Rattle.std.specs.Prelude.{ℕ, zero, suc, ◌^◌, ◌&&◌, Bool, List, [], ◌∷◌, ◌++◌, length, codes}
 use Rattle.std.specs.Prelude.{decimal, nat_lt}
 use Rattle.std.specs.List.{flat_map, list_all}
-use Rattle.line_text.specs.Texts.{bit_text, spaced_key}
 
 -- items, joined by commas
 unfoldable pub commas : List (List ℕ) → List ℕ

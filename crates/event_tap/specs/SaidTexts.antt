@@ -1,12 +1,10 @@
 -- What lines tell of messages, by the names of their layouts.
+use Rattle.event_tap.specs.Common.{places, bit_text, spaced_key}
 use Rattle.std.specs.Prelude.{ℕ, ◌≡◌, ◌+◌, ◌*◌, ◌/◌, ◌^◌, ◌==◌, ◌≢◌, ◌<◌, ◌≤◌, ◌&&◌, if◌then◌else◌}
-use Rattle.std.specs.Prelude.{Bool, true}
-use Rattle.std.specs.Prelude.{List, [], ◌∷◌, ◌++◌, length, map, get_or, nat_le, nat_lt, codes}
-use Rattle.std.specs.Prelude.{decimal, Option, None, Some}
+use Rattle.std.specs.Prelude.{Bool, true, List, [], ◌∷◌, ◌++◌, length, map, get_or, nat_le, nat_lt}
+use Rattle.std.specs.Prelude.{codes, decimal, Option, None, Some}
 use Rattle.std.specs.List.{list_all}
 use Rattle.std.specs.Str.{IsAscii}
-use Rattle.chip_core.specs.Bits.{places}
-use Rattle.line_text.specs.Texts.{bit_text, spaced_key}
 use Rattle.message_layout.specs.Contents.{height, shares}
 use Rattle.message_layout.specs.Shapes.{line_names, shape, LineNames, MessageShape}
 use Rattle.message_layout.specs.Spelling.{IsOf}

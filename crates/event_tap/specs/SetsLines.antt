@@ -1,7 +1,6 @@
 -- The line of the pilot sets at a moment.
+use Rattle.event_tap.specs.Common.{digit_of, Active}
 use Rattle.std.specs.Prelude.{ℕ, Bool, List, ◌++◌, map, codes, decimal}
-use Rattle.line_text.specs.Texts.{digit_of}
-use Rattle.pilot_sets.specs.declared.lists.Active.{Active}
 use Rattle.event_tap.specs.Parts.{commas}
 
 -- a pilot of the active set as `P/R/S`: its offset, its row and its power control subchannel

@@ -1,27 +1,16 @@
 -- The slots of a sleeping handset (TIA/EIA-95-B, 6.6.2.1.1.3) after a mark, by their times: the
 -- messages of a slot, and what is written of it.
+use Rattle.event_tap.specs.Common.{places, CheckForm, Sample, Rate, channel_stream, mark, Stream}
+use Rattle.event_tap.specs.Common.{paging_rate, Tuning, Paging, Mark, slot_bits, is_monitored}
 use Rattle.std.specs.Prelude.{ℕ, ◌+◌, ◌*◌, ◌/◌, ◌&&◌, Bool, nat_le, nat_lt, List, [], ◌++◌, length}
 use Rattle.std.specs.Prelude.{filter, ℤ, Option, None, Some}
 use Rattle.std.specs.List.{flat_map, list_all}
 use Rattle.std.specs.Option.{option_to_list}
 use Rattle.chip_core.specs.Air.{superframe_chips}
-use Rattle.chip_core.specs.Bits.{places}
-use Rattle.chip_core.specs.declared.check_form.CheckForm.{CheckForm}
-use Rattle.chip_core.specs.declared.sample.Sample.{Sample}
-use Rattle.quality_bits.specs.declared.rate.Rate.{Rate}
 use Rattle.paging_message.specs.HalfFrames.{capsules_in, half_frame_body}
 use Rattle.paging_message.specs.Reading.{paging_reading}
 use Rattle.paging_message.specs.declared.message.PagingMessage.{PagingMessage}
-use Rattle.heard_events.specs.Channels.{channel_stream}
-use Rattle.heard_events.specs.Marks.{mark}
-use Rattle.heard_events.specs.PagingStreams.{paging_rate}
-use Rattle.heard_events.specs.Streams.{Stream}
 use Rattle.rake_finger.specs.Streams.{frame_end, frame_softs, frame_start, is_in_file}
-use Rattle.heard_events.specs.Tuning.{Tuning}
-use Rattle.heard_events.specs.declared.channel.Channel.TheVariants.{Paging}
-use Rattle.heard_events.specs.declared.mark.Mark.{Mark}
-use Rattle.slot_mode.specs.Frames.{slot_bits}
-use Rattle.slot_mode.specs.Slots.{is_monitored}
 use Rattle.event_tap.specs.PagingLines.{paging_line, slot_line}
 
 -- ---- a slot's messages and lines

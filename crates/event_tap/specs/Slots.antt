@@ -1,14 +1,9 @@
 -- The slots of a sleeping handset (TIA/EIA-95-B, 6.6.2.1.1.3), as the frames of its paging channel
 -- make them, and what is written of one.
+use Rattle.event_tap.specs.Common.{CheckForm, paging_rate, Mark, SoftFrame, slot_bits, is_monitored}
 use Rattle.std.specs.Prelude.{ℕ, ◌+◌, ◌/◌, ◌%◌, ◌==◌, ◌&&◌, if◌then◌else◌, nat_lt, List, [], ◌∷◌}
 use Rattle.std.specs.Prelude.{◌++◌, length}
 use Rattle.std.specs.List.{flat_map}
-use Rattle.chip_core.specs.declared.check_form.CheckForm.{CheckForm}
-use Rattle.heard_events.specs.PagingStreams.{paging_rate}
-use Rattle.heard_events.specs.declared.mark.Mark.{Mark}
-use Rattle.heard_events.specs.declared.soft_frame.SoftFrame.{SoftFrame}
-use Rattle.slot_mode.specs.Frames.{slot_bits}
-use Rattle.slot_mode.specs.Slots.{is_monitored}
 use Rattle.event_tap.specs.SlotLines.{slot_lines, slot_pages}
 
 -- ---- the frames of a slot

@@ -1,12 +1,11 @@
 -- What taps make of events. A tap has a form, which says which kinds of event it hears and how it
 -- writes them, and a number of events that it has left to hear. Contracts see taps as a list of
 -- both.
+use Rattle.event_tap.specs.Common.{Event, Pilot, Sync, Frame, Traffic, Sets}
 use Rattle.std.specs.Prelude.{ℕ, ◌-◌, ◌≤◌, slice_index, nat_eq, Bool, if◌then◌else◌, List, [], ◌∷◌}
 use Rattle.std.specs.Prelude.{◌++◌, map, codes, Option, None, Some}
 use Rattle.std.specs.List.{flat_map}
-use Rattle.heard_events.specs.declared.event.Event.{Event}
-use Rattle.heard_events.specs.declared.event.Event.TheVariants.{Pilot, Sync, Paging, Frame, Traffic}
-use Rattle.heard_events.specs.declared.event.Event.TheVariants.{Sets}
+use Rattle.heard_events.specs.declared.event.Event.TheVariants.{Paging}
 use Rattle.event_tap.specs.EventLines.{event_line}
 use Rattle.event_tap.specs.Parts.{capsule_line}
 use Rattle.event_tap.specs.declared.tap.Heard.{Heard}

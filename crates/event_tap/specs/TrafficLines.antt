@@ -1,19 +1,17 @@
 -- The lines of the messages of the traffic channel, in the style of the lines of events.
+use Rattle.event_tap.specs.Common.{Message, head_values, kind_of, Head, bit_text}
 use Rattle.std.specs.Prelude.{ℕ, ◌≤◌, List, [], ◌∷◌, ◌++◌, length, codes, decimal, Option, Some}
 use Rattle.std.specs.Prelude.{None}
 use Rattle.traffic_message.specs.Handoff.{search_values, time_values}
 use Rattle.traffic_message.specs.Layouts.{form_in, traffic_contents_of, traffic_names_of}
 use Rattle.traffic_message.specs.Layouts.{traffic_shape_of}
-use Rattle.traffic_message.specs.Messages.{Message, head_values, kind_of}
 use Rattle.traffic_message.specs.Widths.{head_names, search_names, time_names}
 use Rattle.traffic_message.specs.declared.body.TrafficBody.{TrafficBody}
-use Rattle.traffic_message.specs.declared.body.TrafficBody.TheVariants as bodies
 use Rattle.traffic_message.specs.declared.fields.DirectionFields.{DirectionFields}
-use Rattle.traffic_message.specs.declared.fields.Head.{Head}
 use Rattle.traffic_message.specs.declared.fields.Search.{Search}
-use Rattle.line_text.specs.Texts.{bit_text}
 use Rattle.event_tap.specs.Parts.{commas, named_values, rest_text}
 use Rattle.event_tap.specs.SaidTexts.{columns_texts, message_text}
+use Rattle.traffic_message.specs.declared.body.TrafficBody.TheVariants as bodies
 
 -- `traffic at=A ack=.. seq=.. req=.. enc=..`, with which each line begins
 unfoldable pub start_text : ℕ → Head → List ℕ

@@ -1,20 +1,14 @@
 -- What is written of the frames of one channel after the mark.
+use Rattle.event_tap.specs.Common.{CheckForm, Sample, IsLawful, mark, Tuning, Mark, SoftFrame}
 use Rattle.std.specs.Prelude.{◌≤◌, ℕ, Bool, List, [], ◌∷◌, ◌++◌, length, ℤ, Option, None, Some}
 use Rattle.chip_core.specs.Air.{IsListLength}
-use Rattle.chip_core.specs.declared.check_form.CheckForm.{CheckForm}
-use Rattle.chip_core.specs.declared.sample.Sample.{Sample}
 use Rattle.event_tap.specs.FrameLines.{frame2_line, frame_line}
 use Rattle.frame_decoder.specs.declared.traffic.Decoded.{Decoded}
 use Rattle.listed_frame.specs.ListedFrames.{listed}
 use Rattle.rate_set_two.specs.TrafficFrames.{decoded2}
-use Rattle.heard_events.specs.Channels.{IsLawful}
-use Rattle.heard_events.specs.Marks.{mark}
 use Rattle.heard_events.specs.SoftFrames.{soft_frames}
-use Rattle.heard_events.specs.Tuning.{Tuning}
 use Rattle.heard_events.specs.declared.channel.Channel.{Channel}
-use Rattle.heard_events.specs.declared.mark.Mark.{Mark}
 use Rattle.heard_events.specs.declared.soft_frame.PowerControl.{PowerControl}
-use Rattle.heard_events.specs.declared.soft_frame.SoftFrame.{SoftFrame}
 use Rattle.event_tap.specs.Slots.{slot_more, slot_text}
 use Rattle.event_tap.specs.declared.tuned_text.TunedText.{TunedText}
 use Rattle.event_tap.specs.declared.tuned_text.TunedText.TheVariants.{Listed, RateSetTwo, Slots}

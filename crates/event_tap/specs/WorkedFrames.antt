@@ -1,9 +1,8 @@
 -- Worked values of the lines of frames.
+use Rattle.event_tap.specs.Common.{binary, bit_text, digits_of, packed_octets, padded}
 use Rattle.std.specs.Prelude.{◌≡◌, refl, pos, true, false, [], codes}
 use Rattle.std.specs.Fmt.{digits}
-use Rattle.chip_core.specs.Bits.{binary}
 use Rattle.hex.specs.Hex.{encode_with}
-use Rattle.line_text.specs.Texts.{bit_text, digits_of, packed_octets, padded}
 use Rattle.symbol_path.specs.declared.rate_two.Rate2.TheVariants.{R14400, R1800}
 use Rattle.quality_bits.specs.declared.rate.Rate.TheVariants.{R2400}
 use Rattle.event_tap.specs.FrameLines.{frame_line, frame2_line}

@@ -1,12 +1,11 @@
 -- Worked values of the lines of paging messages.
+use Rattle.event_tap.specs.Common.{binary, places, bit_text, packed_octets, padded}
 use Rattle.std.specs.Prelude.{◌≡◌, refl, false, [], ◌∷◌, ◌++◌, codes}
-use Rattle.chip_core.specs.Bits.{binary, places}
 use Rattle.std.specs.Fmt.{digits}
 use Rattle.hex.specs.Hex.{encode_with}
 use Rattle.paging_message.specs.System.{system_of}
 use Rattle.paging_message.specs.declared.message.PagingMessage.TheVariants.{Channels, Neighbors}
 use Rattle.paging_message.specs.declared.message.PagingMessage.TheVariants.{Other, System}
-use Rattle.line_text.specs.Texts.{bit_text, packed_octets, padded}
 use Rattle.event_tap.specs.PagingLines.{paging_line, slot_line}
 use Rattle.event_tap.specs.Parts.{commas, named_values}
 use Rattle.event_tap.specs.SaidTexts.{kind_text, message_text, said_text}

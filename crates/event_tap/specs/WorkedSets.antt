@@ -1,8 +1,7 @@
 -- Worked values of the lines of pilot sets.
+use Rattle.event_tap.specs.Common.{Sets, Active}
 use Rattle.std.specs.Prelude.{◌≡◌, refl, true, false, [], ◌∷◌, codes}
 use Rattle.std.specs.Fmt.{digits}
-use Rattle.heard_events.specs.declared.event.Event.TheVariants.{Sets}
-use Rattle.pilot_sets.specs.declared.lists.Active.{Active}
 use Rattle.event_tap.specs.EventLines.{event_line}
 use Rattle.event_tap.specs.Parts.{commas}
 use Rattle.event_tap.specs.SetsLines.{sets_line}

@@ -1,13 +1,8 @@
 -- The slots of a file of 1,228,800 samples whose mark lies at sample 688,128 and is time 1007, as
 -- the checker computes them.
+use Rattle.event_tap.specs.Common.{places, channel_stream, Stream, Tuning, Paging, Mark}
 use Rattle.std.specs.Prelude.{◌≡◌, refl, ℕ, List, [], ◌∷◌, filter, ℤ, pos, negsuc, None}
-use Rattle.chip_core.specs.Bits.{places}
 use Rattle.chip_core.specs.declared.check_form.CheckForm.TheVariants.{Plain}
-use Rattle.heard_events.specs.Channels.{channel_stream}
-use Rattle.heard_events.specs.Streams.{Stream}
-use Rattle.heard_events.specs.Tuning.{Tuning}
-use Rattle.heard_events.specs.declared.channel.Channel.TheVariants.{Paging}
-use Rattle.heard_events.specs.declared.mark.Mark.{Mark}
 use Rattle.event_tap.specs.SlotLines.{frame_of_slot_end, is_heard, is_slot_within, slot_bound}
 
 tuned : List ℤ → Tuning

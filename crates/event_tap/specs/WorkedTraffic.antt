@@ -1,14 +1,12 @@
 -- Worked values of the lines of traffic messages.
+use Rattle.event_tap.specs.Common.{binary, places, Head, bit_text, packed_octets, padded}
 use Rattle.std.specs.Prelude.{◌≡◌, refl, true, false, [], ◌∷◌, ◌++◌, codes, Some, None}
-use Rattle.chip_core.specs.Bits.{binary, places}
 use Rattle.std.specs.Fmt.{digits}
 use Rattle.hex.specs.Hex.{encode_with}
 use Rattle.traffic_message.specs.Handoff.{search_of}
 use Rattle.traffic_message.specs.InTraffic.{in_traffic_of}
 use Rattle.traffic_message.specs.declared.body.TrafficBody.TheVariants.{Handoff, Neighbors, Other}
 use Rattle.traffic_message.specs.declared.body.TrafficBody.TheVariants.{System}
-use Rattle.traffic_message.specs.declared.fields.Head.{Head}
-use Rattle.line_text.specs.Texts.{bit_text, packed_octets, padded}
 use Rattle.event_tap.specs.Parts.{commas, named_values}
 use Rattle.event_tap.specs.SaidTexts.{kind_text, message_text, said_text}
 use Rattle.event_tap.specs.TrafficLines.{handoff_text, start_text, traffic_line}

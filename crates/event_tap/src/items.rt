@@ -1,7 +1,7 @@
 //! Lists that lines tell, their items joined by commas.
 
-ghost use Rattle.std.specs.Prelude.{ℕ, ◌≡◌, ◌<◌, ◌≤◌, ◌+◌, ◌*◌, List, [], ◌++◌, length};
-ghost use Rattle.std.specs.Prelude.{get_or, map, decimal, ⊤};
+ghost use Rattle.std.specs.Prelude.{ℕ, ◌≡◌, ◌<◌, ◌≤◌, ◌+◌, ◌*◌, List, [], ◌++◌, length, get_or, ⊤};
+ghost use Rattle.std.specs.Prelude.{map, decimal};
 ghost use Rattle.event_tap.specs.Parts.{comma_before, commas};
 ghost use Rattle.event_tap.specs.SaidTexts.{columns_texts, record_bytes, slash_text, FillColumns};
 ghost use Rattle.event_tap.specs.SetsLines.{active_text};

@@ -1,10 +1,10 @@
 //! Laws of the definitions: each function does nothing, and its contract is the law.
 
+ghost use Rattle.event_tap.specs.Common.{Event as TheEvent};
 ghost use Rattle.std.specs.Prelude.{◌≡◌, ◌≤◌, ◌<◌, ◌++◌, ◌∷◌, [], ℕ, List, length, take};
 ghost use Rattle.event_tap.specs.EventLines.{events_text};
 ghost use Rattle.event_tap.specs.Taps.{KeptTap, form_lines, joined_lines, kept_by, kept_with};
 ghost use Rattle.event_tap.specs.Taps.{run_taps, run_text};
-ghost use Rattle.heard_events.specs.declared.event.Event.{Event as TheEvent};
 
 /// A tap hears just the first events of its form's kinds, as many as its limit says.
 pub fn taps_hear_the_first_events()

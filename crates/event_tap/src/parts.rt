@@ -1,10 +1,9 @@
 //! What the lines of messages have in common.
 
+ghost use Rattle.event_tap.specs.Common.{FieldsFit, in_widths, bit_text, spaced_key};
 ghost use Rattle.std.specs.Prelude.{◌≡◌, ◌<◌, ◌≤◌, ◌+◌, ◌*◌, ◌^◌, [], true, ◌++◌, length, map};
 ghost use Rattle.std.specs.Prelude.{decimal, IsAscii};
-ghost use Rattle.chip_core.specs.Fields.{FieldsFit, in_widths};
 ghost use Rattle.event_tap.specs.Parts.{are_short, capsule_line, named_values, rest_text};
-ghost use Rattle.line_text.specs.Texts.{bit_text, spaced_key};
 
 use chip_core::Bits;
 use line_text::Text;

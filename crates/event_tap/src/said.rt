@@ -4,9 +4,9 @@ ghost use Rattle.std.specs.Prelude.{◌≡◌, ◌≢◌, ◌≤◌, ◌+◌, �
 ghost use Rattle.message_layout.specs.Shapes.{line_names, shape};
 ghost use Rattle.message_layout.specs.Spelling.{IsOf, IsRest};
 ghost use Rattle.event_tap.specs.Parts.{rest_text};
-ghost use Rattle.event_tap.specs.SaidTexts.{end_bytes, has_line, is_short_end, kind_text};
+ghost use Rattle.event_tap.specs.SaidTexts.{end_bytes, has_line, is_short_end, kind_text, IsShown};
 ghost use Rattle.event_tap.specs.SaidTexts.{list_bytes, list_text, message_text, said_text};
-ghost use Rattle.event_tap.specs.SaidTexts.{FillColumns, IsShown};
+ghost use Rattle.event_tap.specs.SaidTexts.{FillColumns};
 
 use crate::items::{Listed, append_items};
 use crate::parts::{append_few_rest, append_rest, append_values};

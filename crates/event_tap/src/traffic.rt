@@ -1,11 +1,10 @@
 //! The lines of messages of the traffic channel.
 
+ghost use Rattle.event_tap.specs.Common.{FieldsFit, head_fields};
 ghost use Rattle.std.specs.Prelude.{◌≡◌, ◌≤◌, ◌+◌, [], ◌++◌, length};
-ghost use Rattle.chip_core.specs.Fields.{FieldsFit};
 ghost use Rattle.event_tap.specs.TrafficLines.{body_text, handoff_text, search_text, start_text};
 ghost use Rattle.event_tap.specs.TrafficLines.{traffic_line, HasFewRecords};
 ghost use Rattle.traffic_message.specs.Handoff.{SearchFits};
-ghost use Rattle.traffic_message.specs.Messages.{head_fields};
 
 use crate::items::{Listed, append_items};
 use crate::parts::{append_few_bits, append_few_rest, append_values};

@@ -1,8 +1,8 @@
 -- The choice among candidates, where one frame is above all others or none is good.
 use Rattle.frame_decoder.proofs.Common.{◌≡◌, ℕ, ◌+◌, ◌<◌, ◌≤◌, drop, ◌⊎◌, inl, ⊎_elim, Bool, true, false, List, [], ◌∷◌, ◌++◌, length, map}
 use Rattle.frame_decoder.proofs.Common.{take, get_or, refl, sym, ap, ◌∙◌, arith, ℤ, pos, ◌<ℤ◌, if◌then◌else◌, int_lt, cond, All, Option}
-use Rattle.frame_decoder.proofs.Common.{None, Some, find, option_map, ints, at_drop_more, drop_all, All-head, All-tail, Codeword}
-use Rattle.frame_decoder.proofs.Common.{FrameFormat, DecodedFrame, better, preferred, rising_choice, not_good, good_or, frame_in, is_right}
+use Rattle.frame_decoder.proofs.Common.{None, Some, find, option_map, ints, at_drop_more, drop_all, All-head, All-tail, Codeword, better}
+use Rattle.frame_decoder.proofs.Common.{FrameFormat, DecodedFrame, preferred, rising_choice, not_good, good_or, frame_in, is_right}
 use Rattle.frame_decoder.proofs.Common.{score_in, codeword_in, candidate_of, candidate_in, shown_of, frame_of, unreplaced}
 use Rattle.frame_decoder.proofs.ShownSymbols.{lt_true, le_false}
 

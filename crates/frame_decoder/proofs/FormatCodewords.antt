@@ -1,12 +1,11 @@
 -- The codewords of a format, their scores, and their quality indicators.
-use Rattle.frame_decoder.proofs.Common.{◌≡◌, ℕ, ◌+◌, ◌-◌, ◌*◌, ◌<◌, ◌≤◌, Bool, true, false, List, length, take, drop, sym, ap, ◌∙◌, arith}
-use Rattle.frame_decoder.proofs.Common.{subst, ℤ, ◌↔◌, IsTrue, if◌then◌else◌, Option, None, Some, Decides, one_answer, booleans_Decides}
-use Rattle.frame_decoder.proofs.Common.{pointwise, pointwise_decides, beq, drop-take, take-take, Plain, code_symbols, length-code_symbols}
-use Rattle.frame_decoder.proofs.Common.{generator_of, body_length, IsChecked, quality_indicator, quality_length, check_bits, data_shape}
-use Rattle.frame_decoder.proofs.Common.{address, repeated_symbol, Data, agreement-gathered_by, length-gathered_by, length-sent_by}
-use Rattle.frame_decoder.proofs.Common.{symbol_lt, address_lt, kept_lt, Codeword, score_of, IsBestCodeword, Zero, by_definition}
-use Rattle.frame_decoder.proofs.Common.{FrameFormat, IsFormat, bits_in, repeated_in, place_in, symbols_in, gathered_in, score_in}
-use Rattle.frame_decoder.proofs.Common.{codeword_in, is_right, length-take-le}
+use Rattle.frame_decoder.proofs.Common.{agreement-gathered_by, length-code_symbols, length-gathered_by, pointwise_decides, booleans_Decides}
+use Rattle.frame_decoder.proofs.Common.{quality_indicator, repeated_symbol, quality_length, length-sent_by, IsBestCodeword, length-take-le}
+use Rattle.frame_decoder.proofs.Common.{if◌then◌else◌, by_definition, code_symbols, generator_of, body_length, FrameFormat, repeated_in, ap}
+use Rattle.frame_decoder.proofs.Common.{gathered_in, codeword_in, one_answer, check_bits, data_shape, address_lt, symbols_in, pointwise, ℕ}
+use Rattle.frame_decoder.proofs.Common.{drop-take, take-take, IsChecked, symbol_lt, Codeword, score_of, IsFormat, place_in, score_in, false}
+use Rattle.frame_decoder.proofs.Common.{is_right, Decides, address, kept_lt, bits_in, length, IsTrue, Option, arith, subst, Plain, Bool, ℤ}
+use Rattle.frame_decoder.proofs.Common.{true, List, take, drop, None, Some, Data, Zero, ◌≡◌, ◌+◌, ◌-◌, ◌*◌, ◌<◌, ◌≤◌, sym, ◌∙◌, ◌↔◌, beq}
 use Rattle.frame_decoder.proofs.ZeroCodewords.{length-best_zero_codeword, best_zero_codeword-same}
 use Rattle.quality_bits.specs.declared.kind.Kind.{Kind as Check}
 pub use Rattle.quality_bits.proofs.Formats.{bits_least}

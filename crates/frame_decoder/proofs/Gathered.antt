@@ -1,8 +1,8 @@
 -- The soft values of a span, gathered frame by frame.
 use Rattle.frame_decoder.proofs.Common.{◌≡◌, ℕ, ◌+◌, ◌-◌, ◌*◌, ◌≤◌, List, ◌++◌, length, take, drop, sym, ap, ◌∙◌, arith, add-one, ℤ, sum_by}
 use Rattle.frame_decoder.proofs.Common.{unsigned_abs, sum_by-append, sum_by-take-le, sum_by-take-drop, take-put_mid, put_mid, shape_of}
-use Rattle.frame_decoder.proofs.Common.{size, gathered, Kind, length-gathered, size_some, count_is, Channel, gathered_span}
-use Rattle.frame_decoder.proofs.Common.{flat_map-next, flat_map-zero}
+use Rattle.frame_decoder.proofs.Common.{size, gathered, Kind, length-gathered, size_some, count_is, Channel, gathered_span, flat_map-next}
+use Rattle.frame_decoder.proofs.Common.{flat_map-zero}
 use Rattle.frame_decoder.proofs.Parts.{length-frames, take-frames}
 
 -- a channel whose frames are of a kind

@@ -1,7 +1,7 @@
 -- A decoded frame has as many information bits as its rate has.
 use Rattle.frame_decoder.proofs.Common.{◌≡◌, ℕ, Bool, List, [], ◌∷◌, length, map, take, ◌∙◌, arith, ℤ, length-take-le, Option, None, Some}
-use Rattle.frame_decoder.proofs.Common.{Codeword, FrameFormat, DecodedFrame, bits_in, codeword_in, score_in, is_right, frame_in}
-use Rattle.frame_decoder.proofs.Common.{candidate_in, preferred, rising_choice, not_good, good_or, frame_of, unreplaced}
+use Rattle.frame_decoder.proofs.Common.{Codeword, FrameFormat, DecodedFrame, bits_in, codeword_in, score_in, is_right, frame_in, preferred}
+use Rattle.frame_decoder.proofs.Common.{candidate_in, rising_choice, not_good, good_or, frame_of, unreplaced}
 use Rattle.frame_decoder.proofs.FormatChoice.{IsOf, either_of, preferred_of, found_of}
 use Rattle.frame_decoder.proofs.FormatCodewords.{length-codeword_in}
 

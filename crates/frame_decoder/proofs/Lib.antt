@@ -1,4 +1,3 @@
--- The modules of lemmas of `frame_decoder`.
 pub mod Common
 pub mod Parts
 pub mod Gathered

@@ -1,9 +1,8 @@
 -- A span of one frame.
-use Rattle.frame_decoder.proofs.Common.{◌≡◌, ℕ, ◌*◌, Bool, List, ◌++◌, length, take, drop, ap, ◌∙◌, arith, take_all, code_symbols}
-use Rattle.frame_decoder.proofs.Common.{length-code_symbols, sent, Codeword, correlation, best_codeword, Free, Channel, sending}
-use Rattle.frame_decoder.proofs.Common.{sent_frames, score, IsOneFrame}
+use Rattle.frame_decoder.proofs.Common.{◌≡◌, ℕ, ◌*◌, Bool, List, ◌++◌, length, take, drop, ap, ◌∙◌, arith, take_all, code_symbols, sent}
+use Rattle.frame_decoder.proofs.Common.{length-code_symbols, Codeword, correlation, best_codeword, Free, Channel, sending, sent_frames}
+use Rattle.frame_decoder.proofs.Common.{score, IsOneFrame, flat_map-next, flat_map-zero}
 use Rattle.frame_decoder.specs.Laws.{channel_frame_score}
-use Rattle.frame_decoder.proofs.Common.{flat_map-next, flat_map-zero}
 use Rattle.frame_decoder.proofs.BestCodewords.{length-best_codeword, best_codeword-same}
 
 sent_one : (c : Channel) (symbols : List Bool) → length symbols ≡ 2 * c.bits →

@@ -1,6 +1,6 @@
 -- Lists that are made frame by frame.
-use Rattle.frame_decoder.proofs.Common.{◌≡◌, ℕ, zero, suc, ◌+◌, ◌*◌, ◌<◌, ◌≤◌, List, ◌++◌, length, take, drop, sym, ap, ◌∙◌}
-use Rattle.frame_decoder.proofs.Common.{arith, length-append, flat_map, flat_map-next, flat_map-zero, take-add, places}
+use Rattle.frame_decoder.proofs.Common.{◌≡◌, ℕ, zero, suc, ◌+◌, ◌*◌, ◌<◌, ◌≤◌, List, ◌++◌, length, take, drop, sym, ap, ◌∙◌, arith, places}
+use Rattle.frame_decoder.proofs.Common.{length-append, flat_map, flat_map-next, flat_map-zero, take-add}
 
 -- a frame lies within the span
 pub within : (size frames k : ℕ) → k < frames → size * k + size ≤ size * frames

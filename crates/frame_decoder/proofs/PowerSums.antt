@@ -1,6 +1,6 @@
 -- The sums of the soft values of power control bits.
-use Rattle.frame_decoder.proofs.Common.{◌≡◌, ℕ, ◌+◌, ◌*◌, ◌^◌, ◌<◌, ◌≤◌, ◌≢◌, List, length, get_or, set, ap, ◌∙◌, arith, ℤ, pos, ◌+ℤ◌}
-use Rattle.frame_decoder.proofs.Common.{below_more, All, sum_by, unsigned_abs, IsStrictlyIncreasing, get_or-set_same, get_or-set_other}
+use Rattle.frame_decoder.proofs.Common.{◌≡◌, ℕ, ◌+◌, ◌*◌, ◌^◌, ◌<◌, ◌≤◌, ◌≢◌, List, length, get_or, set, ap, ◌∙◌, arith, ℤ, pos, ◌+ℤ◌, All}
+use Rattle.frame_decoder.proofs.Common.{below_more, sum_by, unsigned_abs, IsStrictlyIncreasing, get_or-set_same, get_or-set_other}
 use Rattle.frame_decoder.proofs.Common.{length-set, sum_by-set, get_or-le-sum_by, group_sum}
 
 -- a list is made place by place

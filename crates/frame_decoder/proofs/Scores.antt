@@ -1,9 +1,8 @@
 -- A codeword's score under a span's soft values is its score under the gathered ones.
 use Rattle.frame_decoder.proofs.Common.{◌≡◌, ℕ, zero, suc, ◌+◌, ◌*◌, ◌≤◌, Bool, List, [], ◌∷◌, ◌++◌, length, take, drop, refl, sym, ap, ◌∙◌}
 use Rattle.frame_decoder.proofs.Common.{arith, ℤ, ◌+ℤ◌, length-drop, length-take-le, take_all, ints, code_symbols, length-code_symbols}
-use Rattle.frame_decoder.proofs.Common.{shape_of, size, sent, gathered, Kind, length-sent, agreement-gathered, Codeword, correlation}
-use Rattle.frame_decoder.proofs.Common.{score_of, sending, sent_frames, score, gathered_span}
-use Rattle.frame_decoder.proofs.Common.{flat_map-next, flat_map-zero}
+use Rattle.frame_decoder.proofs.Common.{shape_of, size, sent, gathered, Kind, length-sent, agreement-gathered, Codeword, correlation, score}
+use Rattle.frame_decoder.proofs.Common.{score_of, sending, sent_frames, gathered_span, flat_map-next, flat_map-zero}
 use Rattle.frame_decoder.proofs.Parts.{length-frames, take-frames}
 use Rattle.frame_decoder.proofs.Gathered.{channel, frame_of, length-gathered_span}
 

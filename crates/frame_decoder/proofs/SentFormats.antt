@@ -1,19 +1,17 @@
 -- A sent frame of any rate set comes back, and soft values of 0 give none.
 use Rattle.frame_decoder.proofs.Common.{◌≡◌, ℕ, ◌-◌, ◌*◌, ◌<◌, inl, inr, ⊎_elim, Bool, true, false, List, [], ◌∷◌, ◌++◌, length, map, take}
 use Rattle.frame_decoder.proofs.Common.{drop, replicate, refl, sym, ap, ◌∙◌, arith, ℤ, pos, append_assoc, ◌≤ℤ◌, int_lt, All, get_or, None}
-use Rattle.frame_decoder.proofs.Common.{Some, option_map, booleans_Decides, pointwise_decides, cases_Bool, take_at, drop_at}
-use Rattle.frame_decoder.proofs.Common.{length-replicate, All-cons, All-nil, code_symbols, quality_indicator, quality_length}
-use Rattle.frame_decoder.proofs.Common.{length-quality_indicator, Codeword, score_of, IsAllowed, Zero, by_definition, zero_codeword_best}
-use Rattle.frame_decoder.proofs.Common.{FrameFormat, DecodedFrame, unreplaced, bits_in, symbols_in, score_in, codeword_in, is_right}
-use Rattle.frame_decoder.proofs.Common.{frame_in, candidate_of, rising_choice, not_good, good_or, candidate_in, frame_of, shown_of, Option}
-use Rattle.frame_decoder.proofs.Common.{◌<ℤ◌, zeros_score}
+use Rattle.frame_decoder.proofs.Common.{Some, option_map, booleans_Decides, pointwise_decides, cases_Bool, take_at, drop_at, All-cons, Zero}
+use Rattle.frame_decoder.proofs.Common.{length-replicate, All-nil, code_symbols, quality_indicator, quality_length, Codeword, score_of}
+use Rattle.frame_decoder.proofs.Common.{length-quality_indicator, IsAllowed, by_definition, zero_codeword_best, FrameFormat, DecodedFrame}
+use Rattle.frame_decoder.proofs.Common.{unreplaced, bits_in, symbols_in, score_in, codeword_in, is_right, frame_in, candidate_of, not_good}
+use Rattle.frame_decoder.proofs.Common.{rising_choice, good_or, candidate_in, frame_of, shown_of, Option, ◌<ℤ◌, zeros_score, DecodesBySigns}
+use Rattle.frame_decoder.proofs.Common.{KeepSigns, tested, untested}
 use Rattle.quality_bits.proofs.Formats.{length-checked, length-format_codeword}
 use Rattle.frame_decoder.proofs.SignedScores.{agree_left, own_some, shown_keep, shown_score}
-use Rattle.frame_decoder.specs.Signs.{DecodesBySigns, KeepSigns}
 use Rattle.frame_decoder.specs.Laws.{DecodesSentFrames, IsUnsharedIn, good_frame, sent_codeword}
 use Rattle.frame_decoder.proofs.FormatChoice.{Below, IsAmong, chosen_is, candidate_below, first_found, rising_rates, silent_shown}
 use Rattle.frame_decoder.proofs.FormatCodewords.{bits_least, length-symbols_in}
-use Rattle.frame_decoder.proofs.Common.{tested, untested}
 use Rattle.frame_decoder.proofs.ShownSymbols.{lt_true}
 use Rattle.frame_decoder.proofs.Unreplaced.{zeros_kept}
 use Rattle.frame_decoder.proofs.ZeroCodewords.{best_zero_codeword_allowed, best_zero_codeword_greatest, best_zero_codeword-same}

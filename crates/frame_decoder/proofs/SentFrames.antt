@@ -1,9 +1,8 @@
 -- A sent frame of a traffic channel is decoded.
-use Rattle.frame_decoder.proofs.Common.{[], ◌∷◌, ◌++◌, refl, Rate, R9600, R4800, R2400, R1200, format_of, as_decoded, lower_rates}
-use Rattle.frame_decoder.proofs.Common.{decoded, IsSentFrameDecoded}
+use Rattle.frame_decoder.proofs.Common.{[], ◌∷◌, ◌++◌, refl, Rate, R9600, R4800, R2400, R1200, format_of, as_decoded, lower_rates, decoded}
+use Rattle.frame_decoder.proofs.Common.{IsSentFrameDecoded, IsDecodedBySigns}
 use Rattle.frame_decoder.proofs.FormatChoice.{IsAmong}
 use Rattle.frame_decoder.proofs.SentFormats.{shown_decoded, signs_decoded}
-use Rattle.frame_decoder.specs.Signs.{IsDecodedBySigns}
 
 pub among : (rate : Rate) → IsAmong rate (lower_rates ++ R9600 ∷ [])
 among R9600 = record { before = R1200 ∷ R2400 ∷ R4800 ∷ []; after = []; parted = refl }

@@ -2,13 +2,11 @@
 -- them.
 use Rattle.frame_decoder.proofs.Common.{◌≡◌, ◌≢◌, ℕ, zero, suc, ◌+◌, ◌*◌, ◌<◌, ◌≤◌, Bool, true, false, not, List, [], ◌∷◌, length, get_or}
 use Rattle.frame_decoder.proofs.Common.{map, filter, refl, sym, ap, subst, ◌∙◌, arith, ⊎_elim, ℤ, pos, negsuc, cond, ◌*ℤ◌, ◌≤ℤ◌, ◌<ℤ◌, ints}
-use Rattle.frame_decoder.proofs.Common.{if◌then◌else◌, range_with_len, sum_by, sum_by-cons, unsigned_abs, ne_eqb, eq-eqb, cases_eq}
-use Rattle.frame_decoder.proofs.Common.{places_is, sign, correlation, is_replaced, unreplaced, AgreeElsewhere, ShowSymbols, kept_count}
+use Rattle.frame_decoder.proofs.Common.{if◌then◌else◌, range_with_len, sum_by, sum_by-cons, unsigned_abs, ne_eqb, eq-eqb, cases_eq, sign}
+use Rattle.frame_decoder.proofs.Common.{places_is, correlation, is_replaced, unreplaced, AgreeElsewhere, ShowSymbols, kept_count, HasSign}
+use Rattle.frame_decoder.proofs.Common.{KeepSigns, AllZip, neg_ℤ}
 use Rattle.frame_decoder.proofs.Unreplaced.{kept, length-unreplaced, get_or-unreplaced}
-use Rattle.frame_decoder.specs.Signs.{HasSign, KeepSigns}
-use Rattle.std.specs.List.{AllZip}
 use Rattle.viterbi.proofs.Agreement.{IsNotAgainst, agree_where_some, one_signed, own_score, sign_is_not_against, sign_some}
-use Rattle.std.specs.Prelude.{neg_ℤ}
 use Rattle.viterbi.proofs.Zipped.{zipped_by_place}
 
 -- ---- how many places are left

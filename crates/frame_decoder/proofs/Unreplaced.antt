@@ -1,10 +1,10 @@
 -- Soft values with 0 at the places of power control bits.
 use Rattle.frame_decoder.proofs.Common.{◌≡◌, ◌≢◌, ℕ, ◌<◌, ◌≤◌, Bool, true, false, List, [], ◌∷◌, ◌++◌, length, get_or, set, refl, sym, ap}
 use Rattle.frame_decoder.proofs.Common.{◌∙◌, arith, ℤ, pos, nat_eq, map, ⊎_elim, ◌||◌, replicate, take, if◌then◌else◌, sum_by, unsigned_abs}
-use Rattle.frame_decoder.proofs.Common.{ne_eqb, eq-eqb, cases_eq, cases_lt, get_or-set_same, get_or-set_other, length-set, set_past}
-use Rattle.frame_decoder.proofs.Common.{ext_get_or, length-replicate, get_or-replicate, get_or-take, get_or_past, list_any-append}
-use Rattle.frame_decoder.proofs.Common.{sum_by-set, places, length-map-places, get_or-map-places, map-places-all, is_replaced, unreplaced}
-use Rattle.frame_decoder.proofs.Common.{length-take-le, or-false}
+use Rattle.frame_decoder.proofs.Common.{ne_eqb, eq-eqb, cases_eq, cases_lt, get_or-set_same, get_or-set_other, length-set, set_past, places}
+use Rattle.frame_decoder.proofs.Common.{ext_get_or, length-replicate, get_or-replicate, get_or-take, get_or_past, list_any-append, or-false}
+use Rattle.frame_decoder.proofs.Common.{sum_by-set, length-map-places, get_or-map-places, map-places-all, is_replaced, unreplaced}
+use Rattle.frame_decoder.proofs.Common.{length-take-le}
 
 -- each soft value
 abbrev pub kept : List ℕ → List ℤ → ℕ → ℤ

@@ -1,7 +1,7 @@
 -- The codewords that start from eight zeros and end with eight zeros, and the best of them.
-use Rattle.frame_decoder.proofs.Common.{◌≡◌, ℕ, ◌-◌, ◌≤◌, length, ap, subst, ℤ, ◌≤ℤ◌, pow_pos, first_greatest, IsFirstGreatest}
-use Rattle.frame_decoder.proofs.Common.{first_greatest-is, Codeword, codeword_count, codeword_at, best_codeword, IsAllowed, Zero}
-use Rattle.frame_decoder.proofs.Common.{allowed_at, codeword_at_allowed}
+use Rattle.frame_decoder.proofs.Common.{◌≡◌, ℕ, ◌-◌, ◌≤◌, length, ap, subst, ℤ, ◌≤ℤ◌, pow_pos, first_greatest, IsFirstGreatest, Codeword}
+use Rattle.frame_decoder.proofs.Common.{first_greatest-is, codeword_count, codeword_at, best_codeword, IsAllowed, Zero, allowed_at}
+use Rattle.frame_decoder.proofs.Common.{codeword_at_allowed}
 use Rattle.frame_decoder.proofs.BestCodewords.{first_greatest-same}
 
 -- each codeword of the definition is allowed

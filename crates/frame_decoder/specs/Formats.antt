@@ -1,21 +1,18 @@
 -- What is decoded of the frames of a traffic channel, whatever its rate set, by the formats of its
 -- rates: how well codewords agree with soft values, and the choice among the candidates of the
 -- rates.
-use Rattle.std.specs.Prelude.{ℕ, Bool, false, if◌then◌else◌, List, [], ◌∷◌}
-use Rattle.std.specs.Prelude.{map, take, drop, ℤ, pos, int_lt, Option, None, Some}
+use Rattle.frame_decoder.specs.Common.{code_symbols, FrameFormat, sent_by, Codeword, correlation}
+use Rattle.frame_decoder.specs.Common.{best_codeword, Zero}
+use Rattle.std.specs.Prelude.{ℕ, Bool, false, if◌then◌else◌, List, [], ◌∷◌, map, take, drop, ℤ, pos}
+use Rattle.std.specs.Prelude.{int_lt, Option, None, Some}
 use Rattle.std.specs.List.{find}
 use Rattle.std.specs.Option.{option_map}
 use Rattle.std.specs.Cmp.Lexicographic.{pointwise}
 use Rattle.std.proofs.Math.Bool.{beq}
-use Rattle.conv_code.specs.ConvCode.{code_symbols}
 use Rattle.quality_bits.specs.Kinds.{quality_indicator, quality_length}
-use Rattle.quality_bits.specs.declared.format.FrameFormat.{FrameFormat}
 pub use Rattle.quality_bits.specs.Formats.{IsFormat, bits_in, repeated_in}
 pub use Rattle.quality_bits.specs.TrafficCodewords.{format_of}
-use Rattle.symbol_path.specs.SentOrder.{sent_by}
 pub use Rattle.symbol_path.specs.FormatSymbols.{place_in, gathered_in}
-use Rattle.viterbi.specs.Codewords.{Codeword, correlation, best_codeword}
-use Rattle.viterbi.specs.declared.codeword.Ends.TheVariants.{Zero}
 use Rattle.frame_decoder.specs.Replaced.{unreplaced}
 use Rattle.frame_decoder.specs.declared.formats.DecodedFrame.{DecodedFrame}
 

@@ -1,17 +1,12 @@
 -- The laws of frames.
-use Rattle.std.specs.Prelude.{◌≡◌, ℕ, ◌*◌, ◌<◌, Bool, true, false, not, List, length}
-use Rattle.std.specs.Prelude.{filter, get_or, replicate, ℤ, pos, ◌*ℤ◌}
-use Rattle.chip_core.specs.Bits.{places, sign}
-use Rattle.conv_code.specs.ConvCode.{code_symbols}
-use Rattle.symbol_path.specs.SentOrder.{sent}
+use Rattle.frame_decoder.specs.Common.{places, sign, code_symbols, sent, Rate, Codeword, Zero, Free}
+use Rattle.frame_decoder.specs.Common.{correlation, best_codeword, FrameFormat}
+use Rattle.std.specs.Prelude.{◌≡◌, ℕ, ◌*◌, ◌<◌, Bool, true, false, not, List, length, filter, ℤ}
+use Rattle.std.specs.Prelude.{get_or, replicate, pos, ◌*ℤ◌}
 use Rattle.quality_bits.specs.Formats.{format_codeword}
-use Rattle.quality_bits.specs.declared.rate.Rate.{Rate}
 use Rattle.quality_bits.specs.declared.rate.Rate.TheVariants.{R9600}
 use Rattle.viterbi.specs.Best.{IsAllowed}
-use Rattle.viterbi.specs.Codewords.{Codeword, correlation, best_codeword}
-use Rattle.viterbi.specs.declared.codeword.Ends.TheVariants.{Zero, Free}
 use Rattle.frame_decoder.specs.Spans.{Channel, own_bits}
-use Rattle.quality_bits.specs.declared.format.FrameFormat.{FrameFormat}
 use Rattle.frame_decoder.specs.declared.formats.DecodedFrame.{DecodedFrame}
 use Rattle.frame_decoder.specs.Formats.{bits_in, format_of, symbols_in}
 use Rattle.frame_decoder.specs.TrafficFrames.{is_replaced, as_decoded, decoded}

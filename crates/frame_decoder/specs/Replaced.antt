@@ -1,7 +1,7 @@
 -- The symbols of a frame that power control bits replace (TIA/EIA-95-B, 7.1.3.1.7).
+use Rattle.frame_decoder.specs.Common.{places}
 use Rattle.std.specs.Prelude.{ℕ, Bool, if◌then◌else◌, nat_eq, List, map, length, get_or, ℤ, pos}
 use Rattle.std.specs.List.{list_any}
-use Rattle.chip_core.specs.Bits.{places}
 
 -- whether a place is that of a symbol that a power control bit replaces
 abbrev pub is_replaced : List ℕ → ℕ → Bool

@@ -1,7 +1,7 @@
 -- Frames whose soft values have the signs of symbols, whatever their sizes.
+use Rattle.frame_decoder.specs.Common.{FrameFormat}
 use Rattle.std.specs.Prelude.{◌≡◌, ℕ, ◌<◌, Bool, false, List, length, get_or, ℤ, pos}
 pub use Rattle.viterbi.specs.Signs.{HasSign, HaveSigns}
-use Rattle.quality_bits.specs.declared.format.FrameFormat.{FrameFormat}
 use Rattle.frame_decoder.specs.declared.formats.DecodedFrame.{DecodedFrame}
 use Rattle.frame_decoder.specs.Formats.{format_of, score_in, symbols_in}
 use Rattle.frame_decoder.specs.Laws.{IsUnsharedIn, good_frame, sent_codeword}

@@ -1,15 +1,10 @@
 -- The best codeword of a span of frames, and the bits of one of its frames (TIA/EIA-95-B, 7.1.3.1
 -- and 7.7.1.2).
+use Rattle.frame_decoder.specs.Common.{places, code_symbols, Shape, sync_shape, data_shape, size}
+use Rattle.frame_decoder.specs.Common.{shape_of, sent, gathered, repeats_of, Rate, Codeword, Free}
+use Rattle.frame_decoder.specs.Common.{correlation, best_codeword}
 use Rattle.std.specs.Prelude.{ℕ, ◌*◌, ◌/◌, Bool, List, take, drop, ℤ}
 use Rattle.std.specs.List.{flat_map}
-use Rattle.chip_core.specs.Bits.{places}
-use Rattle.conv_code.specs.ConvCode.{code_symbols}
-use Rattle.symbol_path.specs.SentOrder.{Shape, sync_shape, data_shape, shape_of, size, sent}
-use Rattle.symbol_path.specs.SentOrder.{gathered}
-use Rattle.quality_bits.specs.TrafficCodewords.{repeats_of}
-use Rattle.quality_bits.specs.declared.rate.Rate.{Rate}
-use Rattle.viterbi.specs.Codewords.{Codeword, correlation, best_codeword}
-use Rattle.viterbi.specs.declared.codeword.Ends.TheVariants.{Free}
 use Rattle.frame_decoder.specs.declared.span_format.FrameKind.{FrameKind}
 use Rattle.frame_decoder.specs.declared.span_format.FrameKind.TheVariants.{Sync, Paging}
 use Rattle.frame_decoder.specs.declared.span_format.SpanFormat.{SpanFormat}

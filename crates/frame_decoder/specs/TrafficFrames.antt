@@ -1,13 +1,10 @@
 -- What a handset decodes of a traffic frame of rate set 1 (TIA/EIA-95-B, 7.1.3.5), and the power
 -- control bits that it hears in it (7.1.3.1.7).
+use Rattle.frame_decoder.specs.Common.{places, Rate, Codeword, FrameFormat}
 use Rattle.std.specs.Prelude.{ℕ, ◌+◌, ◌*◌, Bool, not, List, [], ◌∷◌, map, take, get_or, ℤ, pos}
 use Rattle.std.specs.Prelude.{◌+ℤ◌, int_lt}
 use Rattle.std.specs.List.{list_all}
-use Rattle.chip_core.specs.Bits.{places}
-use Rattle.quality_bits.specs.declared.rate.Rate.{Rate}
 use Rattle.quality_bits.specs.declared.rate.Rate.TheVariants.{R9600, R4800, R2400, R1200}
-use Rattle.viterbi.specs.Codewords.{Codeword}
-use Rattle.quality_bits.specs.declared.format.FrameFormat.{FrameFormat}
 use Rattle.frame_decoder.specs.declared.formats.DecodedFrame.{DecodedFrame}
 use Rattle.frame_decoder.specs.declared.traffic.Decoded.{Decoded}
 use Rattle.frame_decoder.specs.declared.power.PowerSofts.{PowerSofts}

@@ -1,15 +1,13 @@
 -- Worked values, which the checker computes.
+use Rattle.frame_decoder.specs.Common.{binary, places, data_shape, sent_by, gathered_by, Rate}
 use Rattle.std.specs.Prelude.{◌≡◌, refl, true, false, [], ◌∷◌, ◌++◌, map, replicate, pos, negsuc}
 use Rattle.std.specs.Prelude.{None, Some}
-use Rattle.chip_core.specs.Bits.{binary, places}
 use Rattle.quality_bits.specs.Quality.{check_bits}
-use Rattle.symbol_path.specs.SentOrder.{data_shape, sent_by, gathered_by}
 use Rattle.quality_bits.specs.declared.rate.Rate.TheVariants.{R9600, R4800, R2400, R1200}
 use Rattle.frame_decoder.specs.Spans.{Channel, paging_channel, sending, sent_frames, gathered_span}
 use Rattle.frame_decoder.specs.Formats.{format_of, frame_in, good_or, is_right, preferred}
 use Rattle.frame_decoder.specs.TrafficFrames.{unreplaced, group_sum, power_bit}
 use Rattle.frame_decoder.specs.declared.formats.DecodedFrame.{DecodedFrame}
-use Rattle.quality_bits.specs.declared.rate.Rate.{Rate}
 
 paging_9600 : paging_channel R9600 ≡ record { shape = data_shape; bits = 192; repeats = 1 }
 paging_9600 = refl

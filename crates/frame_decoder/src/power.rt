@@ -1,9 +1,9 @@
 //! Power control bits, as a handset hears them.
 
-ghost use Rattle.std.specs.Prelude.{◌≡◌, ◌<◌, ◌≤◌, ◌+◌, ◌*◌, ◌^◌, ◌++◌, ◌∷◌, [], map, sum_by};
-ghost use Rattle.std.specs.Prelude.{unsigned_abs, All, get_or, pos, int_lt};
+ghost use Rattle.frame_decoder.specs.Common.{places};
+ghost use Rattle.std.specs.Prelude.{◌≡◌, ◌<◌, ◌≤◌, ◌+◌, ◌*◌, ◌^◌, ◌++◌, ◌∷◌, [], map, sum_by, All};
+ghost use Rattle.std.specs.Prelude.{unsigned_abs, get_or, pos, int_lt};
 ghost use Rattle.std.specs.List.Sorted.{IsStrictlyIncreasing};
-ghost use Rattle.chip_core.specs.Bits.{places};
 ghost use Rattle.frame_decoder.specs.TrafficFrames.{group_sums, summed_subchannels, is_up};
 ghost use Rattle.frame_decoder.specs.TrafficFrames.{power_bit};
 

@@ -1,11 +1,9 @@
 //! The best codeword of a span of frames.
 
+ghost use Rattle.frame_decoder.specs.Common.{shape_of, size, repeats_of, Free};
 ghost use Rattle.std.specs.Prelude.{◌≡◌, ◌<◌, ◌≤◌, ◌*◌, ◌/◌, ◌%◌, ◌^◌, length, sum_by};
 ghost use Rattle.std.specs.Prelude.{unsigned_abs};
-ghost use Rattle.symbol_path.specs.SentOrder.{shape_of, size};
-ghost use Rattle.quality_bits.specs.TrafficCodewords.{repeats_of};
 ghost use Rattle.viterbi.specs.Best.{AreDecodable, IsBestCodeword, spelled_codeword};
-ghost use Rattle.viterbi.specs.declared.codeword.Ends.TheVariants.{Free};
 ghost use Rattle.frame_decoder.specs.Spans.{sync_channel, paging_channel, channel_of, channel_for};
 ghost use Rattle.frame_decoder.specs.Spans.{gathered_span, own_bits};
 

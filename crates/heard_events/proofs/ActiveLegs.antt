@@ -1,15 +1,10 @@
 -- The active pilots of sets in order, as a traffic channel is heard from them.
 use Rattle.heard_events.proofs.Common.{◌≡◌, ℕ, zero, suc, ◌+◌, ◌*◌, ◌<◌, ◌≤◌, ◌==◌, true, List, [], ◌∷◌, length, map, refl, sym, ap, arith}
 use Rattle.heard_events.proofs.Common.{Some, slice_get, nat_lt, nat_le, ℤ, pos, get_or, All, cond, slice_set, Option, None, unsigned_abs}
-use Rattle.heard_events.proofs.Common.{nat_eq, if◌then◌else◌, le-leb, lt-ltb, All-set, IsOrderly, IsStanding, times_listed}
-use Rattle.heard_events.proofs.Common.{pilots_of_actives, handed_off, Standing, began_in, deltas_with, due_at, due_for, shown, shown_active}
-use Rattle.heard_events.proofs.Common.{Active, Accepted, ActivePilot, PilotSets, Strength, is_close, legs_close, legs_rows, places_in}
-use Rattle.heard_events.proofs.Common.{leg_of, legs_of, Mark, ◌∙◌, Leg}
-use Rattle.std.proofs.lemmas.Bool.{cond_both}
-use Rattle.std.proofs.lemmas.Option.{slice_get-map}
-use Rattle.std.proofs.lemmas.List.Folds.{list_all-map}
-use Rattle.std.proofs.lemmas.List.Sums.{list_all-from_AllPass}
-use Rattle.std.specs.Option.{option_map}
+use Rattle.heard_events.proofs.Common.{nat_eq, if◌then◌else◌, le-leb, lt-ltb, All-set, IsOrderly, IsStanding, times_listed, handed_off, ◌∙◌}
+use Rattle.heard_events.proofs.Common.{pilots_of_actives, Standing, began_in, deltas_with, due_at, due_for, shown, shown_active, Active}
+use Rattle.heard_events.proofs.Common.{Accepted, ActivePilot, PilotSets, Strength, is_close, legs_close, legs_rows, places_in, leg_of, Mark}
+use Rattle.heard_events.proofs.Common.{legs_of, Leg, cond_both, slice_get-map, list_all-map, list_all-from_AllPass, option_map}
 use Rattle.pilot_sets.proofs.Times.{offsets_of, once_at_most}
 use Rattle.heard_events.proofs.LegLists.{all_at}
 

@@ -1,14 +1,12 @@
 -- Numbered things, some of which lie in a file, and each of which is known at a number of samples: frames, and what they
 -- complete.
-use Rattle.heard_events.proofs.Common.{◌≡◌, ℕ, ◌+◌, ◌<◌, ◌≤◌, ◌==◌, Bool, true, false, ◌&&◌, List, [], ◌∷◌, ◌++◌, refl, ap, ◌∙◌, arith}
-use Rattle.heard_events.proofs.Common.{nat_le, inl, inr, flat_map, and_parts, and_from, and_left, le-leb, lt-leb, leb-true, cases_lt}
-use Rattle.heard_events.proofs.Common.{eqb-true, eq-eqb, flat_map-append, places, Stream, is_in_file, known_at, filter-places-more}
-use Rattle.heard_events.proofs.Common.{filter_ext_places, filter_none_places, filter_first_places, flat_map_ext_filter, zero, suc, sym}
-use Rattle.heard_events.proofs.Common.{cases_Bool, places-more, filter-append, IsTimed, stream_end, ne_eqb, leb-false, length, Sample}
-use Rattle.heard_events.proofs.Common.{frame_own_bits, own_bits, span_first, span_frames, ◌-◌}
+use Rattle.heard_events.proofs.Common.{◌≡◌, ℕ, ◌+◌, ◌<◌, ◌≤◌, ◌==◌, Bool, true, false, ◌&&◌, List, [], ◌∷◌, ◌++◌, refl, ap, ◌∙◌, arith, inl}
+use Rattle.heard_events.proofs.Common.{nat_le, inr, flat_map, and_parts, and_from, and_left, le-leb, lt-leb, leb-true, cases_lt, eqb-true}
+use Rattle.heard_events.proofs.Common.{eq-eqb, flat_map-append, places, Stream, is_in_file, known_at, filter-places-more, filter_ext_places}
+use Rattle.heard_events.proofs.Common.{filter_none_places, filter_first_places, flat_map_ext_filter, zero, suc, sym, cases_Bool, IsTimed}
+use Rattle.heard_events.proofs.Common.{places-more, filter-append, stream_end, ne_eqb, leb-false, length, Sample, frame_own_bits, own_bits}
+use Rattle.heard_events.proofs.Common.{span_first, span_frames, ◌-◌, known_between, known_le, outside_low, append-nil}
 use Rattle.std.specs.List.{filter}
-use Rattle.rake_finger.proofs.FrameTimes.{known_between, known_le, outside_low}
-use Rattle.std.proofs.lemmas.List.{append-nil}
 use Rattle.rake_finger.proofs.Spans.{span_softs_sooner}
 use Rattle.chip_core.proofs.Ranges as ranges
 

@@ -1,11 +1,8 @@
 -- The frames of a channel after the mark, before they are decoded.
-use Rattle.heard_events.proofs.Common.{◌≡◌, ℕ, ◌+◌, ◌*◌, ◌≤◌, true, List, ◌++◌, length, refl, ap, arith, Sample, channel_stream}
-use Rattle.heard_events.proofs.Common.{offset_of, paging_bound, frames_within, soft_frame, frame_start, is_in_file, known_at, IsTimed}
-use Rattle.heard_events.proofs.Common.{stream_end, Tuning, Channel, Paging, Mark, AgreeIn}
-use Rattle.heard_events.specs.Channels.{start_of}
-use Rattle.heard_events.specs.SoftFrames.{soft_frame_of}
+use Rattle.heard_events.proofs.Common.{◌≡◌, ℕ, ◌+◌, ◌*◌, ◌≤◌, true, List, ◌++◌, length, refl, ap, arith, Sample, channel_stream, offset_of}
+use Rattle.heard_events.proofs.Common.{paging_bound, frames_within, soft_frame, frame_start, is_in_file, known_at, IsTimed, stream_end}
+use Rattle.heard_events.proofs.Common.{Tuning, Channel, Paging, Mark, AgreeIn, start_of, soft_frame_of, all_fit, softs_sooner, softs_same}
 use Rattle.heard_events.specs.declared.channel.Channel.TheVariants.{Traffic}
-use Rattle.rake_finger.proofs.Sooner.{all_fit, softs_sooner, softs_same}
 use Rattle.heard_events.proofs.Arrivals.{AreOrdered, frames_in, frames_ordered, by_parts, is_by}
 use Rattle.chip_core.proofs.Ranges as ranges
 

@@ -1,12 +1,11 @@
 -- The events that end at a number of samples have that number.
-use Rattle.heard_events.proofs.Common.{◌≡◌, ℕ, ◌+◌, ◌==◌, ◌||◌, List, [], ◌∷◌, ◌++◌, refl, Option, None, Some, inl, inr, take, All}
-use Rattle.heard_events.proofs.Common.{All-append, All-cons, All-map, All-nil, flat_map, cases_Bool, eqb-true, Sample, Standing, SetChange}
-use Rattle.heard_events.proofs.Common.{events_at, at_of, mark, changed, frames_at, messages_at, heard_from, kept_to, legs_at, moment_events}
+use Rattle.heard_events.proofs.Common.{◌≡◌, ℕ, ◌+◌, ◌==◌, ◌||◌, List, [], ◌∷◌, ◌++◌, refl, Option, None, Some, inl, inr, take, All, All-map}
+use Rattle.heard_events.proofs.Common.{All-append, All-cons, All-nil, flat_map, cases_Bool, eqb-true, Sample, Standing, SetChange, at_of}
+use Rattle.heard_events.proofs.Common.{events_at, mark, changed, frames_at, messages_at, heard_from, kept_to, legs_at, moment_events, Event}
 use Rattle.heard_events.proofs.Common.{moment_place, moments_before, passed, sets_at, page_event, pages_if_marked, signaling_message_at}
-use Rattle.heard_events.proofs.Common.{message_events, message_heard, messages_by, known_now, events_of, heard_at, sync_events_at}
-use Rattle.heard_events.proofs.Common.{frames_by, if_followed, frames_now, Tuning, sync_bound, sync_stream, Event, Mark, Traffic}
-use Rattle.heard_events.proofs.Common.{SpelledMessage, SpelledSignal, Channel, Paging, channels, followed_after, told_after, told_on}
-use Rattle.heard_events.specs.TrafficEvents.{frame_heard}
+use Rattle.heard_events.proofs.Common.{message_events, message_heard, messages_by, known_now, events_of, heard_at, sync_events_at, Tuning}
+use Rattle.heard_events.proofs.Common.{frames_by, if_followed, frames_now, sync_bound, sync_stream, Mark, Traffic, SpelledMessage, Channel}
+use Rattle.heard_events.proofs.Common.{SpelledSignal, Paging, channels, followed_after, told_after, told_on, frame_heard}
 use Rattle.heard_events.specs.declared.channel.Channel.TheVariants.{Traffic as OnTraffic}
 
 -- events of one number of samples

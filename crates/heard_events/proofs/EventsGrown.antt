@@ -2,14 +2,13 @@
 use Rattle.heard_events.proofs.Common.{◌≡◌, ℕ, ◌+◌, ◌≤◌, List, [], ◌∷◌, ◌++◌, length, refl, sym, ap, ◌∙◌, arith, map, Option, Some, None}
 use Rattle.heard_events.proofs.Common.{nat_lt, if◌then◌else◌, Sample, events_at, mark, AreNear, moments_before, page_event, sync_events_at}
 use Rattle.heard_events.proofs.Common.{Tuning, sync_stream, Mark, flat_map, flat_map-places-more, heard_within, Channel, Paging, channels}
-use Rattle.heard_events.proofs.Common.{followed_after, told_after, told_on}
+use Rattle.heard_events.proofs.Common.{followed_after, told_after, told_on, places-none}
 use Rattle.heard_events.specs.declared.channel.Channel.TheVariants.{Traffic as OnTraffic}
 use Rattle.heard_events.proofs.Growth.{IsSyncTimed}
 use Rattle.heard_events.proofs.PageGrowth.{pages_sooner}
 use Rattle.heard_events.proofs.GoesOn.{joined}
 use Rattle.heard_events.proofs.MarkGrowth.{none_marked}
 use Rattle.heard_events.proofs.MomentGrowth.{first_same, kept_sooner, sets_sooner}
-use Rattle.chip_core.proofs.Places.{places-none}
 use Rattle.heard_events.proofs.Growth as growth
 use Rattle.heard_events.proofs.MarkStays as stays
 

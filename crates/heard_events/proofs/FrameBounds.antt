@@ -1,9 +1,8 @@
 -- When the frames of a traffic channel end, whatever pilots each is heard from.
-use Rattle.heard_events.proofs.Common.{◌≡◌, ℕ, ◌+◌, ◌^◌, ◌<◌, ◌≤◌, true, ◌&&◌, List, refl, ap, ◌∙◌, arith, nat_le, Bool, le-leb, Data}
-use Rattle.heard_events.proofs.Common.{AreClose, all_fingers, all_begun, frame_end, frame_known, has_frame, traffic_start, Tuning, Leg}
-use Rattle.heard_events.proofs.Common.{Mark, Traffic}
+use Rattle.heard_events.proofs.Common.{◌≡◌, ℕ, ◌+◌, ◌^◌, ◌<◌, ◌≤◌, true, ◌&&◌, List, refl, ap, ◌∙◌, arith, nat_le, Bool, le-leb, Data, Leg}
+use Rattle.heard_events.proofs.Common.{AreClose, all_fingers, all_begun, frame_end, frame_known, has_frame, traffic_start, Tuning, Mark}
+use Rattle.heard_events.proofs.Common.{Traffic, within_is}
 use Rattle.rake_finger.proofs.CloseFingers.{close_begun, close_ends}
-use Rattle.rake_finger.proofs.FingerTimes.{within_is}
 
 -- each frame is heard on close fingers
 abbrev pub AreCloseAll : Tuning → (ℕ → List Leg) → Type 0

@@ -1,9 +1,9 @@
 -- What is received of a traffic channel's frame is heard where the reference's pilot is active
 -- alone.
-use Rattle.heard_events.proofs.Common.{◌≡◌, ℕ, ◌==◌, List, [], ◌∷◌, map, refl, ap, ◌∙◌, pos, get_or, append-nil, Some, eq-eqb, places}
-use Rattle.heard_events.proofs.Common.{Sample, power_bit, decoded, group_sums, new_standing, channel_stream, reference_alone}
-use Rattle.heard_events.proofs.Common.{traffic_channel, all_fingers, pilot_finger, soft_frame, raw_at, Stream, frame_softs, power_bits_at}
-use Rattle.heard_events.proofs.Common.{decoded_at, replaced_in, stream_of, traffic_stream, Tuning, fingers_of, Mark, Traffic}
+use Rattle.heard_events.proofs.Common.{◌≡◌, ℕ, ◌==◌, List, [], ◌∷◌, map, refl, ap, ◌∙◌, pos, get_or, append-nil, Some, eq-eqb, places, Mark}
+use Rattle.heard_events.proofs.Common.{Sample, power_bit, decoded, group_sums, new_standing, channel_stream, reference_alone, all_fingers}
+use Rattle.heard_events.proofs.Common.{traffic_channel, pilot_finger, soft_frame, raw_at, Stream, frame_softs, power_bits_at, decoded_at}
+use Rattle.heard_events.proofs.Common.{replaced_in, stream_of, traffic_stream, Tuning, fingers_of, Traffic}
 use Rattle.heard_events.proofs.MarkStays.{pilot_alone}
 
 module _ (t : Tuning) (traffic : Traffic) (m : Mark) where

@@ -1,8 +1,7 @@
 -- How what is told of channels goes on with the samples, where nothing of them is due.
-use Rattle.heard_events.proofs.Common.{◌≡◌, ℕ, ◌<◌, ◌≤◌, List, [], ◌++◌, length, length-append, map, refl, sym, ap, ◌∙◌, arith, Sample}
+use Rattle.heard_events.proofs.Common.{◌≡◌, ℕ, ◌<◌, ◌≤◌, List, [], ◌++◌, length, length-append, map, refl, sym, ap, ◌∙◌, arith, Sample, ap₂}
 use Rattle.heard_events.proofs.Common.{drop, take, length-take-le, take-append-drop}
 use Rattle.heard_events.proofs.Arrivals.{AreKnown, AreLater, Arrivals, all_left, left, none_between, none_left, none_now, now, StaysWithin}
-use Rattle.std.proofs.Common.{ap₂}
 
 -- After these samples nothing is told up to a number of samples, and what is told there is left:
 -- `told samples n` is told of some samples when just n have been taken, and `left samples` is left

@@ -3,12 +3,11 @@ use Rattle.heard_events.proofs.Common.{◌≡◌, ℕ, ◌+◌, ◌≤◌, Bool,
 use Rattle.heard_events.proofs.Common.{places, Sample, piece, capsule_ending, sync_events_left, is_in_file, known_at, frame_own_bits}
 use Rattle.heard_events.proofs.Common.{frames_before, sync_capsule_at, heard_in, heard_at, events_of, sync_events_at, IsTimed, Tuning}
 use Rattle.heard_events.proofs.Common.{sync_stream, sync_bound, map_ext_filter_places, filter-places-more, flat_map, AreNear, low_of}
+use Rattle.heard_events.proofs.Common.{known_between, timed_in}
 use Rattle.std.specs.List.{filter}
-use Rattle.rake_finger.proofs.FrameTimes.{known_between}
 use Rattle.heard_events.proofs.Arrivals.{AreKnown, AreLater, Arrivals, frames_in, next_left, none_now, AreOrdered, frames_ordered, Stays}
 use Rattle.heard_events.proofs.Arrivals.{StaysBefore, StaysWithin, stays_with, stays_now, own_bits_sooner, none_inside}
 use Rattle.heard_events.proofs.GoesOn.{GoesOn, things_go}
-use Rattle.rake_finger.proofs.FingerTimes.{timed_in}
 
 -- FRAMES OF THE SYNC CHANNEL
 -- whether one lies in the file, and when it is known

@@ -1,13 +1,8 @@
 -- The fingers of active pilots, gone over one by one.
-use Rattle.heard_events.proofs.Common.{◌≡◌, ℕ, ◌≤◌, Bool, true, List, [], ◌∷◌, length, take, ◌∙◌, refl, arith, nat_lt, ℤ, inl, inr}
-use Rattle.heard_events.proofs.Common.{length-append, length-take, and_from, cases_Bool, list_all, Finger, all_close, is_close, legs_close}
+use Rattle.heard_events.proofs.Common.{◌≡◌, ℕ, ◌≤◌, Bool, true, List, [], ◌∷◌, length, take, ◌∙◌, refl, arith, nat_lt, ℤ, inl, inr, Finger}
+use Rattle.heard_events.proofs.Common.{length-append, length-take, and_from, cases_Bool, list_all, all_close, is_close, legs_close, Leg}
 use Rattle.heard_events.proofs.Common.{legs_rows, paths_close, finger_places, places_in, all_fingers, leg_fingers, have_rows, fingers_of}
-use Rattle.heard_events.proofs.Common.{Leg}
-use Rattle.std.proofs.lemmas.Bool.{cond_both}
-use Rattle.std.proofs.lemmas.List.{length-map}
-use Rattle.std.proofs.lemmas.List.Folds.{list_all-map}
-use Rattle.std.proofs.lemmas.List.Sums.{list_all-from_AllPass}
-use Rattle.rake_finger.specs.Paths.{finger_of}
+use Rattle.heard_events.proofs.Common.{cond_both, length-map, list_all-map, list_all-from_AllPass, finger_of}
 use Rattle.heard_events.proofs.LegLists.{flat_passes}
 
 -- HOW MANY

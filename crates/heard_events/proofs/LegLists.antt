@@ -1,7 +1,7 @@
 -- Lists, gone over one by one.
 use Rattle.heard_events.proofs.Common.{◌≡◌, ℕ, ◌+◌, Bool, true, List, [], ◌∷◌, ◌++◌, take, map, refl, ◌∙◌, Some, slice_get, All, subst}
 use Rattle.heard_events.proofs.Common.{and_from, and_parts, flat_map, list_all, list_all-append, get_or_from_slice_get, slice_get_within}
-use Rattle.std.proofs.lemmas.List.{map_more}
+use Rattle.heard_events.proofs.Common.{map_more}
 
 -- what a loop over any list makes of each
 pub map_at : {X Y : Type 0} (f : X → Y) (xs : List X) (i : ℕ) (x : X) (ys : List Y) (y : Y) →

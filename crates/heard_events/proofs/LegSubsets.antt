@@ -1,11 +1,9 @@
 -- The active pilots of one power control subchannel are as all are.
-use Rattle.heard_events.proofs.Common.{◌≡◌, ℕ, ◌+◌, ◌*◌, ◌^◌, ◌≤◌, Bool, true, false, List, [], ◌∷◌, ◌++◌, length, map, filter, refl, ap}
-use Rattle.heard_events.proofs.Common.{arith, ℤ, All, inl, inr, nat_lt, cases_Bool, map-append, All-append, places, Finger, is_close}
-use Rattle.heard_events.proofs.Common.{legs_close, legs_rows, places_in, all_fingers, has_subchannel, is_on, leg_fingers, on_subchannel}
-use Rattle.heard_events.proofs.Common.{Leg, list_all, filter-places-more, subst, sym, length-append}
-use Rattle.std.proofs.lemmas.List.{get_or-append-add, get_or_append_left}
-use Rattle.std.proofs.lemmas.List.Elements.{All-filter}
-use Rattle.std.proofs.lemmas.List.Sums.{AllPass-from_list_all, count_by-le-length, length-filter, list_all-from_AllPass}
+use Rattle.heard_events.proofs.Common.{◌≡◌, ℕ, ◌+◌, ◌*◌, ◌^◌, ◌≤◌, Bool, true, false, List, [], ◌∷◌, ◌++◌, length, map, filter, refl, ap, ℤ}
+use Rattle.heard_events.proofs.Common.{arith, All, inl, inr, nat_lt, cases_Bool, map-append, All-append, places, Finger, is_close, is_on}
+use Rattle.heard_events.proofs.Common.{legs_close, legs_rows, places_in, all_fingers, has_subchannel, leg_fingers, on_subchannel, Leg, sym}
+use Rattle.heard_events.proofs.Common.{list_all, filter-places-more, subst, length-append, get_or-append-add, get_or_append_left}
+use Rattle.heard_events.proofs.Common.{All-filter, AllPass-from_list_all, count_by-le-length, length-filter, list_all-from_AllPass}
 use Rattle.heard_events.proofs.Arrivals.{given_less}
 
 -- LISTS WHOSE ELEMENTS ALL HAVE A PROPERTY

@@ -1,4 +1,3 @@
--- The modules of lemmas of `heard_events`.
 pub mod Common
 pub mod Arrivals
 pub mod GoesOn

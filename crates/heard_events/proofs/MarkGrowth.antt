@@ -1,8 +1,8 @@
 -- The mark, as frames are heard.
 use Rattle.heard_events.proofs.Common.{◌≡◌, ℕ, ◌+◌, ◌<◌, true, false, List, [], ◌∷◌, ◌++◌, refl, length, ap, ◌∙◌, arith, inl, inr, None}
 use Rattle.heard_events.proofs.Common.{flat_map, option_or, cases_Bool, places, Sample, frames_open, marks_at, first_of, mark, mark_before}
-use Rattle.heard_events.proofs.Common.{Tuning, zero, suc, Option, Some, Mark, AreNear, sync_stream, Bool, map, length-append, nat_lt}
-use Rattle.heard_events.proofs.Common.{lt-ltb, map-append, Piece, piece, from_last_start, frames_with, frames_before, sym}
+use Rattle.heard_events.proofs.Common.{Tuning, zero, suc, Option, Some, Mark, AreNear, sync_stream, Bool, map, length-append, nat_lt, Piece}
+use Rattle.heard_events.proofs.Common.{lt-ltb, map-append, piece, from_last_start, frames_with, frames_before, sym}
 use Rattle.std.specs.List.{filter}
 use Rattle.heard_events.proofs.Growth.{IsSyncTimed, none_known, sync_in_file, heard_sooner, sync_frames, sync_ordered, timed_of}
 use Rattle.heard_events.proofs.Growth.{frames_with_sooner}

@@ -1,22 +1,17 @@
 -- The mark lies after the samples within which its message is known, so a channel that begins
 -- there hasn't begun.
-use Rattle.heard_events.proofs.Common.{◌≡◌, ℕ, ◌+◌, ◌-◌, ◌*◌, ◌/◌, ◌<◌, ◌≤◌, ◌==◌, ◌&&◌, Bool, true, false, cond, List, [], ◌∷◌, length}
-use Rattle.heard_events.proofs.Common.{length-append, map, take, drop, length-take, length-drop, refl, sym, ap, subst, arith, inl, inr}
-use Rattle.heard_events.proofs.Common.{nat_le, nat_lt, Option, Some, None, ℤ, if◌then◌else◌, flat_map, and_parts, cases_Bool, leb-true}
-use Rattle.heard_events.proofs.Common.{leb-false, places, CheckForm, Sample, own_bits, score, sending, length-best_codeword, within}
-use Rattle.heard_events.proofs.Common.{front_capsule, is_stated, stated_bits, Piece, piece, bodies, but_last, capsule_ending}
-use Rattle.heard_events.proofs.Common.{from_last_start, Sync, SyncFields, Codeword, best_codeword, Free, first_of, frames_open, marks_at}
-use Rattle.heard_events.proofs.Common.{marks_of, mark_at, AreNear, Stream, frame_own_bits, frame_softs, frame_start, is_in_file, known_at}
-use Rattle.heard_events.proofs.Common.{span_first, span_frames, frames_before, heard_at, heard_in, sync_capsule_at, with_message, IsTimed}
-use Rattle.heard_events.proofs.Common.{stream_end, Tuning, sync_stream, Mark, SpelledMessage, ◌^◌, FieldsFit, sync_reading, fixed_fit}
-use Rattle.heard_events.proofs.Common.{reading_is_message, fixed_fields, All, get_or}
+use Rattle.heard_events.proofs.Common.{length-best_codeword, reading_is_message, from_last_start, sync_capsule_at, capsule_ending, flat_map}
+use Rattle.heard_events.proofs.Common.{frame_own_bits, SpelledMessage, length-append, if◌then◌else◌, front_capsule, best_codeword, leb-true}
+use Rattle.heard_events.proofs.Common.{frames_before, known_between, with_message, sync_reading, fixed_fields, length-take, length-drop, []}
+use Rattle.heard_events.proofs.Common.{stated_bits, frames_open, frame_softs, frame_start, span_frames, sync_stream, ends_bounds, and_parts}
+use Rattle.heard_events.proofs.Common.{cases_Bool, SyncFields, is_in_file, span_first, stream_end, leb-false, CheckForm, is_stated, sending}
+use Rattle.heard_events.proofs.Common.{FieldsFit, fixed_fit, cond_both, cond_some, none-some, own_bits, but_last, Codeword, first_of, false}
+use Rattle.heard_events.proofs.Common.{marks_at, marks_of, known_at, heard_at, heard_in, All-tail, All-take, mark_at, AreNear, IsTimed, ◌≡◌}
+use Rattle.heard_events.proofs.Common.{All-map, All-nil, length, nat_le, nat_lt, Option, places, Sample, within, bodies, Stream, Tuning, ap}
+use Rattle.heard_events.proofs.Common.{get_or, subst, arith, score, Piece, piece, ◌==◌, ◌&&◌, Bool, true, cond, List, take, drop, refl, ◌+◌}
+use Rattle.heard_events.proofs.Common.{Some, None, Sync, Free, Mark, ◌-◌, ◌*◌, ◌/◌, ◌<◌, ◌≤◌, ◌∷◌, map, sym, inl, inr, ◌^◌, All, ℕ, ℤ}
 use Rattle.std.specs.List.{filter}
 use Rattle.frame_decoder.specs.Spans.{Channel}
-use Rattle.std.proofs.lemmas.Bool.{cond_both}
-use Rattle.std.proofs.lemmas.Option.{cond_some, none-some}
-use Rattle.std.proofs.lemmas.List.Elements.{All-map, All-nil, All-tail, All-take}
-use Rattle.rake_finger.proofs.FingerTimes.{ends_bounds}
-use Rattle.rake_finger.proofs.FrameTimes.{known_between}
 use Rattle.rake_finger.proofs.Spans.{own_below}
 
 -- THE BITS OF A FRAME

@@ -1,23 +1,20 @@
 -- The mark stays where more samples are taken, and before it nothing is heard of other channels.
-use Rattle.heard_events.proofs.Common.{◌≡◌, ℕ, ◌+◌, ◌-◌, ◌<◌, ◌≤◌, ◌==◌, Bool, true, false, List, [], ◌∷◌, ◌++◌, length, refl, sym, ap, ◌∙◌}
-use Rattle.heard_events.proofs.Common.{subst, arith, inl, inr, nat_lt, Option, Some, None, ℤ, pos, take, get_or, append-nil, flat_map}
-use Rattle.heard_events.proofs.Common.{and_parts, and_from, cases_Bool, cases_lt, eq-eqb, ne_eqb, new_standing, places, Sample, Finger}
-use Rattle.heard_events.proofs.Common.{Data, AreClose, all_fingers, legs_of, pilot_finger, first_of, mark, mark_before, marks_at, frames_at}
-use Rattle.heard_events.proofs.Common.{kept_to, legs_at, legs_by, messages_at, moment_place, moments_before, sets_at, AreNear, all_near}
-use Rattle.heard_events.proofs.Common.{has_reference, low_in, pages_at, pages_if_marked, paging_stream, frame_start, is_in_file, known_at}
-use Rattle.heard_events.proofs.Common.{IsTimed, stream_end, if_followed, frame_known, Tuning, fingers_of, sync_bound, sync_stream, Event}
-use Rattle.heard_events.proofs.Common.{Leg, Mark, Traffic, frames_by, map, message_heard, messages_by, option_or, page_event, if◌then◌else◌}
-use Rattle.heard_events.proofs.Common.{Channel, Paging, channels, followed_after, told_after, told_on}
+use Rattle.heard_events.proofs.Common.{pages_if_marked, moments_before, followed_after, has_reference, paging_stream, message_heard, length}
+use Rattle.heard_events.proofs.Common.{if◌then◌else◌, known_between, new_standing, pilot_finger, moment_place, all_fingers, mark_before, []}
+use Rattle.heard_events.proofs.Common.{messages_at, frame_start, if_followed, frame_known, sync_stream, messages_by, frame_heard, and_parts}
+use Rattle.heard_events.proofs.Common.{ends_bounds, append-nil, cases_Bool, is_in_file, stream_end, fingers_of, sync_bound, page_event, ◌≡◌}
+use Rattle.heard_events.proofs.Common.{told_after, frames_at, frames_by, option_or, flat_map, and_from, cases_lt, AreClose, first_of, false}
+use Rattle.heard_events.proofs.Common.{marks_at, all_near, pages_at, known_at, channels, timed_in, legs_of, kept_to, legs_at, legs_by, ◌==◌}
+use Rattle.heard_events.proofs.Common.{sets_at, AreNear, IsTimed, Traffic, Channel, told_on, nat_lt, Option, get_or, eq-eqb, ne_eqb, places}
+use Rattle.heard_events.proofs.Common.{Sample, Finger, low_in, Tuning, Paging, subst, arith, Event, Bool, true, List, ◌++◌, refl, Some, ◌+◌}
+use Rattle.heard_events.proofs.Common.{None, take, Data, mark, Mark, ◌-◌, ◌<◌, ◌≤◌, ◌∷◌, sym, ◌∙◌, inl, inr, pos, Leg, map, ap, ℕ, ℤ}
 use Rattle.std.specs.List.{filter}
 use Rattle.heard_events.specs.declared.channel.Channel.TheVariants.{Traffic as OnTraffic}
-use Rattle.heard_events.specs.TrafficEvents.{frame_heard}
 use Rattle.rake_finger.proofs.CloseFingers.{near_are_close}
-use Rattle.rake_finger.proofs.FingerTimes.{ends_bounds, timed_in}
 use Rattle.heard_events.proofs.FrameBounds.{known_low}
 use Rattle.heard_events.proofs.TrafficGrowth.{frames_of}
 use Rattle.heard_events.proofs.GoesOn.{joined}
 use Rattle.heard_events.proofs.Arrivals.{AreKnown, known_with, none_now, parted, by_parts, is_by}
-use Rattle.rake_finger.proofs.FrameTimes.{known_between}
 use Rattle.heard_events.proofs.Growth.{IsSyncTimed, sync_in_file, sync_known, sync_frames, sync_ordered, timed_of}
 use Rattle.heard_events.proofs.MarkGrowth.{marks_at_sooner, mark_before_kept, mark_before_more, mark_is}
 use Rattle.heard_events.proofs.MarkLater.{mark_later}

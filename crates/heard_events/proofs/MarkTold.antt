@@ -1,16 +1,14 @@
 -- The event of the message that sets the mark is among those of its number of samples.
 use Rattle.heard_events.proofs.Common.{◌≡◌, ℕ, zero, suc, ◌+◌, ◌-◌, ◌<◌, ◌≤◌, Bool, true, false, List, [], ◌∷◌, ◌++◌, length, refl, sym, ap}
-use Rattle.heard_events.proofs.Common.{◌∙◌, arith, inl, inr, nat_le, ◌==◌, ◌&&◌, Some, is_some, flat_map, list_all, list_any}
-use Rattle.heard_events.proofs.Common.{range_with_len, and_from, and_parts, cases_Bool, cases_lt, eq-eqb, le-leb, or_cases, or_left}
-use Rattle.heard_events.proofs.Common.{or_right, list_all-append, list_any-append, flat_map-places-more, places, Sample, events_at}
-use Rattle.heard_events.proofs.Common.{All-head, All-tail, followed_after, heard_within, mark, at_of, first_of}
-use Rattle.heard_events.proofs.Common.{frames_open, marks_at, sets_mark, frame_start, events_of, heard_at, sync_events_at, Tuning}
-use Rattle.heard_events.proofs.Common.{sync_bound, sync_stream, Event, Mark, Option, None, marks_of, SpelledMessage}
+use Rattle.heard_events.proofs.Common.{◌∙◌, arith, inl, inr, nat_le, ◌==◌, ◌&&◌, Some, is_some, flat_map, list_all, list_any, and_from}
+use Rattle.heard_events.proofs.Common.{range_with_len, and_parts, cases_Bool, cases_lt, eq-eqb, le-leb, or_cases, or_left, or_right, places}
+use Rattle.heard_events.proofs.Common.{list_all-append, list_any-append, flat_map-places-more, Sample, events_at, All-head, All-tail, mark}
+use Rattle.heard_events.proofs.Common.{followed_after, heard_within, at_of, first_of, frames_open, marks_at, sets_mark, frame_start, Tuning}
+use Rattle.heard_events.proofs.Common.{events_of, heard_at, sync_events_at, sync_bound, sync_stream, Event, Mark, Option, None, marks_of}
+use Rattle.heard_events.proofs.Common.{SpelledMessage, known_between, every}
 use Rattle.std.specs.List.{filter}
 use Rattle.heard_events.proofs.EventPlaces.{AreAt, IsAt, all_at}
-use Rattle.rake_finger.proofs.FrameTimes.{known_between}
 use Rattle.heard_events.proofs.Growth.{IsSyncTimed, sync_in_file, sync_known, sync_frames}
-use Rattle.chip_core.proofs.Ranges.{every}
 use Rattle.heard_events.proofs.Arrivals.{given_less, given_more, is_now}
 
 -- WHAT STANDS IN LISTS

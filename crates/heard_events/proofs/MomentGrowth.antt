@@ -1,10 +1,8 @@
 -- What is kept after each moment depends on the samples before it.
-use Rattle.heard_events.proofs.Common.{◌≡◌, ℕ, zero, suc, ◌+◌, ◌<◌, ◌≤◌, true, false, List, [], ◌∷◌, ◌++◌, length, take, refl, arith}
-use Rattle.heard_events.proofs.Common.{nat_le, le-leb, lt-leb, take-append-le, Sample, Standing, heard_from, kept_to, moment_place}
-use Rattle.heard_events.proofs.Common.{moments_before, passed, sets_at, all_noted, noted, Tuning, Event, Mark, Traffic, ap, ◌∙◌}
-use Rattle.heard_events.proofs.Common.{if◌then◌else◌}
+use Rattle.heard_events.proofs.Common.{◌≡◌, ℕ, zero, suc, ◌+◌, ◌<◌, ◌≤◌, true, false, List, [], ◌∷◌, ◌++◌, length, take, refl, arith, noted}
+use Rattle.heard_events.proofs.Common.{nat_le, le-leb, lt-leb, take-append-le, Sample, Standing, heard_from, kept_to, moment_place, passed}
+use Rattle.heard_events.proofs.Common.{moments_before, sets_at, all_noted, Tuning, Event, Mark, Traffic, ap, ◌∙◌, if◌then◌else◌, add-one}
 use Rattle.heard_events.proofs.Arrivals.{StaysWithin}
-use Rattle.std.proofs.Common.{add-one}
 
 -- the first samples of a file that goes on
 pub first_same : (xs ys : List Sample) (n : ℕ) → n ≤ length xs → take n (xs ++ ys) ≡ take n xs

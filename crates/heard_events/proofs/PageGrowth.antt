@@ -1,12 +1,12 @@
 -- What is left of a paging channel's messages, and how they grow with a file's samples.
 use Rattle.heard_events.proofs.Common.{◌≡◌, ℕ, suc, ◌+◌, ◌-◌, ◌<◌, ◌≤◌, ◌==◌, Bool, true, false, List, [], ◌++◌, length, refl, sym, ap, ◌∙◌}
 use Rattle.heard_events.proofs.Common.{arith, if◌then◌else◌, flat_map, range_with_len, option_to_list, eq-eqb, ne_eqb, Sample, page_at}
-use Rattle.heard_events.proofs.Common.{pages_from, pages_left, paging_bound, paging_stream, frame_own_bits, IsTimed, Tuning, Mark}
-use Rattle.heard_events.proofs.Common.{SpelledPage, bits_up_to, pages_at, flat_map_ext_range, paging_bits_before, Stream, is_in_file}
-use Rattle.heard_events.proofs.Common.{nat_le, and_parts, leb-true, places, flat_map_ext_filter}
+use Rattle.heard_events.proofs.Common.{pages_from, pages_left, paging_bound, paging_stream, frame_own_bits, IsTimed, Tuning, Mark, pages_at}
+use Rattle.heard_events.proofs.Common.{SpelledPage, bits_up_to, flat_map_ext_range, paging_bits_before, Stream, is_in_file, nat_le, places}
+use Rattle.heard_events.proofs.Common.{and_parts, leb-true, flat_map_ext_filter}
 use Rattle.heard_events.proofs.Arrivals.{AreKnown, AreLater, Arrivals, NoneNow, frames_in, left, next_left, none_now, Stays, StaysWithin}
-use Rattle.heard_events.proofs.Arrivals.{stays_at, stays_now, AreOrdered, frames_ordered, own_bits_sooner, none_inside, StaysBefore}
-use Rattle.heard_events.proofs.Arrivals.{stays_before, given_more, is_now, is_left}
+use Rattle.heard_events.proofs.Arrivals.{stays_at, stays_now, AreOrdered, frames_ordered, own_bits_sooner, none_inside, StaysBefore, is_now}
+use Rattle.heard_events.proofs.Arrivals.{stays_before, given_more, is_left}
 use Rattle.heard_events.proofs.GoesOn.{GoesOn, goes_as, things_go, joined}
 
 either_way : (b : Bool) (i : ℕ) → (if b then i else i) ≡ i

@@ -1,8 +1,7 @@
 -- The signaling of a decoded frame.
-use Rattle.heard_events.proofs.Common.{Bool, IfSome, List, Mux, None, Option, R1200, R2400, R4800, R9600, Rate, Some, arith, decoded}
-use Rattle.heard_events.proofs.Common.{drop, false, format_of, frame_long, get_or, information_of, length, length-drop, lower_rates, refl}
-use Rattle.heard_events.proofs.Common.{primary_bits, split, split_9600, true, ℕ, ℤ, ◌≡◌, ◌≤◌}
-use Rattle.std.proofs.lemmas.Bool.{cond_both}
+use Rattle.heard_events.proofs.Common.{Bool, IfSome, List, Mux, None, Option, R1200, R2400, R4800, R9600, Rate, Some, arith, decoded, drop}
+use Rattle.heard_events.proofs.Common.{false, format_of, frame_long, get_or, information_of, length, length-drop, lower_rates, refl, split}
+use Rattle.heard_events.proofs.Common.{primary_bits, split_9600, true, ℕ, ℤ, ◌≡◌, ◌≤◌, cond_both}
 
 -- A DECODED FRAME HAS THE INFORMATION BITS OF ITS RATE
 pub decoded_long : (replaced : List ℕ) (softs : List ℤ) →

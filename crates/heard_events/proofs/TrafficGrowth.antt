@@ -1,19 +1,17 @@
 -- How the frames of a traffic channel and the messages that they complete grow with a file's samples.
 use Rattle.heard_events.proofs.Common.{◌≡◌, ℕ, zero, suc, ◌+◌, ◌<◌, ◌≤◌, true, List, [], ◌∷◌, ◌++◌, length, refl, arith, Some, map, ap, ◌∙◌}
-use Rattle.heard_events.proofs.Common.{append-nil, take, flat_map, places, Sample, Standing, heard_from, legs_by, moment_place, told_by}
+use Rattle.heard_events.proofs.Common.{append-nil, take, flat_map, places, Sample, Standing, heard_from, legs_by, moment_place, told_by, ℤ}
 use Rattle.heard_events.proofs.Common.{all_noted, page_event, pages_if_marked, messages_by, frames_by, frames_left_of, messages_left_of}
 use Rattle.heard_events.proofs.Common.{frame_known, has_frame, Tuning, Event, Leg, Mark, Traffic, flat_map-places-more, flat_map_ext_places}
-use Rattle.heard_events.proofs.Common.{sym, ends_now, frames_bound, message_events, message_heard, map_ext_filter_places, ℤ, power_bit}
-use Rattle.heard_events.proofs.Common.{decoded, group_sums, Data, all_fingers, on_subchannel, subchannels, unscrambled, power_bits_at}
-use Rattle.heard_events.proofs.Common.{decoded_at, subchannel_sums, replaced_in, stream_of, traffic_start, option_to_list}
-use Rattle.heard_events.proofs.Common.{signaling_message_at, signal_at, signal_of, signals_before, Decoded}
-use Rattle.heard_events.specs.TrafficEvents.{frame_heard}
+use Rattle.heard_events.proofs.Common.{sym, ends_now, frames_bound, message_events, message_heard, map_ext_filter_places, power_bit, Data}
+use Rattle.heard_events.proofs.Common.{decoded, group_sums, all_fingers, on_subchannel, subchannels, unscrambled, power_bits_at, decoded_at}
+use Rattle.heard_events.proofs.Common.{subchannel_sums, replaced_in, stream_of, traffic_start, option_to_list, signaling_message_at, AllFit}
+use Rattle.heard_events.proofs.Common.{signal_at, signal_of, signals_before, Decoded, frame_heard, Fits, all_fit, softs_sooner}
 use Rattle.heard_events.proofs.Arrivals.{Arrivals, NoneNow, next_left, none_left, none_now, now_parts, StaysWithin, stays_now, given_more}
 use Rattle.heard_events.proofs.Arrivals.{AreOrdered, Stays, StaysBefore, stays_before, stays_at}
 use Rattle.heard_events.proofs.FrameBounds.{AreCloseAll, known_later, known_low}
 use Rattle.heard_events.proofs.LegLists.{map_same}
 use Rattle.heard_events.proofs.LegSubsets.{on_all}
-use Rattle.rake_finger.proofs.Sooner.{AllFit, Fits, all_fit, softs_sooner}
 use Rattle.heard_events.proofs.MomentGrowth.{first_same, noted-append}
 use Rattle.heard_events.proofs.GoesOn.{joined}
 

@@ -1,19 +1,14 @@
 -- The channels of the reference base station whose frames are received from the mark on.
+use Rattle.heard_events.specs.Common.{data_frame_chips, frame_offset_chips, after, paging_mask}
+use Rattle.heard_events.specs.Common.{traffic_mask, R9600, fingers_of, Data, scrambling, Mark}
 use Rattle.std.specs.Prelude.{ℕ, ◌+◌, ◌*◌, ◌<◌, ◌≤◌, Bool, true, false}
-use Rattle.chip_core.specs.Air.{data_frame_chips, frame_offset_chips}
-use Rattle.frame_decoder.specs.Spans as spans
-use Rattle.long_code.specs.LongCode.{after, paging_mask, traffic_mask}
-use Rattle.quality_bits.specs.declared.rate.Rate.TheVariants.{R9600}
 use Rattle.heard_events.specs.PagingStreams.{paging_rate}
 use Rattle.heard_events.specs.Streams.{Stream}
 use Rattle.heard_events.specs.TrafficStreams.{frame_state}
 use Rattle.heard_events.specs.Tuning.{Tuning}
-use Rattle.rake_finger.specs.Paths.{fingers_of}
-use Rattle.rake_finger.specs.declared.form.Form.TheVariants.{Data}
-use Rattle.symbol_path.specs.Scrambling.{scrambling}
 use Rattle.heard_events.specs.declared.channel.Channel.{Channel}
 use Rattle.heard_events.specs.declared.channel.Channel.TheVariants.{Paging, Traffic}
-use Rattle.heard_events.specs.declared.mark.Mark.{Mark}
+use Rattle.frame_decoder.specs.Spans as spans
 
 -- a paging channel has a number from 1 to 7, a traffic channel a Walsh row and one of 16 offsets
 abbrev pub IsLawful : Channel → Type 0

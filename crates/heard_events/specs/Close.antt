@@ -1,11 +1,9 @@
 -- How far the fingers of active pilots may be from the reference path.
-use Rattle.std.specs.Prelude.{◌≡◌, ℕ, ◌+◌, ◌≤◌, Bool, true, List, [], ◌∷◌, length, ℤ, unsigned_abs}
-use Rattle.std.specs.Prelude.{nat_le, nat_lt, if◌then◌else◌, Option, Some, None}
+use Rattle.heard_events.specs.Common.{half_window_chips, Finger, Leg}
+use Rattle.std.specs.Prelude.{◌≡◌, ℕ, ◌+◌, ◌≤◌, Bool, List, [], ◌∷◌, ℤ, unsigned_abs, nat_le, Some}
+use Rattle.std.specs.Prelude.{nat_lt, if◌then◌else◌, Option, None}
 use Rattle.std.specs.List.{list_all}
-use Rattle.chip_core.specs.Air.{half_window_chips}
-use Rattle.rake_finger.specs.declared.finger.Finger.{Finger}
 use Rattle.rake_finger.specs.Near.{is_close}
-use Rattle.heard_events.specs.declared.leg.Leg.{Leg}
 
 -- a list of fingers that may have none
 abbrev pub fingers_in : Option (List Finger) → List Finger

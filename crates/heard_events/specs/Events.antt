@@ -1,9 +1,8 @@
 -- All that a handset tells: the pilot, and what it hears.
+use Rattle.heard_events.specs.Common.{places, Sample, Event, Pilot, Mark}
 use Rattle.std.specs.Prelude.{ℕ, ◌+◌, List, [], ◌∷◌, ◌++◌, length, map, Option, Some}
 use Rattle.std.specs.List.{flat_map}
 use Rattle.std.specs.Option.{option_map}
-use Rattle.chip_core.specs.Bits.{places}
-use Rattle.chip_core.specs.declared.sample.Sample.{Sample}
 use Rattle.heard_events.specs.Marks.{mark}
 use Rattle.heard_events.specs.Moments.{frames_at, messages_at, sets_at}
 use Rattle.heard_events.specs.PagingEvents.{page_event, pages_if_marked}
@@ -12,9 +11,6 @@ use Rattle.heard_events.specs.TrafficEvents.{if_followed}
 use Rattle.heard_events.specs.Tuning.{Tuning}
 use Rattle.heard_events.specs.declared.channel.Channel.{Channel}
 use Rattle.heard_events.specs.declared.channel.Channel.TheVariants.{Paging, Traffic}
-use Rattle.heard_events.specs.declared.event.Event.{Event}
-use Rattle.heard_events.specs.declared.event.Event.TheVariants.{Pilot}
-use Rattle.heard_events.specs.declared.mark.Mark.{Mark}
 
 -- THE CHANNELS AFTER THE MARK
 -- What is heard on a channel when just n samples have been taken: of a traffic channel the frames

@@ -1,12 +1,9 @@
 -- The frames of a traffic channel as a handset hears them before its pilot sets change.
+use Rattle.heard_events.specs.Common.{new_standing, Leg, Mark, Traffic}
 use Rattle.std.specs.Prelude.{ℕ, List}
-use Rattle.pilot_sets.specs.Standing.{new_standing}
 use Rattle.heard_events.specs.Legs.{legs_of}
 use Rattle.heard_events.specs.declared.channel.Channel.{Channel}
 use Rattle.heard_events.specs.declared.channel.Channel.TheVariants as channels
-use Rattle.heard_events.specs.declared.leg.Leg.{Leg}
-use Rattle.heard_events.specs.declared.mark.Mark.{Mark}
-use Rattle.chip_core.specs.declared.assignment.Traffic.{Traffic}
 
 abbrev pub traffic_channel : Traffic → Channel
 traffic_channel traffic = channels.Traffic traffic

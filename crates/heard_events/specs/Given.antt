@@ -1,8 +1,7 @@
 -- Events as they are given.
+use Rattle.heard_events.specs.Common.{Event, Pilot, Sync, Frame, Sets}
 use Rattle.std.specs.Prelude.{ℕ, List, [], ◌∷◌, Option, Some, None}
-use Rattle.heard_events.specs.declared.event.Event.{Event}
-use Rattle.heard_events.specs.declared.event.Event.TheVariants.{Pilot, Sync, Paging, Frame, Traffic}
-use Rattle.heard_events.specs.declared.event.Event.TheVariants.{Sets}
+use Rattle.heard_events.specs.declared.event.Event.TheVariants.{Paging, Traffic}
 
 -- one or none, as a list
 abbrev pub event_list : Option Event → List Event

@@ -1,26 +1,19 @@
 -- The events of so many samples' end that are still to be given, where some have been.
-use Rattle.std.specs.Prelude.{ℕ, ◌+◌, ◌==◌, ◌&&◌, nat_le, List, [], ◌∷◌, length, map, filter}
-use Rattle.std.specs.Prelude.{Option, None, Some, if◌then◌else◌}
+use Rattle.heard_events.specs.Common.{superframe_chips, places, Traffic, Sample, is_in_file, Event}
+use Rattle.heard_events.specs.Common.{known_at, Pilot, Leg, Mark}
+use Rattle.std.specs.Prelude.{ℕ, ◌+◌, ◌==◌, ◌&&◌, nat_le, List, [], ◌∷◌, length, map, filter, None}
+use Rattle.std.specs.Prelude.{Option, Some, if◌then◌else◌}
 use Rattle.std.specs.List.{flat_map}
-use Rattle.chip_core.specs.Air.{superframe_chips}
-use Rattle.chip_core.specs.Bits.{places}
-use Rattle.chip_core.specs.declared.assignment.Traffic.{Traffic}
-use Rattle.chip_core.specs.declared.sample.Sample.{Sample}
 use Rattle.pilot_search.specs.declared.sweeping.Best.{Best}
 use Rattle.heard_events.specs.Moments.{heard_from, kept_to, moment_place, sets_events}
 use Rattle.heard_events.specs.PagingEvents.{pages_from}
 use Rattle.heard_events.specs.PagingStreams.{paging_bound, paging_stream}
 use Rattle.heard_events.specs.Signaling.{message_heard}
 use Rattle.heard_events.specs.Streams.{Stream}
-use Rattle.rake_finger.specs.Streams.{is_in_file, known_at}
 use Rattle.heard_events.specs.SyncEvents.{heard_at, events_of}
 use Rattle.heard_events.specs.TrafficEvents.{frame_heard}
 use Rattle.heard_events.specs.TrafficStreams.{ends_now, frames_bound}
 use Rattle.heard_events.specs.Tuning.{Tuning, sync_stream, sync_bound}
-use Rattle.heard_events.specs.declared.event.Event.{Event}
-use Rattle.heard_events.specs.declared.event.Event.TheVariants.{Pilot}
-use Rattle.heard_events.specs.declared.leg.Leg.{Leg}
-use Rattle.heard_events.specs.declared.mark.Mark.{Mark}
 use Rattle.heard_events.specs.SpelledMessages.{SpelledPage}
 
 -- that of the pilot which the search found, where it hasn't been given

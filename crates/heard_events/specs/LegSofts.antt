@@ -1,16 +1,10 @@
 -- The soft values of a frame as some active pilots hear it.
+use Rattle.heard_events.specs.Common.{Sample, group_sums, Held, IsInRing, softs, Data, Leg}
 use Rattle.std.specs.Prelude.{◌≡◌, ℕ, ◌≤◌, true, List, length, take, ℤ}
 use Rattle.std.specs.List.{All}
-use Rattle.chip_core.specs.declared.sample.Sample.{Sample}
-use Rattle.frame_decoder.specs.TrafficFrames.{group_sums}
 use Rattle.pilot_search.specs.declared.paths.Near.{Near}
-use Rattle.rake_finger.specs.Held.{Held}
-use Rattle.rake_finger.specs.InRing.{IsInRing}
-use Rattle.rake_finger.specs.Soft.{softs}
-use Rattle.rake_finger.specs.declared.form.Form.TheVariants.{Data}
 use Rattle.heard_events.specs.Close.{legs_close, legs_rows, places_in}
 use Rattle.heard_events.specs.Legs.{all_fingers, on_subchannel}
-use Rattle.heard_events.specs.declared.leg.Leg.{Leg}
 
 -- the sums of the power control bits of the frame that begins at a reference sample, on a
 -- subchannel

@@ -1,14 +1,10 @@
 -- The active pilots that a frame of a traffic channel is heard from (after TIA/EIA-95-B, 6.6.6.2).
+use Rattle.heard_events.specs.Common.{places, Standing, shown, Finger, fingers_of, modulo_code, Leg}
+use Rattle.heard_events.specs.Common.{Mark}
 use Rattle.std.specs.Prelude.{ℕ, ◌*◌, ◌==◌, if◌then◌else◌, Bool, List, [], ◌∷◌, map, filter, ℤ, pos}
 use Rattle.std.specs.Prelude.{◌-ℤ◌, get_or}
 use Rattle.std.specs.List.{flat_map, list_any}
-use Rattle.chip_core.specs.Bits.{places}
-use Rattle.pilot_sets.specs.Standing.{Standing, shown}
 use Rattle.pilot_sets.specs.declared.lists.Active.{Active}
-use Rattle.rake_finger.specs.declared.finger.Finger.{Finger}
-use Rattle.rake_finger.specs.Paths.{fingers_of, modulo_code}
-use Rattle.heard_events.specs.declared.leg.Leg.{Leg}
-use Rattle.heard_events.specs.declared.mark.Mark.{Mark}
 
 -- the chip of a pilot's code that falls on sample 0, on a path so much earlier than the reference:
 -- at the mark the system's time is a multiple of the code's period

@@ -1,4 +1,4 @@
--- The modules of definitions of `heard_events`.
+pub mod Common
 pub mod Streams
 pub mod Tuning
 pub mod SpelledMessages

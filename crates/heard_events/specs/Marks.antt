@@ -1,19 +1,13 @@
 -- The mark: the sample at which the time lies that a sync message tells.
+use Rattle.heard_events.specs.Common.{superframe_chips, places, Sample, piece, from_last_start}
+use Rattle.heard_events.specs.Common.{frame_start, is_in_file, known_by, Event, Sync, Mark}
 use Rattle.std.specs.Prelude.{ℕ, ◌+◌, ◌-◌, ◌*◌, ◌==◌, not, Bool, false, if◌then◌else◌, List, []}
 use Rattle.std.specs.Prelude.{◌∷◌, length, map, filter, nat_lt, Option, Some, None}
 use Rattle.std.specs.List.{flat_map}
-use Rattle.chip_core.specs.Air.{superframe_chips}
-use Rattle.chip_core.specs.Bits.{places}
-use Rattle.chip_core.specs.declared.sample.Sample.{Sample}
-use Rattle.quality_bits.specs.Pieces.{piece, from_last_start}
 use Rattle.sync_message.specs.Framing.{superframes_of}
-use Rattle.rake_finger.specs.Streams.{frame_start, is_in_file, known_by}
 use Rattle.heard_events.specs.SyncEvents.{frames_before, heard_at}
 use Rattle.heard_events.specs.Tuning.{Tuning, sync_stream, sync_bound}
-use Rattle.heard_events.specs.declared.event.Event.{Event}
-use Rattle.heard_events.specs.declared.event.Event.TheVariants.{Sync}
 use Rattle.heard_events.specs.SpelledMessages.{SpelledMessage}
-use Rattle.heard_events.specs.declared.mark.Mark.{Mark}
 
 -- how many frames the message under way has after the frames before `next`
 unfoldable pub frames_open : Tuning → List Sample → ℕ → ℕ

@@ -1,17 +1,14 @@
 -- The moments at which a handset measures its pilots (after TIA/EIA-95-B, 6.6.6.2).
+use Rattle.heard_events.specs.Common.{superframe_chips, places, Sample, Standing, change_at, due_at}
+use Rattle.heard_events.specs.Common.{new_standing, shown, stepped, window_number, Event, Sets, Leg}
+use Rattle.heard_events.specs.Common.{Mark, Traffic}
 use Rattle.std.specs.Prelude.{ℕ, zero, suc, ◌+◌, ◌-◌, ◌*◌, ◌/◌, ◌==◌, ◌||◌, if◌then◌else◌, List, []}
-use Rattle.std.specs.Prelude.{◌∷◌, ◌++◌, map, take, pos, nat_le, Option, Some}
+use Rattle.std.specs.Prelude.{◌∷◌, ◌++◌, map, take, pos, nat_le, Some}
 use Rattle.std.specs.List.{flat_map}
-use Rattle.chip_core.specs.Air.{superframe_chips}
-use Rattle.chip_core.specs.Bits.{places}
-use Rattle.chip_core.specs.declared.sample.Sample.{Sample}
 use Rattle.pilot_sets.specs.PilotSets.{candidate_pilots, pilots}
-use Rattle.pilot_sets.specs.Standing.{Standing, change_at, due_at, new_standing, shown, stepped}
-use Rattle.pilot_sets.specs.Standing.{window_number}
 use Rattle.pilot_sets.specs.Tables.{search_window_chips}
 use Rattle.pilot_sets.specs.declared.change.SetChange.{SetChange}
 use Rattle.pilot_sets.specs.declared.strengths.Strength.{Strength}
-use Rattle.rake_finger.specs.Strengths as measured
 use Rattle.rake_finger.specs.Strengths.{sample_power, samples_before, strength_before}
 use Rattle.heard_events.specs.Legs.{legs_of, pilot_phase}
 use Rattle.heard_events.specs.Noted.{all_noted}
@@ -20,11 +17,7 @@ use Rattle.heard_events.specs.Signaling.{messages_by}
 use Rattle.heard_events.specs.TrafficEvents.{frames_by}
 use Rattle.heard_events.specs.TrafficStreams.{chips_after}
 use Rattle.heard_events.specs.Tuning.{Tuning}
-use Rattle.heard_events.specs.declared.event.Event.{Event}
-use Rattle.heard_events.specs.declared.event.Event.TheVariants.{Sets}
-use Rattle.heard_events.specs.declared.leg.Leg.{Leg}
-use Rattle.heard_events.specs.declared.mark.Mark.{Mark}
-use Rattle.chip_core.specs.declared.assignment.Traffic.{Traffic}
+use Rattle.rake_finger.specs.Strengths as measured
 
 -- Moment j lies j superframes after the mark, and has a time as much later. Moment 0 is the mark,
 -- where nothing is measured.

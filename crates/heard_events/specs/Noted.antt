@@ -1,18 +1,15 @@
 -- What a handset hears changes the pilot sets (after TIA/EIA-95-B, 6.6.6.2).
+use Rattle.heard_events.specs.Common.{superframe_chips, PagingMessage, Standing, with_thresholds}
+use Rattle.heard_events.specs.Common.{with_neighbors, directed, Event, Mark}
 use Rattle.std.specs.Prelude.{ℕ, ◌+◌, ◌-◌, ◌/◌, ◌==◌, if◌then◌else◌, List, [], ◌∷◌}
-use Rattle.chip_core.specs.Air.{superframe_chips}
 use Rattle.paging_message.specs.declared.system.SystemFields.{SystemFields}
-use Rattle.paging_message.specs.declared.message.PagingMessage.{PagingMessage}
-use Rattle.paging_message.specs.declared.message.PagingMessage.TheVariants as pages
-use Rattle.pilot_sets.specs.Standing.{Standing, with_thresholds, with_neighbors, directed}
 use Rattle.pilot_sets.specs.declared.thresholds.Thresholds.{Thresholds}
 use Rattle.traffic_message.specs.declared.body.TrafficBody.{TrafficBody}
-use Rattle.traffic_message.specs.declared.body.TrafficBody.TheVariants as bodies
 use Rattle.traffic_message.specs.declared.fields.InTrafficFields.{InTrafficFields}
 use Rattle.heard_events.specs.Given.{at_of}
-use Rattle.heard_events.specs.declared.event.Event.{Event}
 use Rattle.heard_events.specs.declared.event.Event.TheVariants.{Paging, Traffic}
-use Rattle.heard_events.specs.declared.mark.Mark.{Mark}
+use Rattle.paging_message.specs.declared.message.PagingMessage.TheVariants as pages
+use Rattle.traffic_message.specs.declared.body.TrafficBody.TheVariants as bodies
 
 -- the thresholds of a System Parameters Message, and of an In-Traffic one
 abbrev pub system_thresholds : SystemFields → Thresholds

@@ -1,21 +1,16 @@
 -- What is heard on a paging channel (TIA/EIA-95-B, 7.7.2.1).
+use Rattle.heard_events.specs.Common.{places, CheckForm, Sample, PagingMessage, is_in_file, Event}
+use Rattle.heard_events.specs.Common.{known_now, Mark}
 use Rattle.std.specs.Prelude.{ℕ, ◌+◌, ◌-◌, Bool, List, [], ◌++◌, length, take, filter, Option, Some}
 use Rattle.std.specs.Prelude.{None, nat_lt, if◌then◌else◌}
 use Rattle.std.specs.List.{flat_map, range_with_len}
 use Rattle.std.specs.Option.{option_to_list}
-use Rattle.chip_core.specs.Bits.{places}
-use Rattle.chip_core.specs.declared.check_form.CheckForm.{CheckForm}
-use Rattle.chip_core.specs.declared.sample.Sample.{Sample}
 use Rattle.paging_message.specs.HalfFrames.{half_frame_body, half_frame_capsule_ending}
 use Rattle.paging_message.specs.Reading.{paging_reading}
-use Rattle.paging_message.specs.declared.message.PagingMessage.{PagingMessage}
 use Rattle.heard_events.specs.PagingStreams.{paging_rate, paging_stream, paging_bound}
 use Rattle.heard_events.specs.Streams.{Stream, frame_own_bits}
-use Rattle.rake_finger.specs.Streams.{is_in_file, known_now}
 use Rattle.heard_events.specs.Tuning.{Tuning}
-use Rattle.heard_events.specs.declared.event.Event.{Event}
 use Rattle.heard_events.specs.declared.event.Event.TheVariants.{Paging}
-use Rattle.heard_events.specs.declared.mark.Mark.{Mark}
 use Rattle.heard_events.specs.SpelledMessages.{SpelledPage, as_spelled, spelled_in}
 
 -- a capsule, and the message that it spells

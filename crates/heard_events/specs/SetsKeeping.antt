@@ -1,7 +1,7 @@
 -- What always holds of the pilot sets that a handset keeps.
+use Rattle.heard_events.specs.Common.{half_window_chips, superframe_chips}
 use Rattle.std.specs.Prelude.{◌≡◌, ℕ, ◌+◌, ◌*◌, ◌≤◌, ◌^◌, if◌then◌else◌, true, unsigned_abs}
 use Rattle.std.specs.List.{All}
-use Rattle.chip_core.specs.Air.{half_window_chips, superframe_chips}
 use Rattle.heard_events.specs.Moments.{moment_place}
 use Rattle.heard_events.specs.SoundMarks.{IsSoundMark}
 use Rattle.heard_events.specs.declared.sets_keeper.SetsKeeper.{SetsKeeper}

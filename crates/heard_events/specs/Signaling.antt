@@ -1,25 +1,17 @@
 -- What the signaling in a traffic channel's frames spells (TIA/EIA-95-B, 7.1.3.5.11 and 7.7.3).
+use Rattle.heard_events.specs.Common.{places, CheckForm, Sample, Decoded, piece, capsule_ending}
+use Rattle.heard_events.specs.Common.{Event, Leg, Mark, Traffic}
 use Rattle.std.specs.Prelude.{ℕ, Bool, List, [], ◌∷◌, ◌++◌, map, filter, Option, Some, None}
 use Rattle.std.specs.Prelude.{if◌then◌else◌}
 use Rattle.std.specs.List.{flat_map}
 use Rattle.std.specs.Option.{option_to_list}
-use Rattle.chip_core.specs.Bits.{places}
-use Rattle.chip_core.specs.declared.check_form.CheckForm.{CheckForm}
-use Rattle.chip_core.specs.declared.sample.Sample.{Sample}
-use Rattle.frame_decoder.specs.declared.traffic.Decoded.{Decoded}
-use Rattle.quality_bits.specs.Pieces.{piece, capsule_ending}
-use Rattle.traffic_message.specs.Messages.{Message}
 use Rattle.traffic_message.specs.Multiplex.{split}
 use Rattle.traffic_message.specs.Reading.{traffic_reading}
 use Rattle.heard_events.specs.TrafficEvents.{decoded_at}
 use Rattle.heard_events.specs.TrafficStreams.{frames_now, has_frame}
 use Rattle.heard_events.specs.Tuning.{Tuning}
-use Rattle.heard_events.specs.declared.event.Event.{Event}
-use Rattle.heard_events.specs.declared.event.Event.TheVariants as events
-use Rattle.heard_events.specs.declared.leg.Leg.{Leg}
-use Rattle.heard_events.specs.declared.mark.Mark.{Mark}
-use Rattle.chip_core.specs.declared.assignment.Traffic.{Traffic}
 use Rattle.heard_events.specs.SpelledMessages.{SpelledSignal, spelled_in}
+use Rattle.heard_events.specs.declared.event.Event.TheVariants as events
 
 -- a capsule with a fault gives none
 abbrev pub signal_in : CheckForm → Option (List Bool) → Option SpelledSignal

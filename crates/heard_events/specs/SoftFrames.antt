@@ -1,18 +1,14 @@
 -- The frames of a channel from the mark on, before they are decoded.
+use Rattle.heard_events.specs.Common.{places, Sample, power_bit, group_sums, softs, frame_end, Mark}
+use Rattle.heard_events.specs.Common.{frame_start, known_by}
 use Rattle.std.specs.Prelude.{ℕ, [], ◌∷◌, List, map, ℤ, Option, Some, None, length}
-use Rattle.chip_core.specs.Bits.{places}
-use Rattle.chip_core.specs.declared.sample.Sample.{Sample}
-use Rattle.frame_decoder.specs.TrafficFrames.{power_bit, group_sums}
-use Rattle.rake_finger.specs.Soft.{softs}
 use Rattle.heard_events.specs.Channels.{channel_stream}
 use Rattle.heard_events.specs.PagingStreams.{paging_bound}
 use Rattle.rake_finger.specs.Scrambled.{unscrambled}
-use Rattle.rake_finger.specs.Streams.{frame_end, frame_start, known_by}
 use Rattle.heard_events.specs.TrafficStreams.{replaced_in}
 use Rattle.heard_events.specs.Tuning.{Tuning}
 use Rattle.heard_events.specs.declared.channel.Channel.{Channel}
 use Rattle.heard_events.specs.declared.channel.Channel.TheVariants.{Paging, Traffic}
-use Rattle.heard_events.specs.declared.mark.Mark.{Mark}
 use Rattle.heard_events.specs.declared.soft_frame.PowerControl.{PowerControl}
 use Rattle.heard_events.specs.declared.soft_frame.SoftFrame.{SoftFrame}
 

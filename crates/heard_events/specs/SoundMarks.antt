@@ -1,7 +1,6 @@
 -- The marks after which channels are followed.
+use Rattle.heard_events.specs.Common.{IsState, Mark}
 use Rattle.std.specs.Prelude.{◌^◌, ◌<◌, ◌≤◌}
-use Rattle.long_code.specs.LongCode.{IsState}
-use Rattle.heard_events.specs.declared.mark.Mark.{Mark}
 
 -- The mark isn't far after a file, and lies after all that a finger may read too early; there the
 -- time has 36 bits, the long code has a state and the pilot a number.

@@ -1,7 +1,6 @@
 -- Messages as they are read: each with the capsule that spells it.
+use Rattle.heard_events.specs.Common.{PagingMessage, SyncFields}
 use Rattle.std.specs.Prelude.{Bool, List, Option, Some, None}
-use Rattle.paging_message.specs.declared.message.PagingMessage.{PagingMessage}
-use Rattle.sync_message.specs.declared.fields.SyncFields.{SyncFields}
 use Rattle.traffic_message.specs.Messages.{Message}
 use Rattle.heard_events.specs.declared.spelled.Spelled.{Spelled}
 

@@ -2,8 +2,8 @@
 use Rattle.std.specs.Prelude.{ℕ, ◌-◌, Bool, List}
 use Rattle.chip_core.specs.declared.sample.Sample.{Sample}
 use Rattle.frame_decoder.specs.Spans.{Channel, own_bits}
-use Rattle.rake_finger.specs.Streams as streams
 use Rattle.rake_finger.specs.Streams.{span_first, span_frames, span_softs}
+use Rattle.rake_finger.specs.Streams as streams
 
 -- frames of a channel, which are decoded as it is sent
 abbrev pub Stream : Type 0

@@ -1,17 +1,11 @@
 -- What is heard on the sync channel.
+use Rattle.heard_events.specs.Common.{places, CheckForm, Sample, piece, capsule_ending, SyncFields}
+use Rattle.heard_events.specs.Common.{is_in_file, known_now, Event, Sync}
 use Rattle.std.specs.Prelude.{ℕ, ◌+◌, Bool, List, [], ◌∷◌, map, filter, Option, Some, None}
 use Rattle.std.specs.List.{flat_map}
-use Rattle.chip_core.specs.Bits.{places}
-use Rattle.chip_core.specs.declared.check_form.CheckForm.{CheckForm}
-use Rattle.chip_core.specs.declared.sample.Sample.{Sample}
-use Rattle.quality_bits.specs.Pieces.{piece, capsule_ending}
 use Rattle.sync_message.specs.Reading.{sync_reading}
-use Rattle.sync_message.specs.declared.fields.SyncFields.{SyncFields}
-use Rattle.rake_finger.specs.Streams.{is_in_file, known_now}
 use Rattle.heard_events.specs.Streams.{frame_own_bits}
 use Rattle.heard_events.specs.Tuning.{Tuning, sync_stream, sync_bound}
-use Rattle.heard_events.specs.declared.event.Event.{Event}
-use Rattle.heard_events.specs.declared.event.Event.TheVariants.{Sync}
 use Rattle.heard_events.specs.SpelledMessages.{SpelledMessage, as_spelled, spelled_in}
 
 -- the frames in the file before frame `next`

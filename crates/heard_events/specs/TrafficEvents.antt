@@ -1,20 +1,10 @@
 -- What is heard on a traffic channel (TIA/EIA-95-B, 7.1.3.5), from the active pilots of each frame.
+use Rattle.heard_events.specs.Common.{places, Sample, power_bit, decoded, group_sums, Decoded, Data}
+use Rattle.heard_events.specs.Common.{softs, frame_softs, Event, Frame, Leg, Mark, Traffic}
 use Rattle.std.specs.Prelude.{ℕ, Bool, List, [], map, ℤ, Option, Some, None}
-use Rattle.chip_core.specs.Bits.{places}
-use Rattle.chip_core.specs.declared.sample.Sample.{Sample}
-use Rattle.frame_decoder.specs.TrafficFrames.{power_bit, decoded, group_sums}
-use Rattle.frame_decoder.specs.declared.traffic.Decoded.{Decoded}
-use Rattle.rake_finger.specs.Soft.{softs}
-use Rattle.rake_finger.specs.declared.form.Form.TheVariants.{Data}
 use Rattle.heard_events.specs.Legs.{all_fingers, on_subchannel, subchannels}
-use Rattle.rake_finger.specs.Streams.{frame_softs}
 use Rattle.heard_events.specs.TrafficStreams.{frames_now, replaced_in, stream_of, traffic_start}
 use Rattle.heard_events.specs.Tuning.{Tuning}
-use Rattle.heard_events.specs.declared.event.Event.{Event}
-use Rattle.heard_events.specs.declared.event.Event.TheVariants.{Frame}
-use Rattle.heard_events.specs.declared.leg.Leg.{Leg}
-use Rattle.heard_events.specs.declared.mark.Mark.{Mark}
-use Rattle.chip_core.specs.declared.assignment.Traffic.{Traffic}
 
 -- what is decoded of frame k, from its soft values as the scrambling turns them
 unfoldable pub decoded_at : Tuning → Traffic → Mark → (ℕ → List Leg) → List Sample → ℕ → Decoded

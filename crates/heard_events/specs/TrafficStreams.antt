@@ -1,20 +1,11 @@
 -- The frames of a traffic channel, from the mark on (TIA/EIA-95-B, 7.1.3.5).
+use Rattle.heard_events.specs.Common.{data_frame_chips, frame_offset_chips, places, paging_channel}
+use Rattle.heard_events.specs.Common.{after, traffic_mask, Finger, Data, power_places, scrambling}
+use Rattle.heard_events.specs.Common.{R9600, frame_start, is_in_file, known_at, Leg, Mark, Traffic}
 use Rattle.std.specs.Prelude.{ℕ, ◌+◌, ◌*◌, ◌/◌, ◌==◌, ◌&&◌, Bool, false, List, [], filter}
-use Rattle.chip_core.specs.Air.{data_frame_chips, frame_offset_chips}
-use Rattle.chip_core.specs.Bits.{places}
-use Rattle.frame_decoder.specs.Spans.{paging_channel}
-use Rattle.long_code.specs.LongCode.{after, traffic_mask}
-use Rattle.rake_finger.specs.declared.finger.Finger.{Finger}
-use Rattle.rake_finger.specs.declared.form.Form.TheVariants.{Data}
-use Rattle.symbol_path.specs.Scrambling.{power_places, scrambling}
-use Rattle.quality_bits.specs.declared.rate.Rate.TheVariants.{R9600}
 use Rattle.heard_events.specs.Legs.{all_fingers}
 use Rattle.heard_events.specs.Streams.{Stream}
-use Rattle.rake_finger.specs.Streams.{frame_start, is_in_file, known_at}
 use Rattle.heard_events.specs.Tuning.{Tuning}
-use Rattle.heard_events.specs.declared.leg.Leg.{Leg}
-use Rattle.heard_events.specs.declared.mark.Mark.{Mark}
-use Rattle.chip_core.specs.declared.assignment.Traffic.{Traffic}
 
 -- how many chips after the mark frame k begins: the channel's offset is in units of 1,536 chips
 abbrev pub chips_after : Traffic → ℕ → ℕ

@@ -1,17 +1,11 @@
 -- A file of 1,228,800 samples whose pilot has phase 64, as the checker computes it.
+use Rattle.heard_events.specs.Common.{places, Decoded, PagingMessage, Standing, R9600, SyncFields}
+use Rattle.heard_events.specs.Common.{is_in_file, known_at, span_frames, fingers_of, Mark, Traffic}
 use Rattle.std.specs.Prelude.{◌≡◌, refl, ℕ, Bool, true, false, List, [], ◌∷◌, map, replicate, ℤ}
 use Rattle.std.specs.Prelude.{pos, negsuc, Some, None}
-use Rattle.chip_core.specs.Bits.{places}
 use Rattle.chip_core.specs.declared.check_form.CheckForm.TheVariants.{Plain}
-use Rattle.frame_decoder.specs.declared.traffic.Decoded.{Decoded}
-use Rattle.paging_message.specs.declared.message.PagingMessage.{PagingMessage}
-use Rattle.paging_message.specs.declared.message.PagingMessage.TheVariants as pages
 use Rattle.pilot_sets.specs.PilotSets.{new_sets}
-use Rattle.pilot_sets.specs.Standing.{Standing}
-use Rattle.quality_bits.specs.declared.rate.Rate.TheVariants.{R9600}
-use Rattle.sync_message.specs.declared.fields.SyncFields.{SyncFields}
 use Rattle.traffic_message.specs.Multiplex.{split, split_9600}
-use Rattle.traffic_message.specs.declared.body.TrafficBody.TheVariants as bodies
 use Rattle.heard_events.specs.Marks.{marks_of, frames_with}
 use Rattle.heard_events.specs.Legs.{all_fingers, legs_of, subchannels}
 use Rattle.heard_events.specs.Events.{told_after}
@@ -21,13 +15,11 @@ use Rattle.heard_events.specs.Noted.{body_noted, moment_from, page_noted}
 use Rattle.heard_events.specs.PagingEvents.{pages_if_marked}
 use Rattle.heard_events.specs.PagingStreams.{paging_stream}
 use Rattle.heard_events.specs.Signaling.{signal_of}
-use Rattle.rake_finger.specs.Streams.{is_in_file, known_at, span_frames}
 use Rattle.heard_events.specs.TrafficStreams.{traffic_stream}
 use Rattle.heard_events.specs.Streams.{Stream}
 use Rattle.heard_events.specs.Tuning.{Tuning, sync_stream}
-use Rattle.rake_finger.specs.Paths.{fingers_of}
-use Rattle.heard_events.specs.declared.mark.Mark.{Mark}
-use Rattle.chip_core.specs.declared.assignment.Traffic.{Traffic}
+use Rattle.paging_message.specs.declared.message.PagingMessage.TheVariants as pages
+use Rattle.traffic_message.specs.declared.body.TrafficBody.TheVariants as bodies
 
 abbrev tuned : ℕ → List ℤ → Tuning
 tuned phase deltas = record {

@@ -2,8 +2,8 @@
 
 ghost use Rattle.std.specs.Prelude.{◌≡◌, ◌<◌, ◌≤◌, ◌+◌, ◌++◌, ◌∷◌, [], true, length, take};
 ghost use Rattle.rake_finger.specs.Near.{all_close, have_rows, is_close};
-ghost use Rattle.heard_events.specs.Close.{fingers_in, legs_close, legs_rows};
-ghost use Rattle.heard_events.specs.Close.{finger_places, places_in};
+ghost use Rattle.heard_events.specs.Close.{fingers_in, legs_close, legs_rows, finger_places};
+ghost use Rattle.heard_events.specs.Close.{places_in};
 ghost use Rattle.heard_events.specs.Legs.{all_fingers, leg_fingers};
 
 use crate::leg::Leg;

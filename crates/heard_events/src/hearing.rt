@@ -1,17 +1,16 @@
 //! What the pilot and capsules of the channels say, and frames of a traffic channel, as events.
 
-ghost use Rattle.std.specs.Prelude.{◌≡◌, ◌≤◌, [], ◌∷◌, ◌++◌, Some, false, Bool, List};
-ghost use Rattle.std.specs.Prelude.{length, map, IfSome};
+ghost use Rattle.heard_events.specs.Common.{Event as TheEvent, CapsuleStandsFor};
+ghost use Rattle.std.specs.Prelude.{◌≡◌, ◌≤◌, [], ◌∷◌, ◌++◌, Some, false, Bool, List, length, map};
+ghost use Rattle.std.specs.Prelude.{IfSome};
 ghost use Rattle.std.specs.List.{list_any};
 ghost use Rattle.std.specs.Option.{option_to_list};
 ghost use Rattle.heard_events.specs.Given.{at_of, event_list};
-ghost use Rattle.heard_events.specs.declared.event.Event.{Event as TheEvent};
 ghost use Rattle.heard_events.specs.Marks.{sets_mark};
 ghost use Rattle.heard_events.specs.PagingEvents.{page_event, page_in};
 ghost use Rattle.heard_events.specs.Signaling.{capsule_with, message_events, signal_in, signal_of};
 ghost use Rattle.heard_events.specs.SyncEvents.{events_of, heard_in};
 ghost use Rattle.heard_events.specs.TrafficEvents.{frame_event};
-ghost use Rattle.quality_bits.specs.Pieces.{CapsuleStandsFor};
 ghost use Rattle.quality_bits.specs.TrafficCodewords.{information_of};
 
 use crate::event::Event;

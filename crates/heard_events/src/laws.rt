@@ -1,8 +1,7 @@
 //! Laws of the definitions: each function does nothing, and its contract is the law.
 
+ghost use Rattle.heard_events.specs.Common.{Sample, decoded, frame_start, Mark, Traffic};
 ghost use Rattle.std.specs.Prelude.{◌≡◌, ◌≤◌, ℕ, List, length, take, Some};
-ghost use Rattle.chip_core.specs.declared.sample.Sample.{Sample};
-ghost use Rattle.frame_decoder.specs.TrafficFrames.{decoded};
 ghost use Rattle.heard_events.specs.Channels.{channel_stream};
 ghost use Rattle.heard_events.specs.Events.{events_within};
 ghost use Rattle.rake_finger.specs.FrameSamples.{AgreeIn};
@@ -10,13 +9,10 @@ ghost use Rattle.heard_events.specs.FramesAlone.{reference_alone, traffic_channe
 ghost use Rattle.heard_events.specs.Marks.{mark};
 ghost use Rattle.heard_events.specs.Near.{IsTuned};
 ghost use Rattle.heard_events.specs.SoftFrames.{frames_within, soft_frame};
-ghost use Rattle.rake_finger.specs.Streams.{frame_start};
 ghost use Rattle.heard_events.specs.TrafficEvents.{power_bits_at, decoded_at};
 ghost use Rattle.heard_events.specs.TrafficStreams.{replaced_in};
 ghost use Rattle.heard_events.specs.Tuning.{Tuning};
 ghost use Rattle.heard_events.specs.declared.channel.Channel.{Channel};
-ghost use Rattle.heard_events.specs.declared.mark.Mark.{Mark};
-ghost use Rattle.chip_core.specs.declared.assignment.Traffic.{Traffic};
 
 /// What a handset has heard by a sample doesn't depend on later samples: the events that end within
 /// the first n samples, and the mark that they set, are the same for all files with these first n

@@ -1,17 +1,13 @@
 //! The soft values of a traffic frame, over all fingers and by power control subchannels.
 
-ghost use Rattle.std.specs.Prelude.{◌≡◌, ◌<◌, ◌≤◌, ◌*◌, ◌^◌, List, true, take};
-ghost use Rattle.std.specs.Prelude.{map, sum_by, unsigned_abs};
+ghost use Rattle.heard_events.specs.Common.{Sample, summed_subchannels, HoldsLast, softs, Data};
+ghost use Rattle.std.specs.Prelude.{◌≡◌, ◌<◌, ◌≤◌, ◌*◌, ◌^◌, List, true, take, map, sum_by};
+ghost use Rattle.std.specs.Prelude.{unsigned_abs};
 ghost use Rattle.std.specs.List.{All};
 ghost use Rattle.std.specs.List.Sorted.{IsStrictlyIncreasing};
-ghost use Rattle.chip_core.specs.declared.sample.Sample.{Sample};
-ghost use Rattle.frame_decoder.specs.TrafficFrames.{summed_subchannels};
 ghost use Rattle.heard_events.specs.Legs.{all_fingers, has_subchannel, on_subchannel};
 ghost use Rattle.heard_events.specs.Legs.{subchannels as subchannels_of};
 ghost use Rattle.heard_events.specs.LegSofts.{IsHeldFrom, sums_on};
-ghost use Rattle.rake_finger.specs.Held.{HoldsLast};
-ghost use Rattle.rake_finger.specs.Soft.{softs};
-ghost use Rattle.rake_finger.specs.declared.form.Form.TheVariants.{Data};
 
 use crate::fingers::leg_fingers;
 use crate::legs::Legs;

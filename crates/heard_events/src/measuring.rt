@@ -1,15 +1,12 @@
 //! How strong the pilots of the sets are before an evaluation of the sets.
 
+ghost use Rattle.heard_events.specs.Common.{Sample, HoldsLast, HoldsBefore, modulo_code};
 ghost use Rattle.std.specs.Prelude.{◌≡◌, ◌<◌, ◌≤◌, List, unsigned_abs};
 ghost use Rattle.std.specs.List.{All};
-ghost use Rattle.chip_core.specs.declared.sample.Sample.{Sample};
 ghost use Rattle.heard_events.specs.Legs.{pilot_phase};
 ghost use Rattle.heard_events.specs.Moments.{pilot_strength, strengths_at};
 ghost use Rattle.heard_events.specs.SoundMarks.{IsSoundMark};
 ghost use Rattle.pilot_sets.specs.declared.strengths.Strength.{Strength as TheStrength};
-ghost use Rattle.rake_finger.specs.Held.{HoldsLast};
-ghost use Rattle.rake_finger.specs.InRing.{HoldsBefore};
-ghost use Rattle.rake_finger.specs.Paths.{modulo_code};
 
 use crate::mark::Mark;
 use chip_core::Phase;

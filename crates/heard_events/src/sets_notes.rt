@@ -1,10 +1,10 @@
 //! What a handset hears changes its pilot sets.
 
+ghost use Rattle.heard_events.specs.Common.{with_neighbors};
 ghost use Rattle.std.specs.Prelude.{◌≡◌, ◌<◌, ◌^◌};
-ghost use Rattle.heard_events.specs.Noted.{body_noted, noted_with, page_noted};
-ghost use Rattle.heard_events.specs.Noted.{in_traffic_thresholds, system_thresholds};
+ghost use Rattle.heard_events.specs.Noted.{body_noted, noted_with, page_noted, system_thresholds};
+ghost use Rattle.heard_events.specs.Noted.{in_traffic_thresholds};
 ghost use Rattle.paging_message.specs.Neighbors.{IsNeighborList};
-ghost use Rattle.pilot_sets.specs.Standing.{with_neighbors};
 
 use crate::event::Event;
 use paging_message::{NeighborFields, PagingMessage, SystemFields};

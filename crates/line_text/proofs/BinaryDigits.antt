@@ -1,8 +1,7 @@
 -- Power control bits as digits, one after another.
-use Rattle.std.proofs.Common.{◌≡◌, ℕ, ◌+◌, ◌<◌, Bool, false, List, [], ◌++◌, length, get_or, take, sym, ap, ◌∙◌, append-nil}
+use Rattle.line_text.proofs.Common.{◌≡◌, ℕ, ◌+◌, ◌<◌, Bool, false, List, [], ◌++◌, length, get_or, take, sym, ap, ◌∙◌, append-nil, digit_of}
+use Rattle.line_text.proofs.Common.{take_more, flat_map_more, digits_of}
 use Rattle.std.specs.List.{flat_map}
-use Rattle.std.proofs.lemmas.List.{take_more, flat_map_more}
-use Rattle.line_text.specs.Texts.{digit_of, digits_of}
 
 -- no digits yet
 pub no_digits : (before : List ℕ) (bits : List Bool) → before ≡ before ++ digits_of (take 0 bits)

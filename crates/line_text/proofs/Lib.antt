@@ -1,5 +1,5 @@
--- The modules of lemmas of `line_text`.
 mod BinaryDigits
+pub mod Common
 pub mod Digits
 pub mod Numerals
 pub mod StatedTexts

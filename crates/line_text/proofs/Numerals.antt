@@ -1,11 +1,9 @@
 -- A number has one spelling: the one that is printed.
-use Rattle.std.proofs.Common.{◌≡◌, ℕ, zero, suc, ◌+◌, ◌*◌, ◌-◌, ◌^◌, ◌<◌, ◌≤◌, ◌==◌, Bool, true, false, cond, not, List, [], ◌∷◌, length}
-use Rattle.std.proofs.Common.{get_or, refl, sym, ap, subst, ◌∙◌, arith, rules, Option, None, Some, decimal, ℤ}
-use Rattle.std.specs.Prelude.{pos, negsuc, FitsSigned, codes, nat_le, nat_lt, option_and_then, ◌↔◌}
+use Rattle.line_text.proofs.Common.{◌≡◌, ℕ, zero, suc, ◌+◌, ◌*◌, ◌-◌, ◌^◌, ◌<◌, ◌≤◌, ◌==◌, Bool, true, false, cond, not, List, [], ◌∷◌, sym}
+use Rattle.line_text.proofs.Common.{length, get_or, refl, ap, subst, ◌∙◌, arith, rules, Option, None, Some, decimal, ℤ, pos, negsuc, codes}
+use Rattle.line_text.proofs.Common.{FitsSigned, nat_le, nat_lt, option_and_then, ◌↔◌, w16, all_ascii_digits}
 use Rattle.std.specs.Fmt.{signed_decimal}
-use Rattle.std.specs.Int.{w16}
 use Rattle.std.specs.Char.{is_ascii_digit}
-use Rattle.std.specs.Str.{all_ascii_digits}
 use Rattle.std.proofs.lemmas.Bool.{cond-true, cond-false, eq-eqb, eqb-true, false≢true, le-leb, leb-true, ltb-true, ltb-false, not-true}
 use Rattle.std.proofs.lemmas.Bool.{and_parts}
 use Rattle.std.proofs.Math.Dec.{eqb-suc-zero}
@@ -13,8 +11,7 @@ use Rattle.std.proofs.lemmas.Str.Parse.{IsNumeralModel, numerals_by_fold}
 use Rattle.std.proofs.lemmas.Fmt.{decimal-digits_value, digits_decimal, digits_value-decimal, decimal_nonempty, first_decimal}
 use Rattle.std.proofs.lemmas.Fmt.{length-decimal-le}
 use Rattle.chip_core.specs.Decimals.{digits_from}
-use Rattle.line_text.specs.StatedValues.{text_after, is_plain, negative, number_in, number_up_to, positive, signed_after, signed_in}
-use Rattle.line_text.specs.StatedValues.{up_to}
+use Rattle.line_text.specs.StatedValues.{text_after, is_plain, negative, number_in, number_up_to, positive, signed_after, signed_in, up_to}
 
 -- the value of digits after a number
 abbrev pub read_on : ℕ → List ℕ → ℕ

@@ -1,12 +1,10 @@
 -- Lemmas on texts that state values: what each step of a loop over a text reads.
-use Rattle.std.proofs.Common.{◌≡◌, ◌≢◌, ℕ, suc, ◌+◌, ◌*◌, ◌^◌, ◌<◌, ◌≤◌, ◌==◌, Bool, true, false, List, [], ◌∷◌, ◌++◌, length, get_or}
-use Rattle.std.proofs.Common.{drop, take, refl, sym, ap, ◌∙◌, arith, append_assoc, length-append, None, Some}
-use Rattle.std.specs.Prelude.{flat_map, option_and_then}
+use Rattle.line_text.proofs.Common.{◌≡◌, ◌≢◌, ℕ, suc, ◌+◌, ◌*◌, ◌^◌, ◌<◌, ◌≤◌, ◌==◌, Bool, true, false, List, [], ◌∷◌, ◌++◌, length, get_or}
+use Rattle.line_text.proofs.Common.{drop, take, refl, sym, ap, ◌∙◌, arith, append_assoc, length-append, None, Some, flat_map, at_drop_more}
+use Rattle.line_text.proofs.Common.{option_and_then, drop_all, take_all, take_more_set, binary}
 use Rattle.std.proofs.Math.ListN.{set}
 use Rattle.std.proofs.lemmas.Bool.{cond-true, cond-false, eq-eqb, eqb-false, eqb-true, ne_eqb}
-use Rattle.std.proofs.lemmas.List.{at_drop_more, drop_all, take_all, take_more_set}
 use Rattle.std.proofs.Math.Nat.{pow-le-pow_right, pow-suc}
-use Rattle.chip_core.specs.Bits.{binary}
 use Rattle.chip_core.proofs.FieldLists.{length-binary}
 use Rattle.line_text.specs.StatedValues.{all_clear, binary_digit, power_bits_in, digits_after, hex_digit, hex_from, length_before}
 

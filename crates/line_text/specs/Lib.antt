@@ -1,3 +1,2 @@
--- The modules of definitions of `line_text`.
 pub mod StatedValues
 pub mod Texts

@@ -7,9 +7,9 @@ ghost use Rattle.chip_core.specs.Bits.{binary};
 ghost use Rattle.long_code.specs.LongCode.{IsState};
 ghost use Rattle.line_text.specs.StatedValues.{all_clear, begins_with, text_after, binary_digit};
 ghost use Rattle.line_text.specs.StatedValues.{bits_in_text, power_bits_in, serial_number_in};
-ghost use Rattle.line_text.specs.StatedValues.{hex_bits, hex_digit, hex_from, is_plain};
-ghost use Rattle.line_text.specs.StatedValues.{length_before, negative, number_in, number_up_to};
-ghost use Rattle.line_text.specs.StatedValues.{signed_in, state_in, unpadded};
+ghost use Rattle.line_text.specs.StatedValues.{hex_bits, hex_digit, hex_from, is_plain, negative};
+ghost use Rattle.line_text.specs.StatedValues.{length_before, number_in, number_up_to, signed_in};
+ghost use Rattle.line_text.specs.StatedValues.{state_in, unpadded};
 
 use chip_core::{Bits, PowerBits, digits_in};
 use long_code::State;

@@ -1,9 +1,9 @@
 -- What scores and columns of choices stand for: the codewords into a state, one after another.
-use Rattle.list_viterbi.proofs.Common.{◌≡◌, ℕ, zero, suc, ◌+◌, ◌*◌, ◌/◌, ◌%◌, ◌<◌, ◌≤◌, Bool, List, [], ◌∷◌, ◌++◌, length, get_or, map}
-use Rattle.list_viterbi.proofs.Common.{refl, sym, ap, subst, ◌∙◌, arith, ℤ, ◌+ℤ◌, nat_le, All, All-nil, All-cons, All-head, All-tail}
-use Rattle.list_viterbi.proofs.Common.{binary, low_bits, gain_by, lane_code_of, code_gains, Entry, entry_score, entry_extended_by}
-use Rattle.list_viterbi.proofs.Common.{list_from, list_into, Pick, pick_score, picks_from, picks_by, picks_into, pointer_of, HasChoices}
-use Rattle.list_viterbi.proofs.Common.{HasPicks, back_of, list_state_before, place_before, list_origin, list_path}
+use Rattle.list_viterbi.proofs.Common.{◌≡◌, ℕ, zero, suc, ◌+◌, ◌*◌, ◌/◌, ◌%◌, ◌<◌, ◌≤◌, Bool, List, [], ◌∷◌, ◌++◌, length, get_or, map, sym}
+use Rattle.list_viterbi.proofs.Common.{refl, ap, subst, ◌∙◌, arith, ℤ, ◌+ℤ◌, nat_le, All, All-nil, All-cons, All-head, All-tail, binary}
+use Rattle.list_viterbi.proofs.Common.{low_bits, gain_by, lane_code_of, code_gains, Entry, entry_score, entry_extended_by, list_from, Pick}
+use Rattle.list_viterbi.proofs.Common.{list_into, pick_score, picks_from, picks_by, picks_into, pointer_of, HasChoices, HasPicks, back_of}
+use Rattle.list_viterbi.proofs.Common.{list_state_before, place_before, list_origin, list_path}
 use Rattle.list_viterbi.proofs.Pairs.{Pairs, merge_pairs, merge_most}
 
 -- a place in a state's list leads back to the entry's codeword

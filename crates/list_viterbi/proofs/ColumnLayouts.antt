@@ -1,8 +1,8 @@
 -- The scores of all states by their places and by their states.
-use Rattle.list_viterbi.proofs.Common.{◌≡◌, ℕ, zero, suc, ◌+◌, ◌-◌, ◌<◌, List, [], ◌∷◌, length, get_or, set, refl, sym, ap, subst, ◌∙◌}
-use Rattle.list_viterbi.proofs.Common.{⊎_elim, arith, ℤ, pos, Some, Bool, true, false, slice_get, All, if◌then◌else◌, cases_lt}
-use Rattle.list_viterbi.proofs.Common.{get_or_from_slice_get, get_or-set_same, get_or-set_other, length-set, find_score, finds_from}
-use Rattle.list_viterbi.proofs.Common.{first_finds, merge, Find, four_of, column_of, ColumnValue, HasPicks, picks_into, true≢false}
+use Rattle.list_viterbi.proofs.Common.{◌≡◌, ℕ, zero, suc, ◌+◌, ◌-◌, ◌<◌, List, [], ◌∷◌, length, get_or, set, refl, sym, ap, subst, ◌∙◌, ℤ}
+use Rattle.list_viterbi.proofs.Common.{⊎_elim, arith, pos, Some, Bool, true, false, slice_get, All, if◌then◌else◌, cases_lt, length-set}
+use Rattle.list_viterbi.proofs.Common.{get_or_from_slice_get, get_or-set_same, get_or-set_other, find_score, finds_from, first_finds, merge}
+use Rattle.list_viterbi.proofs.Common.{Find, four_of, column_of, ColumnValue, HasPicks, picks_into, true≢false}
 use Rattle.list_viterbi.proofs.LanePuts.{four_are, read_at}
 use Rattle.list_viterbi.proofs.LanePicks.{column_read}
 

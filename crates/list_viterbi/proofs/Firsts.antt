@@ -1,6 +1,6 @@
 -- The first codewords of a kind, one after another, and that there is one such list.
-use Rattle.list_viterbi.proofs.Common.{◌≡◌, ℕ, zero, suc, ◌<◌, List, [], ◌∷◌, length, refl, sym, ap, subst, ◌∙◌, arith, get_or, ℤ, ◌⊎◌}
-use Rattle.list_viterbi.proofs.Common.{⊎_elim, inl, inr, All, AllPairs, Contains, ints, All-nil, All-cons, All-head, All-tail, All-contains}
+use Rattle.list_viterbi.proofs.Common.{◌≡◌, ℕ, zero, suc, ◌<◌, List, [], ◌∷◌, length, refl, sym, ap, subst, ◌∙◌, arith, get_or, ℤ, ◌⊎◌, inl}
+use Rattle.list_viterbi.proofs.Common.{⊎_elim, inr, All, AllPairs, Contains, ints, All-nil, All-cons, All-head, All-tail, All-contains}
 use Rattle.list_viterbi.proofs.Common.{AllPairs-cons, Codeword, rank, IsBetter, leads_trans, AreFirst}
 
 -- THE ORDER

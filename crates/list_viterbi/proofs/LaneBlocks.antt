@@ -1,8 +1,8 @@
 -- Two blocks of two states are put, and all else stays.
-use Rattle.list_viterbi.proofs.Common.{◌≡◌, ℕ, ◌+◌, ◌*◌, ◌/◌, ◌%◌, ◌^◌, ◌<◌, ◌≤◌, ◌⊎◌, inl, inr, ⊎_elim, List, [], ◌∷◌, length, get_or}
-use Rattle.list_viterbi.proofs.Common.{refl, sym, subst, ◌∙◌, arith, ℤ, pos, ◌+ℤ◌, ◌-ℤ◌, unsigned_abs, w64, ints, fits_signed_from_abs}
-use Rattle.list_viterbi.proofs.Common.{cases_lt, length-set, Each2, Fit, Heads, Pick, picks_by, HasPicks, HeadsLong, four_scores}
-use Rattle.list_viterbi.proofs.Common.{four_choices, two_from, heads_from, put_heads, put_choices, four_of, made_heads, column_of}
+use Rattle.list_viterbi.proofs.Common.{◌≡◌, ℕ, ◌+◌, ◌*◌, ◌/◌, ◌%◌, ◌^◌, ◌<◌, ◌≤◌, ◌⊎◌, inl, inr, ⊎_elim, List, [], ◌∷◌, length, get_or, sym}
+use Rattle.list_viterbi.proofs.Common.{refl, subst, ◌∙◌, arith, ℤ, pos, ◌+ℤ◌, ◌-ℤ◌, unsigned_abs, w64, ints, fits_signed_from_abs, cases_lt}
+use Rattle.list_viterbi.proofs.Common.{length-set, Each2, Fit, Heads, Pick, picks_by, HasPicks, HeadsLong, four_scores, four_choices}
+use Rattle.list_viterbi.proofs.Common.{two_from, heads_from, put_heads, put_choices, four_of, made_heads, column_of}
 use Rattle.list_viterbi.proofs.LaneMerges.{scores_long}
 use Rattle.list_viterbi.proofs.LanePuts.{heads_put, put_read, put_others, choices_read, choices_others}
 use Rattle.list_viterbi.proofs.LanePicks.{made_long, block_picks}

@@ -1,6 +1,6 @@
 -- What a bit adds for two states, and for the two 128 on.
-use Rattle.list_viterbi.proofs.Common.{◌≡◌, ℕ, zero, suc, ◌+◌, ◌-◌, ◌*◌, ◌/◌, ◌%◌, ◌<◌, Bool, true, false, List, get_or, refl, sym, ap}
-use Rattle.list_viterbi.proofs.Common.{subst, ◌∙◌, ⊎_elim, arith, ℤ, pos, ◌-ℤ◌, nat_eq, list_all, range_with_len, ints, cases_eq, cases_lt}
+use Rattle.list_viterbi.proofs.Common.{◌≡◌, ℕ, zero, suc, ◌+◌, ◌-◌, ◌*◌, ◌/◌, ◌%◌, ◌<◌, Bool, true, false, List, get_or, refl, sym, ap, ◌∙◌}
+use Rattle.list_viterbi.proofs.Common.{subst, ⊎_elim, arith, ℤ, pos, ◌-ℤ◌, nat_eq, list_all, range_with_len, ints, cases_eq, cases_lt}
 use Rattle.list_viterbi.proofs.Common.{nat_tests, list_all_at, get_or-range_with_len, length-range_with_len, lane_codes, patterns, gain_by}
 use Rattle.list_viterbi.proofs.Common.{lane_code_of, HasPicks, picks_by, picks_into, four_of, column_of, PairPicked, true≢false}
 

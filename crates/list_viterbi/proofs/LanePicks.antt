@@ -1,8 +1,8 @@
 -- Four turns of a lane are the picks into its state.
-use Rattle.list_viterbi.proofs.Common.{◌≡◌, ℕ, zero, suc, ◌+◌, ◌*◌, ◌%◌, ◌<◌, List, [], ◌∷◌, length, get_or, refl, sym, ap, subst, ◌∙◌}
-use Rattle.list_viterbi.proofs.Common.{arith, ℤ, pos, ◌+ℤ◌, ◌-ℤ◌, unsigned_abs, get_or-map-range_with_len, length-zip2, merge, pick_score}
-use Rattle.list_viterbi.proofs.Common.{picks_from, picks_by, HasPicks, turned_scores, turned_choices, HeadsLong, lane_of, lane_sum}
-use Rattle.list_viterbi.proofs.Common.{four_scores, four_choices, heads_from, made_heads, two_from, four_of, column_of}
+use Rattle.list_viterbi.proofs.Common.{◌≡◌, ℕ, zero, suc, ◌+◌, ◌*◌, ◌%◌, ◌<◌, List, [], ◌∷◌, length, get_or, refl, sym, ap, subst, ◌∙◌, ℤ}
+use Rattle.list_viterbi.proofs.Common.{arith, pos, ◌+ℤ◌, ◌-ℤ◌, unsigned_abs, get_or-map-range_with_len, length-zip2, merge, pick_score}
+use Rattle.list_viterbi.proofs.Common.{picks_from, picks_by, HasPicks, turned_scores, turned_choices, HeadsLong, lane_of, lane_sum, four_of}
+use Rattle.list_viterbi.proofs.Common.{four_scores, four_choices, heads_from, made_heads, two_from, column_of}
 use Rattle.list_viterbi.proofs.LaneTurns.{lane_scores, lane_choices}
 use Rattle.list_viterbi.proofs.Turns.{AreSums, sum_at, all_turns}
 

@@ -1,8 +1,8 @@
 -- What is put into a column of scores or of choices stands there, and all else stays.
 use Rattle.list_viterbi.proofs.Common.{◌≡◌, ℕ, zero, suc, ◌+◌, ◌<◌, ◌≤◌, ◌⊎◌, inl, inr, ⊎_elim, List, [], ◌∷◌, length, get_or, set, ap, ◌∙◌}
-use Rattle.list_viterbi.proofs.Common.{arith, ℤ, pos, unsigned_abs, get_or-set_same, get_or-set_other, length-set, length-put_chunk}
-use Rattle.list_viterbi.proofs.Common.{get_or-put_chunk_below, get_or-put_chunk_above, get_or-put_chunk_at, put_chunk, Heads, HeadsLong}
-use Rattle.list_viterbi.proofs.Common.{lane_of, lane_sum, put_heads, put_choices, four_of}
+use Rattle.list_viterbi.proofs.Common.{arith, ℤ, pos, unsigned_abs, get_or-set_same, get_or-set_other, length-set, length-put_chunk, Heads}
+use Rattle.list_viterbi.proofs.Common.{get_or-put_chunk_below, get_or-put_chunk_above, get_or-put_chunk_at, put_chunk, HeadsLong, lane_of}
+use Rattle.list_viterbi.proofs.Common.{lane_sum, put_heads, put_choices, four_of}
 
 pub read_at : (column : List ℤ) (i j : ℕ) → i ≡ j → get_or column i (pos 0) ≡ get_or column j (pos 0)
 read_at column i j e = ap (λ (n : ℕ). get_or column n (pos 0)) e

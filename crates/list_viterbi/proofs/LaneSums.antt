@@ -1,8 +1,8 @@
 -- Sums of small weights on lanes.
 use Rattle.list_viterbi.proofs.Common.{◌≡◌, ℕ, zero, suc, ◌*◌, ◌<◌, ◌≤◌, List, [], ◌∷◌, length, get_or, sym, ap, subst, ◌∙◌, arith, ℤ, pos}
-use Rattle.list_viterbi.proofs.Common.{◌+ℤ◌, ◌≤ℤ◌, unsigned_abs, FitsSigned, Fits, Fits-le, Fits-lit, w64, w32, to_z, of_z, ints}
-use Rattle.list_viterbi.proofs.Common.{fits_signed_from_abs, to_z-of_z, get_or-zip2, length-zip2, Each1, Each2, zip2, non_neg, yes_non_neg}
-use Rattle.list_viterbi.proofs.Common.{T, Fit, kept, passed, Heads, HeadsLong, AreWeights, IsWeight, lane_sum}
+use Rattle.list_viterbi.proofs.Common.{◌+ℤ◌, ◌≤ℤ◌, unsigned_abs, FitsSigned, Fits, Fits-le, Fits-lit, w64, w32, to_z, of_z, ints, to_z-of_z}
+use Rattle.list_viterbi.proofs.Common.{fits_signed_from_abs, get_or-zip2, length-zip2, Each1, Each2, zip2, non_neg, yes_non_neg, T, Fit}
+use Rattle.list_viterbi.proofs.Common.{kept, passed, Heads, HeadsLong, AreWeights, IsWeight, lane_sum}
 
 -- numbers from 0 to a most
 abbrev pub UpTo : ℕ → ℤ → Type 0

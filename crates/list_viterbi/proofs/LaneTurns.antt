@@ -1,7 +1,7 @@
 -- Each of two lanes has the scores and the choices of its own turns.
-use Rattle.list_viterbi.proofs.Common.{◌≡◌, ℕ, zero, suc, ◌+◌, ◌*◌, ◌<◌, Bool, true, false, List, [], ◌∷◌, length, get_or, refl, sym, ap}
-use Rattle.list_viterbi.proofs.Common.{subst, arith, ℤ, pos, ◌+ℤ◌, digit, taken_of, Heads, turned_scores, turned_choices, HeadsLong}
-use Rattle.list_viterbi.proofs.Common.{lane_of, lane_sum, four_scores, four_choices}
+use Rattle.list_viterbi.proofs.Common.{◌≡◌, ℕ, zero, suc, ◌+◌, ◌*◌, ◌<◌, Bool, true, false, List, [], ◌∷◌, length, get_or, refl, sym, ap, ℤ}
+use Rattle.list_viterbi.proofs.Common.{subst, arith, pos, ◌+ℤ◌, digit, taken_of, Heads, turned_scores, turned_choices, HeadsLong, lane_of}
+use Rattle.list_viterbi.proofs.Common.{lane_sum, four_scores, four_choices}
 use Rattle.list_viterbi.proofs.LaneChoices.{heads_of}
 
 abbrev pub pair_of : List ℤ → List ℤ

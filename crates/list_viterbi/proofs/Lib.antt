@@ -1,4 +1,3 @@
--- The modules of lemmas of `list_viterbi`.
 pub mod Common
 pub mod Firsts
 pub mod Merges

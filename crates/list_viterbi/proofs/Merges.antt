@@ -1,8 +1,8 @@
 -- The merge of the first codewords of two kinds, and one bit more.
-use Rattle.list_viterbi.proofs.Common.{◌≡◌, ℕ, zero, suc, ◌<◌, ◌≤◌, Bool, true, false, List, [], ◌∷◌, ◌++◌, length, map, refl, sym, ap}
-use Rattle.list_viterbi.proofs.Common.{subst, ◌∙◌, arith, ℤ, ◌+ℤ◌, ◌<ℤ◌, ◌≤ℤ◌, ◌⊎◌, ⊎_elim, inl, inr, int_lt, if◌then◌else◌, tested}
-use Rattle.list_viterbi.proofs.Common.{untested, Codeword, rank, score_of, IsBetter, pushed, Either, IsPushed, leads_both, rank_of-pushed}
-use Rattle.list_viterbi.proofs.Common.{stays_first, Entry, codeword_of, entry_score, entry_extended_by, merge}
+use Rattle.list_viterbi.proofs.Common.{◌≡◌, ℕ, zero, suc, ◌<◌, ◌≤◌, Bool, true, false, List, [], ◌∷◌, ◌++◌, length, map, refl, sym, ap, ◌∙◌}
+use Rattle.list_viterbi.proofs.Common.{subst, arith, ℤ, ◌+ℤ◌, ◌<ℤ◌, ◌≤ℤ◌, ◌⊎◌, ⊎_elim, inl, inr, int_lt, if◌then◌else◌, tested, untested}
+use Rattle.list_viterbi.proofs.Common.{Codeword, rank, score_of, IsBetter, pushed, Either, IsPushed, leads_both, rank_of-pushed, Entry}
+use Rattle.list_viterbi.proofs.Common.{stays_first, codeword_of, entry_score, entry_extended_by, merge}
 use Rattle.list_viterbi.proofs.Firsts.{After, IsHead, Firsts, same_firsts, better_trans, not_self}
 
 -- each entry has its codeword's score

@@ -1,6 +1,6 @@
 -- Picks out of lists of scores, and how many were taken.
-use Rattle.list_viterbi.proofs.Common.{◌≡◌, ℕ, zero, suc, ◌+◌, ◌*◌, ◌^◌, ◌<◌, ◌≤◌, Bool, true, false, List, [], ◌∷◌, ◌++◌, length, map}
-use Rattle.list_viterbi.proofs.Common.{drop, get_or, refl, sym, ap, subst, ◌∙◌, arith, ℤ, pos, ◌+ℤ◌, Some, length-append, slice_get, int_lt}
+use Rattle.list_viterbi.proofs.Common.{◌≡◌, ℕ, zero, suc, ◌+◌, ◌*◌, ◌^◌, ◌<◌, ◌≤◌, Bool, true, false, List, [], ◌∷◌, ◌++◌, length, map, sym}
+use Rattle.list_viterbi.proofs.Common.{drop, get_or, refl, ap, subst, ◌∙◌, arith, ℤ, pos, ◌+ℤ◌, Some, length-append, slice_get, int_lt}
 use Rattle.list_viterbi.proofs.Common.{slice_get-get_or, map-append, length-map, digit, taken_of, second_is_next, merge, Pick, pick_score}
 use Rattle.list_viterbi.proofs.Common.{picks_from, ones_below, HasChoices, HasPicks}
 use Rattle.list_viterbi.proofs.Walks.{IsPart, second_over, second_only, second_by_score, second_has, took_first, took_second, took_none}

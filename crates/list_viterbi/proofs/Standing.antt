@@ -1,10 +1,9 @@
 -- Scores and columns of choices stand for the lists of the first codewords into each state.
-use Rattle.list_viterbi.proofs.Common.{◌≡◌, ℕ, suc, ◌+◌, ◌*◌, ◌^◌, ◌<◌, ◌≤◌, Bool, true, false, List, [], ◌∷◌, length, get_or, map, set}
-use Rattle.list_viterbi.proofs.Common.{take, refl, sym, subst, ◌∙◌, arith, ℤ, pos, unsigned_abs, nat_eq, if◌then◌else◌, All, false≢true}
-use Rattle.list_viterbi.proofs.Common.{reverse_bits_onto, range_with_len, sum_by, get_or-set_same, get_or-set_other, get_or-take}
-use Rattle.list_viterbi.proofs.Common.{get_or-map-range_with_len, low_bits, HasStart, Ends, Zero, Free, binary-turned, Into, zero_start}
-use Rattle.list_viterbi.proofs.Common.{Entry, list_into, EntriesStart, picks_into, HasPicks, starts_at, start_scores, list_origin}
-use Rattle.list_viterbi.proofs.Common.{list_path}
+use Rattle.list_viterbi.proofs.Common.{◌≡◌, ℕ, suc, ◌+◌, ◌*◌, ◌^◌, ◌<◌, ◌≤◌, Bool, true, false, List, [], ◌∷◌, length, get_or, map, set, ℤ}
+use Rattle.list_viterbi.proofs.Common.{take, refl, sym, subst, ◌∙◌, arith, pos, unsigned_abs, nat_eq, if◌then◌else◌, All, false≢true, Ends}
+use Rattle.list_viterbi.proofs.Common.{reverse_bits_onto, range_with_len, sum_by, get_or-set_same, get_or-set_other, get_or-take, low_bits}
+use Rattle.list_viterbi.proofs.Common.{get_or-map-range_with_len, HasStart, Zero, Free, binary-turned, Into, zero_start, Entry, list_into}
+use Rattle.list_viterbi.proofs.Common.{EntriesStart, picks_into, HasPicks, starts_at, start_scores, list_origin, list_path}
 use Rattle.list_viterbi.proofs.Merges.{Lists}
 use Rattle.list_viterbi.proofs.Steps.{Listed, listed_start, list_into_lists}
 use Rattle.list_viterbi.proofs.Rooms.{rooms}

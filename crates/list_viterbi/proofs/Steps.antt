@@ -1,12 +1,11 @@
 -- From the lists after some bits to those after one bit more.
 use Rattle.list_viterbi.proofs.Common.{◌≡◌, ℕ, zero, suc, ◌+◌, ◌*◌, ◌%◌, ◌<◌, ◌≤◌, Bool, true, false, List, [], ◌∷◌, ◌++◌, length, get_or}
-use Rattle.list_viterbi.proofs.Common.{refl, sym, ap, subst, ◌∙◌, arith, ℤ, inl, digit, binary, state_after, length-binary}
-use Rattle.list_viterbi.proofs.Common.{state_after-none, Codeword, score_of, IsBetter, HasStart, IsAllowed, low_bits, gain_of, end_count}
-use Rattle.list_viterbi.proofs.Common.{Ends, codewords_same, From, Into, before_below, first_soft, from_states, joined_long, newest_bit}
-use Rattle.list_viterbi.proofs.Common.{pushed_score, second_soft, seven_bits, state_parts, to_state, zero_first, IntoBelow, allowed_into}
-use Rattle.list_viterbi.proofs.Common.{below_first, below_or_last, into_allowed, more_below, no_bits, score-none, Entry, codeword_of}
-use Rattle.list_viterbi.proofs.Common.{list_from, list_into, first_lists, EntriesStart}
-use Rattle.viterbi.proofs.Steps.{state_before}
+use Rattle.list_viterbi.proofs.Common.{refl, sym, ap, subst, ◌∙◌, arith, ℤ, inl, digit, binary, state_after, length-binary, Codeword, Ends}
+use Rattle.list_viterbi.proofs.Common.{state_after-none, score_of, IsBetter, HasStart, IsAllowed, low_bits, gain_of, end_count, From, Into}
+use Rattle.list_viterbi.proofs.Common.{codewords_same, before_below, first_soft, from_states, joined_long, newest_bit, pushed_score, Entry}
+use Rattle.list_viterbi.proofs.Common.{second_soft, seven_bits, state_parts, to_state, zero_first, IntoBelow, allowed_into, below_first}
+use Rattle.list_viterbi.proofs.Common.{below_or_last, into_allowed, more_below, no_bits, score-none, codeword_of, list_from, list_into}
+use Rattle.list_viterbi.proofs.Common.{first_lists, EntriesStart, state_before}
 use Rattle.list_viterbi.proofs.Firsts.{After, not_self}
 use Rattle.list_viterbi.proofs.Merges.{Lists, same_lists, merge_lists, extended_lists}
 

@@ -1,7 +1,6 @@
 -- One step back along the columns.
-use Rattle.list_viterbi.proofs.Common.{◌≡◌, ℕ, suc, ◌+◌, ◌<◌, ◌≤◌, Bool, List, [], ◌∷◌, ◌++◌, length, drop, set, refl, sym, arith}
-use Rattle.list_viterbi.proofs.Common.{append_assoc, append-nil, nat_le, drop-set, drop_all, list_state_before, place_before, list_origin}
-use Rattle.list_viterbi.proofs.Common.{list_path}
+use Rattle.list_viterbi.proofs.Common.{list_state_before, append_assoc, place_before, list_origin, append-nil, list_path, drop-set, length}
+use Rattle.list_viterbi.proofs.Common.{drop_all, nat_le, arith, Bool, List, ◌++◌, drop, refl, ◌≡◌, suc, ◌+◌, ◌<◌, ◌≤◌, ◌∷◌, set, sym, [], ℕ}
 
 pub origin-back : (columns : List (List ℕ)) (n j t place before rank : ℕ) → n ≡ suc j →
     before ≡ list_state_before columns j t place → rank ≡ place_before columns j t place →

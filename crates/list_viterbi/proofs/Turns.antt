@@ -1,6 +1,6 @@
 -- Turns make the picks.
-use Rattle.list_viterbi.proofs.Common.{◌≡◌, ℕ, zero, suc, ◌+◌, ◌-◌, ◌*◌, ◌^◌, ◌<◌, ◌≤◌, Bool, true, false, List, [], ◌∷◌, ◌++◌, length}
-use Rattle.list_viterbi.proofs.Common.{get_or, refl, sym, ap, subst, ◌∙◌, arith, ℤ, pos, ◌+ℤ◌, int_lt, digit, taken_of, merge, pick_score}
+use Rattle.list_viterbi.proofs.Common.{◌≡◌, ℕ, zero, suc, ◌+◌, ◌-◌, ◌*◌, ◌^◌, ◌<◌, ◌≤◌, Bool, true, false, List, [], ◌∷◌, ◌++◌, length, sym}
+use Rattle.list_viterbi.proofs.Common.{get_or, refl, ap, subst, ◌∙◌, arith, ℤ, pos, ◌+ℤ◌, int_lt, digit, taken_of, merge, pick_score}
 use Rattle.list_viterbi.proofs.Common.{picks_from, HasPicks, even_left, odd_left, odd_first, greater_head, turned_scores, turned_choices}
 use Rattle.list_viterbi.proofs.Common.{append-nil, append_assoc, digit_le}
 use Rattle.list_viterbi.proofs.Masks.{weight_next}

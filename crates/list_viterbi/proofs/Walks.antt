@@ -1,7 +1,7 @@
 -- A merge, one element after another.
-use Rattle.list_viterbi.proofs.Common.{◌≡◌, ℕ, zero, suc, ◌+◌, ◌<◌, ◌≤◌, true, false, List, [], ◌∷◌, ◌++◌, length, map, take, drop, refl}
-use Rattle.list_viterbi.proofs.Common.{sym, ap, ◌∙◌, arith, ℤ, Some, append_assoc, append-nil, int_lt, slice_get, drop_more, drop_all}
-use Rattle.list_viterbi.proofs.Common.{take_more, map-append, get_or_from_slice_get, second_is_next, merge, left_at, true≢false}
+use Rattle.list_viterbi.proofs.Common.{◌≡◌, ℕ, zero, suc, ◌+◌, ◌<◌, ◌≤◌, true, false, List, [], ◌∷◌, ◌++◌, length, map, take, drop, refl, ℤ}
+use Rattle.list_viterbi.proofs.Common.{sym, ap, ◌∙◌, arith, Some, append_assoc, append-nil, int_lt, slice_get, drop_more, drop_all, merge}
+use Rattle.list_viterbi.proofs.Common.{take_more, map-append, get_or_from_slice_get, second_is_next, left_at, true≢false}
 
 pub second_over : {A : Type 0} (f : A → ℤ) (xs ys : List A) (i j : ℕ) → length ys ≤ j →
     second_is_next f (drop i xs) (drop j ys) ≡ false

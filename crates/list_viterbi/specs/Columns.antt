@@ -1,6 +1,6 @@
 -- Columns of choices, and the codewords that they lead back to.
-use Rattle.std.specs.Prelude.{ℕ, zero, suc, ◌+◌, ◌*◌, ◌/◌, ◌%◌, Bool, true, List, [], ◌∷◌, ◌++◌}
-use Rattle.std.specs.Prelude.{length, get_or, ℤ, pos, nat_le, nat_eq, if◌then◌else◌}
+use Rattle.std.specs.Prelude.{ℕ, zero, suc, ◌+◌, ◌*◌, ◌/◌, ◌%◌, Bool, true, List, [], ◌∷◌, ◌++◌, ℤ}
+use Rattle.std.specs.Prelude.{length, get_or, pos, nat_le, nat_eq, if◌then◌else◌}
 use Rattle.std.specs.Int.{reverse_bits_onto}
 use Rattle.viterbi.specs.declared.codeword.Ends.{Ends}
 use Rattle.viterbi.specs.declared.codeword.Ends.TheVariants.{Zero, Free}

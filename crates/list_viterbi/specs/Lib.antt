@@ -1,4 +1,3 @@
--- The modules of definitions of `list_viterbi`.
 pub mod First
 pub mod Laws
 pub mod Merging

@@ -1,6 +1,6 @@
 -- The first codewords of one bit more, by their scores and where they come from alone.
-use Rattle.std.specs.Prelude.{ℕ, zero, suc, ◌+◌, ◌-◌, ◌*◌, ◌%◌, ◌^◌, ◌≤◌, ◌≡◌, List, [], ◌∷◌}
-use Rattle.std.specs.Prelude.{get_or, map, ℤ, pos, ◌+ℤ◌, ◌-ℤ◌, unsigned_abs, if◌then◌else◌}
+use Rattle.std.specs.Prelude.{ℕ, zero, suc, ◌+◌, ◌-◌, ◌*◌, ◌%◌, ◌^◌, ◌≤◌, ◌≡◌, List, [], ◌∷◌, map}
+use Rattle.std.specs.Prelude.{get_or, ℤ, pos, ◌+ℤ◌, ◌-ℤ◌, unsigned_abs, if◌then◌else◌}
 use Rattle.chip_core.specs.Bits.{bit_of, digit}
 use Rattle.viterbi.specs.Lanes.{gain_by, lane_code_of}
 use Rattle.list_viterbi.specs.Merging.{merge}

@@ -1,7 +1,7 @@
 //! The scores of the first codewords into all states, after so many bits.
 
-ghost use Rattle.std.specs.Prelude.{◌≡◌, ◌<◌, ◌≤◌, ◌+◌, ◌^◌, ℕ, [], length, get_or, vec_len};
-ghost use Rattle.std.specs.Prelude.{unsigned_abs, All, IfOk};
+ghost use Rattle.std.specs.Prelude.{◌≡◌, ◌<◌, ◌≤◌, ◌+◌, ◌^◌, ℕ, [], length, get_or, vec_len, All};
+ghost use Rattle.std.specs.Prelude.{unsigned_abs, IfOk};
 ghost use Rattle.viterbi.specs.Survivors.{end_count};
 ghost use Rattle.list_viterbi.specs.Picks.{HasPicks, picks_into};
 ghost use Rattle.list_viterbi.specs.Columns.{starts_at, start_scores, first_finds};

@@ -4,8 +4,8 @@
 //! second, and so on. States `2 * b` and `2 * b + 1` are reached from the four states from `4 * b`
 //! on, and so are those 128 on.
 
-ghost use Rattle.std.specs.Prelude.{◌≡◌, ◌<◌, ◌≤◌, ◌+◌, ◌*◌, ◌^◌, ◌+ℤ◌, ◌-ℤ◌, ℕ, [], int_lt};
-ghost use Rattle.std.specs.Prelude.{length, get_or, pos, replicate, true, unsigned_abs, FitsSigned};
+ghost use Rattle.std.specs.Prelude.{◌≡◌, ◌<◌, ◌≤◌, ◌+◌, ◌*◌, ◌^◌, ◌+ℤ◌, ◌-ℤ◌, ℕ, [], int_lt, pos};
+ghost use Rattle.std.specs.Prelude.{length, get_or, replicate, true, unsigned_abs, FitsSigned};
 ghost use Rattle.std.specs.Int.{w64};
 ghost use lib.Lanes.{Each2, zip2, put_chunk};
 ghost use Rattle.viterbi.specs.Lanes.{Fit};

@@ -1,7 +1,7 @@
 //! The first codewords of one bit more, from the scores of the two states before.
 
-ghost use Rattle.std.specs.Prelude.{◌≡◌, ◌<◌, ◌≤◌, ◌+◌, ◌*◌, ◌^◌, ◌+ℤ◌, ℕ, [], length, get_or};
-ghost use Rattle.std.specs.Prelude.{drop, pos, unsigned_abs, int_lt, All};
+ghost use Rattle.std.specs.Prelude.{◌≡◌, ◌<◌, ◌≤◌, ◌+◌, ◌*◌, ◌^◌, ◌+ℤ◌, ℕ, [], length, get_or, pos};
+ghost use Rattle.std.specs.Prelude.{drop, unsigned_abs, int_lt, All};
 ghost use Rattle.chip_core.specs.Bits.{digit};
 ghost use Rattle.viterbi.specs.Columns.{taken_of};
 ghost use Rattle.list_viterbi.specs.Merging.{second_is_next, merge};

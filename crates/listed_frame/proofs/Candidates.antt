@@ -1,18 +1,9 @@
 -- The candidates of the formats.
-use Rattle.std.proofs.Common.{◌≡◌, ℕ, ◌<◌, Bool, true, false, List, [], ◌∷◌, length, map, take, get_or, refl, sym, ap, subst}
-use Rattle.std.proofs.Common.{◌∙◌, arith, ℤ, Option, None, Some}
-use Rattle.std.specs.Prelude.{cond, All, slice_get}
-use Rattle.std.specs.List.{find}
+use Rattle.listed_frame.proofs.Common.{◌≡◌, ℕ, ◌<◌, Bool, true, false, List, [], ◌∷◌, length, map, take, get_or, refl, sym, ap, subst, ◌∙◌}
+use Rattle.listed_frame.proofs.Common.{arith, ℤ, Option, None, Some, cond, All, slice_get, find, Rate, Codeword, FrameFormat, DecodedFrame}
+use Rattle.listed_frame.proofs.Common.{bits_in, score_in, codeword_in, is_right, frame_in, candidate_of, codeword_of, Entry, codewords_in}
 use Rattle.std.specs.Option.{option_map, unwrap_or}
 use Rattle.std.proofs.lemmas.List.Elements.{All-head, All-tail}
-use Rattle.quality_bits.specs.declared.rate.Rate.{Rate}
-use Rattle.viterbi.specs.Codewords.{Codeword}
-use Rattle.quality_bits.specs.declared.format.FrameFormat.{FrameFormat}
-use Rattle.frame_decoder.specs.declared.formats.DecodedFrame.{DecodedFrame}
-use Rattle.frame_decoder.specs.Formats.{bits_in, score_in, codeword_in, is_right, frame_in, candidate_of}
-use Rattle.list_viterbi.specs.First.{codeword_of}
-use Rattle.list_viterbi.specs.declared.codewords.Entry.{Entry}
-use Rattle.listed_frame.specs.ListedFrames.{codewords_in}
 use Rattle.listed_frame.proofs.FirstCodewords.{best_first}
 
 -- ---- from the listed codewords to the definition's

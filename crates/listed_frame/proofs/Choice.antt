@@ -1,18 +1,9 @@
 -- The frame that the code chooses is the definition's, and with one codeword that of the best codewords.
-use Rattle.std.proofs.Common.{◌≡◌, ℕ, ◌<◌, List, [], ◌∷◌, ◌++◌, map, refl, ap, ◌∙◌, ℤ, Option, None, Some}
-use Rattle.std.specs.Prelude.{All, slice_get}
-use Rattle.quality_bits.specs.declared.rate.Rate.{Rate}
-use Rattle.quality_bits.specs.declared.rate.Rate.TheVariants.{R9600, R4800, R2400, R1200}
-use Rattle.viterbi.specs.Codewords.{Codeword}
-use Rattle.quality_bits.specs.declared.format.FrameFormat.{FrameFormat}
-use Rattle.frame_decoder.specs.declared.formats.DecodedFrame.{DecodedFrame}
-use Rattle.frame_decoder.specs.Formats.{format_of, score_in, codeword_in, candidate_of, candidate_in, preferred, rising_choice, good_or}
-use Rattle.frame_decoder.specs.Formats.{frame_of}
+use Rattle.listed_frame.proofs.Common.{◌≡◌, ℕ, ◌<◌, List, [], ◌∷◌, ◌++◌, map, refl, ap, ◌∙◌, ℤ, Option, None, Some, All, slice_get, Rate}
+use Rattle.listed_frame.proofs.Common.{R9600, R4800, R2400, R1200, Codeword, FrameFormat, DecodedFrame, format_of, score_in, codeword_in}
+use Rattle.listed_frame.proofs.Common.{candidate_of, candidate_in, preferred, rising_choice, good_or, frame_of, codeword_of, Entry, listed}
+use Rattle.listed_frame.proofs.Common.{codewords_in, listed_choice, listed_in, IsDecodedByOneCodeword}
 use Rattle.frame_decoder.specs.TrafficFrames.{as_decoded, lower_rates, lower_formats, decoded, unreplaced}
-use Rattle.list_viterbi.specs.First.{codeword_of}
-use Rattle.list_viterbi.specs.declared.codewords.Entry.{Entry}
-use Rattle.listed_frame.specs.ListedFrames.{codewords_in, listed_choice, listed_in, listed}
-use Rattle.listed_frame.specs.Laws.{IsDecodedByOneCodeword}
 use Rattle.listed_frame.proofs.FirstCodewords.{one_codeword}
 use Rattle.listed_frame.proofs.Candidates.{listed_candidate, candidate_is, best_bits, best_score}
 

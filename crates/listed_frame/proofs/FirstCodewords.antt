@@ -1,24 +1,17 @@
 -- The first codewords of a format, and that the best codeword is the first of them.
-use Rattle.std.proofs.Common.{◌≡◌, ℕ, zero, suc, ◌-◌, ◌/◌, ◌<◌, ◌≤◌, Bool, true, false, List, [], ◌∷◌, ◌++◌, length, map, take, get_or}
-use Rattle.std.proofs.Common.{refl, sym, ap, subst, ◌∙◌, arith, ℤ, Option, None, Some}
-use Rattle.std.specs.Prelude.{if◌then◌else◌, nat_eq, nat_lt, All}
-use Rattle.std.specs.List.{list_any}
+use Rattle.listed_frame.proofs.Common.{◌≡◌, ℕ, zero, suc, ◌-◌, ◌/◌, ◌<◌, ◌≤◌, Bool, true, false, List, [], ◌∷◌, ◌++◌, length, map, take, ap}
+use Rattle.listed_frame.proofs.Common.{get_or, refl, sym, subst, ◌∙◌, arith, ℤ, Option, None, Some, if◌then◌else◌, nat_eq, nat_lt, All}
+use Rattle.listed_frame.proofs.Common.{list_any, Rate, Codeword, score_of, codeword_count, codeword_at, best_codeword, FrameFormat, bits_in}
+use Rattle.listed_frame.proofs.Common.{IsFormat, score_in, codeword_in, gathered_in, bits_least, gathered_score, length-gathered_in, Entry}
+use Rattle.listed_frame.proofs.Common.{AreFirst, HaveScores, first_codewords, codeword_of, codewords_in}
 use Rattle.std.proofs.lemmas.List.{take-map, get_or-map, length-map}
 use Rattle.std.proofs.lemmas.Nat.{pow_pos}
 use Rattle.chip_core.specs.Sums.{value_unless, is_less, greatest_unless, first_places, first_greatest}
-use Rattle.quality_bits.specs.declared.rate.Rate.{Rate}
-use Rattle.viterbi.specs.Codewords.{Codeword, score_of, codeword_count, codeword_at, best_codeword}
 use Rattle.viterbi.specs.Best.{IsAllowed}
 use Rattle.viterbi.specs.declared.codeword.Ends.TheVariants.{Zero}
-use Rattle.quality_bits.specs.declared.format.FrameFormat.{FrameFormat}
-use Rattle.frame_decoder.specs.Formats.{IsFormat, bits_in, score_in, codeword_in, gathered_in}
-use Rattle.frame_decoder.proofs.FormatCodewords.{bits_least, gathered_score, length-gathered_in}
-use Rattle.list_viterbi.specs.First.{AreFirst, HaveScores, first_codewords, codeword_of}
-use Rattle.list_viterbi.specs.declared.codewords.Entry.{Entry}
 use Rattle.viterbi.proofs.Unique.{codeword_at_allowed}
 use Rattle.list_viterbi.proofs.Places.{by_definition}
 use Rattle.chip_core.proofs.Unless.{nat_lt-true}
-use Rattle.listed_frame.specs.ListedFrames.{codewords_in}
 use Rattle.frame_decoder.proofs.FormatChoice.{no_first}
 
 -- ---- the first places

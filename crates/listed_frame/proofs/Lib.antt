@@ -1,4 +1,4 @@
--- The modules of lemmas of `listed_frame`.
+pub mod Common
 pub mod FirstCodewords
 pub mod Candidates
 pub mod Choice

@@ -1,18 +1,12 @@
 -- A sent frame is shown, however many codewords are listed.
-use Rattle.std.proofs.Common.{ℕ, ◌<◌, List, [], ◌∷◌, ◌++◌, refl, ap, ◌∙◌, arith, ℤ}
-use Rattle.std.specs.Prelude.{Option}
-use Rattle.quality_bits.specs.declared.rate.Rate.{Rate}
-use Rattle.quality_bits.specs.declared.rate.Rate.TheVariants.{R9600, R4800, R2400, R1200}
-use Rattle.frame_decoder.specs.declared.formats.DecodedFrame.{DecodedFrame}
-use Rattle.frame_decoder.specs.Formats.{format_of, codeword_in, score_in, good_or}
+use Rattle.listed_frame.proofs.Common.{ℕ, ◌<◌, List, [], ◌∷◌, ◌++◌, refl, ap, ◌∙◌, arith, ℤ, Option, Rate, R9600, R4800, R2400, R1200}
+use Rattle.listed_frame.proofs.Common.{DecodedFrame, format_of, codeword_in, score_in, good_or, length-symbols_in, listed_count_of, listed}
+use Rattle.listed_frame.proofs.Common.{listed_codewords, IsListedBySigns, IsSentFrameListed}
 use Rattle.frame_decoder.specs.TrafficFrames.{as_decoded, frame_symbols, lower_rates, unreplaced}
 use Rattle.frame_decoder.specs.Laws.{frame_codeword, good_frame}
-use Rattle.frame_decoder.proofs.FormatCodewords.{length-symbols_in}
 use Rattle.frame_decoder.proofs.SentFrames.{among}
 use Rattle.frame_decoder.proofs.SentFormats.{AreCodewords, signs_chosen}
 use Rattle.frame_decoder.proofs.SignedScores.{shown_keep, shown_score}
-use Rattle.listed_frame.specs.ListedFrames.{listed_count_of, listed_codewords, listed}
-use Rattle.listed_frame.specs.Laws.{IsListedBySigns, IsSentFrameListed}
 use Rattle.listed_frame.proofs.FirstCodewords.{codewords_allowed, best_first}
 
 some_listed : (k : ℕ) (rate : Rate) → 0 < k → 0 < listed_count_of k rate

@@ -1,8 +1,8 @@
 -- A division by x undoes a step.
 use Rattle.long_code.proofs.Common.{◌≡◌, ℕ, zero, suc, ◌^◌, ◌<◌, Bool, true, false, List, [], ◌∷◌, ◌++◌, length, reverse, refl, sym, ap}
 use Rattle.long_code.proofs.Common.{◌∙◌, arith, length-append, reverse-append, reverse-reverse, length-reverse, xor, number, binary, places}
-use Rattle.long_code.proofs.Common.{add, length_add, zip_push, binary-number_from, below, above, after, before, length-binary}
-use Rattle.long_code.proofs.Common.{number-binary, number_lt}
+use Rattle.long_code.proofs.Common.{add, length_add, zip_push, binary-number_from, below, above, after, before, length-binary, number_lt}
+use Rattle.long_code.proofs.Common.{number-binary}
 use Rattle.long_code.proofs.Division.{shifted, times_x, length_shifted, length_times_x, remainder-zeros, shifted-times_x}
 use Rattle.long_code.proofs.After.{after_is}
 

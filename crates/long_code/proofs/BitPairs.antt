@@ -1,7 +1,7 @@
 -- 64 chips at once: the product of each two bits with x^64 stands in a table.
-use Rattle.long_code.proofs.Common.{◌≡◌, ℕ, ◌+◌, ◌*◌, ◌/◌, ◌%◌, ◌^◌, ◌<◌, List, [], map, sym, ap, ◌∙◌, arith, range_with_len}
-use Rattle.long_code.proofs.Common.{get_or-map-range_with_len, slice_index_or, bit_and, bit_xor, xor_comm, and_mask, shr-shr}
-use Rattle.long_code.proofs.Common.{mod-pow-add, pow_pos, mod-lt, xor_shifted, after}
+use Rattle.long_code.proofs.Common.{◌≡◌, ℕ, ◌+◌, ◌*◌, ◌/◌, ◌%◌, ◌^◌, ◌<◌, List, [], map, sym, ap, ◌∙◌, arith, range_with_len, bit_and}
+use Rattle.long_code.proofs.Common.{get_or-map-range_with_len, slice_index_or, bit_xor, xor_comm, and_mask, shr-shr, mod-pow-add, pow_pos}
+use Rattle.long_code.proofs.Common.{mod-lt, xor_shifted, after}
 use Rattle.long_code.proofs.Product.{after-xor}
 
 -- the products of each two bits, by the pairs

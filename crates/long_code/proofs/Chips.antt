@@ -1,6 +1,6 @@
 -- Chips under a mask.
-use Rattle.long_code.proofs.Common.{◌≡◌, ℕ, ◌+◌, ◌^◌, ◌<◌, sym, ap, ◌∙◌, nat_eq, bit_and, count_ones, binary, common_parity}
-use Rattle.long_code.proofs.Common.{common_parity-ones, after, long_chip}
+use Rattle.long_code.proofs.Common.{◌≡◌, ℕ, ◌+◌, ◌^◌, ◌<◌, sym, ap, ◌∙◌, nat_eq, bit_and, count_ones, binary, common_parity, after}
+use Rattle.long_code.proofs.Common.{common_parity-ones, long_chip}
 use Rattle.long_code.proofs.After.{after-after, after_none}
 
 -- the code's chip

@@ -1,4 +1,3 @@
--- The modules of lemmas of `long_code`.
 pub mod After
 pub mod Before
 pub mod BitPairs

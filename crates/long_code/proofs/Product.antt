@@ -1,7 +1,7 @@
 -- Products with powers of x.
-use Rattle.long_code.proofs.Common.{◌≡◌, ℕ, zero, suc, ◌+◌, ◌-◌, ◌*◌, ◌/◌, ◌%◌, ◌^◌, ◌<◌, Bool, true, false, cond, sym, ap, ◌∙◌}
-use Rattle.long_code.proofs.Common.{arith, nat_eq, bit_xor, bit_and, xor_lt, xor_block, shr-shr, shr_le, and_mask, xor_zero_r, number}
-use Rattle.long_code.proofs.Common.{binary, bit_of, digit, add, below, after, binary-xor, number-binary, digit_again}
+use Rattle.long_code.proofs.Common.{◌≡◌, ℕ, zero, suc, ◌+◌, ◌-◌, ◌*◌, ◌/◌, ◌%◌, ◌^◌, ◌<◌, Bool, true, false, cond, sym, ap, ◌∙◌, arith, add}
+use Rattle.long_code.proofs.Common.{nat_eq, bit_xor, bit_and, xor_lt, xor_block, shr-shr, shr_le, and_mask, xor_zero_r, number, binary}
+use Rattle.long_code.proofs.Common.{bit_of, digit, below, after, binary-xor, number-binary, digit_again}
 use Rattle.long_code.proofs.Division.{times_x, times_x-add}
 use Rattle.long_code.proofs.After.{after_is, binary-after, after_lt, after-after, after_one, state_length}
 

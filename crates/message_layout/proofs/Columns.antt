@@ -1,11 +1,11 @@
 -- Records of fields and their columns, spelled and read again.
 use Rattle.message_layout.proofs.Common.{◌≡◌, ℕ, zero, suc, ◌+◌, ◌*◌, ◌<◌, ◌≤◌, Bool, List, [], ◌∷◌, ◌++◌, length, get_or, map, take, drop}
 use Rattle.message_layout.proofs.Common.{refl, sym, ap, subst, ◌∙◌, arith, append_assoc, length-append, nat_lt, slice_get, inl, inr, Some}
-use Rattle.message_layout.proofs.Common.{cases_Bool, lt-ltb, ltb-true, append-nil, drop_at, get_or-take, length-drop, length-map}
-use Rattle.message_layout.proofs.Common.{length-take-le, nil_from_length, get_or_from_slice_get, mul-le-mul_right, suc-mul, number, field}
-use Rattle.message_layout.proofs.Common.{spelled, in_widths, total_width, FieldsFit, number_at, values_at, column_at, Field, spelled-append}
-use Rattle.message_layout.proofs.Common.{dropped, length-column, length-in_widths, total_room, values_again, values_there, head, tail}
-use Rattle.message_layout.proofs.Common.{record_at, record_fields, height, share, shares, column_in, columns_in}
+use Rattle.message_layout.proofs.Common.{cases_Bool, lt-ltb, ltb-true, append-nil, drop_at, get_or-take, length-drop, length-map, suc-mul}
+use Rattle.message_layout.proofs.Common.{length-take-le, nil_from_length, get_or_from_slice_get, mul-le-mul_right, number, field, spelled}
+use Rattle.message_layout.proofs.Common.{in_widths, total_width, FieldsFit, number_at, values_at, column_at, Field, spelled-append, dropped}
+use Rattle.message_layout.proofs.Common.{length-column, length-in_widths, total_room, values_again, values_there, head, tail, record_at}
+use Rattle.message_layout.proofs.Common.{record_fields, height, share, shares, column_in, columns_in}
 
 pub fit_append : (fs gs : List Field) → FieldsFit fs → FieldsFit gs → FieldsFit (fs ++ gs)
 fit_append [] gs p q = q

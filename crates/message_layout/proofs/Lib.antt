@@ -1,4 +1,3 @@
--- The modules of lemmas of `message_layout`.
 pub mod Columns
 pub mod Common
 pub mod Lawful

@@ -1,10 +1,9 @@
 -- Loops over the fields of a table and over records: what holds after so many of them.
 use Rattle.message_layout.proofs.Common.{◌≡◌, ℕ, zero, suc, ◌+◌, ◌*◌, ◌<◌, ◌≤◌, Bool, List, [], ◌∷◌, ◌++◌, length, get_or, map, take, drop}
-use Rattle.message_layout.proofs.Common.{refl, sym, ap, ◌∙◌, arith, inl, inr, Some, None, cases_lt, le-leb, leb-true, lt-leb, nat_le}
-use Rattle.message_layout.proofs.Common.{length-drop, length-take-le, take_all, number_part, mul-le-mul_right, column_in, length-map}
-use Rattle.std.proofs.Math.Nat.{pow-le-pow_right}
-use Rattle.message_layout.proofs.Common.{suc-mul, number, total_width, AreWidths, number_at, values_at, column_at, column_more, dropped}
-use Rattle.message_layout.proofs.Common.{subst, true, false, ◌^◌, field, in_widths, FieldsFit, taken_more, length-column, total_more}
+use Rattle.message_layout.proofs.Common.{refl, sym, ap, ◌∙◌, arith, inl, inr, Some, None, cases_lt, le-leb, leb-true, lt-leb, nat_le, subst}
+use Rattle.message_layout.proofs.Common.{length-drop, length-take-le, take_all, number_part, mul-le-mul_right, column_in, length-map, true}
+use Rattle.message_layout.proofs.Common.{pow-le-pow_right, suc-mul, number, total_width, AreWidths, number_at, values_at, column_at, false}
+use Rattle.message_layout.proofs.Common.{column_more, dropped, ◌^◌, field, in_widths, FieldsFit, taken_more, length-column, total_more}
 use Rattle.message_layout.proofs.Common.{total_room, lt-ltb, values_more, width_within, count_in, fields_at}
 use Rattle.message_layout.proofs.Columns.{fit_append}
 use Rattle.message_layout.proofs.Lawful.{count_room}

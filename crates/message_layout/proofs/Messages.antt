@@ -1,7 +1,7 @@
 -- Messages as contents of a layout: spelled and read again.
 use Rattle.message_layout.proofs.Common.{◌≡◌, ℕ, ◌/◌, ◌%◌, ◌^◌, ◌<◌, Bool, true, false, cond, List, [], ◌∷◌, length, get_or, map, refl, sym}
-use Rattle.message_layout.proofs.Common.{ap, subst, ◌∙◌, arith, Option, Some, None, nil_from_length, height, shares, mapped, reading}
-use Rattle.message_layout.proofs.Common.{is_lawful, MessageShape, spelling, IsOf, Contents}
+use Rattle.message_layout.proofs.Common.{ap, subst, ◌∙◌, arith, Option, Some, None, nil_from_length, height, shares, mapped, reading, IsOf}
+use Rattle.message_layout.proofs.Common.{is_lawful, MessageShape, spelling, Contents}
 use Rattle.message_layout.proofs.Columns.{get-lengths, three_columns, three_long}
 use Rattle.message_layout.proofs.Round.{reading_again, reading_there}
 

@@ -1,14 +1,13 @@
 -- The parts of a body, each spelled and read again.
 use Rattle.message_layout.proofs.Common.{◌≡◌, ℕ, zero, suc, ◌+◌, ◌*◌, ◌/◌, ◌%◌, ◌^◌, ◌<◌, ◌≤◌, ◌==◌, Bool, true, false, cond, List, [], ◌∷◌}
-use Rattle.message_layout.proofs.Common.{◌++◌, length, get_or, map, take, drop, refl, sym, ap, subst, ◌∙◌, arith, append_assoc}
-use Rattle.message_layout.proofs.Common.{length-append, nat_le, inl, inr, Option, Some, None, cases_Bool, eq-eqb, eqb-true, le-leb}
-use Rattle.message_layout.proofs.Common.{leb-true, lt-ltb, ltb-true, ne_eqb, append-nil, drop_at, length-take-le, take-append-drop, take_at}
-use Rattle.message_layout.proofs.Common.{pow_pos, binary, field, spelled, in_widths, total_width, FieldsFit, number_at, values_at}
-use Rattle.message_layout.proofs.Common.{length-binary}
-use Rattle.message_layout.proofs.Common.{after_front, front, length-in_widths, number_front, values_again, values_there, columns_in}
-use Rattle.message_layout.proofs.Common.{count_in, height, record_fields, share, shares, ◌>>=◌, fields_at, group_at, number_part, octets_at}
-use Rattle.message_layout.proofs.Common.{part_at, presence_at, present_at, records_at, records_from, ends, group_is_told, group_fields}
-use Rattle.message_layout.proofs.Common.{octet_bits, HaveValues, IsGroup, IsRest, Presence, Never, Flagged, UnlessLeft}
+use Rattle.message_layout.proofs.Common.{◌++◌, length, get_or, map, take, drop, refl, sym, ap, subst, ◌∙◌, arith, append_assoc, nat_le, inl}
+use Rattle.message_layout.proofs.Common.{length-append, inr, Option, Some, None, cases_Bool, eq-eqb, eqb-true, le-leb, leb-true, lt-ltb}
+use Rattle.message_layout.proofs.Common.{ltb-true, ne_eqb, append-nil, drop_at, length-take-le, take-append-drop, take_at, pow_pos, binary}
+use Rattle.message_layout.proofs.Common.{field, spelled, in_widths, total_width, FieldsFit, number_at, values_at, length-binary, front}
+use Rattle.message_layout.proofs.Common.{after_front, length-in_widths, number_front, values_again, values_there, columns_in, count_in}
+use Rattle.message_layout.proofs.Common.{height, record_fields, share, shares, ◌>>=◌, fields_at, group_at, number_part, octets_at, part_at}
+use Rattle.message_layout.proofs.Common.{presence_at, present_at, records_at, records_from, ends, group_is_told, group_fields, octet_bits}
+use Rattle.message_layout.proofs.Common.{HaveValues, IsGroup, IsRest, Presence, Never, Flagged, UnlessLeft}
 use Rattle.message_layout.proofs.Columns.{column_long, columns_again, columns_long, get-lengths, length-records, records_there, three_long}
 use Rattle.message_layout.proofs.Lawful.{count_room, counted}
 

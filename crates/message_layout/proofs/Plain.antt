@@ -1,10 +1,9 @@
 -- Layouts without a group and without octets: what is said by one, spelled and read by places.
-use Rattle.message_layout.proofs.Common.{◌≡◌, ℕ, ◌*◌, ◌≤◌, Bool, cond, List, [], ◌∷◌, ◌++◌, length, map, drop, refl, sym, ap, ◌∙◌}
-use Rattle.message_layout.proofs.Common.{nil_from_length, arith, nat_le, inl, inr, Option, Some, None, cases_Bool, le-leb}
-use Rattle.message_layout.proofs.Common.{length-drop, spelled, in_widths, total_width, FieldsFit, binary}
-use Rattle.message_layout.proofs.Common.{height}
-use Rattle.message_layout.proofs.Common.{record_fields, shares, fields_at, group_at, number_part, octets_at, part_at, presence_at, reading}
-use Rattle.message_layout.proofs.Common.{records_at, plain_contents, plain_shape, spelling, count_in, HaveValues, IsOf, IsRest, Contents}
+use Rattle.message_layout.proofs.Common.{◌≡◌, ℕ, ◌*◌, ◌≤◌, Bool, cond, List, [], ◌∷◌, ◌++◌, length, map, drop, refl, sym, ap, ◌∙◌, arith}
+use Rattle.message_layout.proofs.Common.{nil_from_length, nat_le, inl, inr, Option, Some, None, cases_Bool, le-leb, length-drop, spelled}
+use Rattle.message_layout.proofs.Common.{in_widths, total_width, FieldsFit, binary, height, record_fields, shares, fields_at, group_at}
+use Rattle.message_layout.proofs.Common.{number_part, octets_at, part_at, presence_at, reading, records_at, plain_contents, plain_shape}
+use Rattle.message_layout.proofs.Common.{spelling, count_in, HaveValues, IsOf, IsRest, Contents}
 pub use Rattle.message_layout.specs.Plain.{has_length, list_said}
 use Rattle.message_layout.proofs.Messages.{no_columns, no_octets}
 

@@ -4,8 +4,8 @@ use Rattle.message_layout.proofs.Common.{le-leb, leb-true, spelled, in_widths, �
 use Rattle.message_layout.proofs.Common.{records_at, rest_at, is_lawful, MessageShape, after_group, group_fields, octet_bits, records_of}
 use Rattle.message_layout.proofs.Common.{spelling, IsGroup, IsOf, IsRest, Contents}
 use Rattle.message_layout.proofs.Lawful.{lawful}
-use Rattle.message_layout.proofs.Parts.{bind_some, fields_again, fields_there, group_again, group_there, guard_some, octets_again}
-use Rattle.message_layout.proofs.Parts.{octets_there, records_part_again, records_part_there, some_is}
+use Rattle.message_layout.proofs.Parts.{bind_some, fields_again, fields_there, group_again, group_there, guard_some, octets_again, some_is}
+use Rattle.message_layout.proofs.Parts.{octets_there, records_part_again, records_part_there}
 
 rest_to : (most : Option ℕ) (rest : List Bool) → IsRest most rest → is_rest most rest ≡ true
 rest_to None rest h = refl

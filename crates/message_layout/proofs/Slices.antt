@@ -1,6 +1,6 @@
 -- Bits of a slice against those of its list.
-use Rattle.message_layout.proofs.Common.{◌≡◌, ℕ, ◌+◌, ◌-◌, ◌≤◌, Bool, List, take, drop, sym, ap, ◌∙◌, arith}
-use Rattle.message_layout.proofs.Common.{drop-drop, drop-take, take-take}
+use Rattle.message_layout.proofs.Common.{◌≡◌, ℕ, ◌+◌, ◌-◌, ◌≤◌, Bool, List, take, drop, sym, ap, ◌∙◌, arith, drop-drop, drop-take}
+use Rattle.message_layout.proofs.Common.{take-take}
 
 -- A part of a slice is the part of the list as far past the slice's start, where it lies within the
 -- slice: cutting the list off after the slice takes nothing of it away.

@@ -1,7 +1,7 @@
 -- Contents that are written part by part.
-use Rattle.message_layout.proofs.Common.{◌≡◌, ℕ, ◌+◌, ◌≤◌, List, Bool, [], ◌++◌, length, ap, ◌∙◌, arith, append_assoc, length-append}
-use Rattle.message_layout.proofs.Common.{Option, None, Some, binary, spelled, in_widths, length-binary, MessageShape, after_group}
-use Rattle.message_layout.proofs.Common.{group_fields, octet_bits, records_of, spelling, Contents, Presence, Never, Flagged, UnlessLeft}
+use Rattle.message_layout.proofs.Common.{◌≡◌, ℕ, ◌+◌, ◌≤◌, List, Bool, [], ◌++◌, length, ap, ◌∙◌, arith, append_assoc, length-append, None}
+use Rattle.message_layout.proofs.Common.{Option, Some, binary, spelled, in_widths, length-binary, MessageShape, after_group, group_fields}
+use Rattle.message_layout.proofs.Common.{octet_bits, records_of, spelling, Contents, Presence, Never, Flagged, UnlessLeft}
 
 abbrev pub fixed_bits : MessageShape → Contents → List Bool
 fixed_bits s c = spelled (in_widths s.fixed c.fixed)

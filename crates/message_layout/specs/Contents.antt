@@ -1,9 +1,7 @@
 -- Numbers of the fields of records, column by column.
+use Rattle.message_layout.specs.Common.{in_widths, total_width, column_at, Field}
 use Rattle.std.specs.Prelude.{ℕ, zero, suc, ◌/◌, if◌then◌else◌, List, [], ◌∷◌, ◌++◌, Bool, length}
 use Rattle.std.specs.Prelude.{map, take, drop, get_or, nat_lt}
-use Rattle.chip_core.specs.Fields.{in_widths, total_width}
-use Rattle.chip_core.specs.Readings.{column_at}
-use Rattle.chip_core.specs.declared.field.Field.{Field}
 
 -- the first number of a column, and the others
 abbrev pub head : List ℕ → ℕ

@@ -1,4 +1,4 @@
--- The modules of definitions of `message_layout`.
+pub mod Common
 pub mod Contents
 pub mod Plain
 pub mod Reading

@@ -1,12 +1,9 @@
 -- Layouts without a group and without octets, and contents of these.
+use Rattle.message_layout.specs.Common.{total_width, values_at, Contents, Never}
 use Rattle.std.specs.Prelude.{ℕ, ◌*◌, ◌-◌, ◌&&◌, Bool, List, [], length, drop, nat_le, Option, None}
-use Rattle.chip_core.specs.Fields.{total_width}
-use Rattle.chip_core.specs.Readings.{values_at}
 use Rattle.message_layout.specs.Contents.{columns_in, count_in}
 use Rattle.message_layout.specs.Reading.{is_few}
 use Rattle.message_layout.specs.Shapes.{MessageShape}
-use Rattle.message_layout.specs.declared.contents.Contents.{Contents}
-use Rattle.message_layout.specs.declared.layout.Presence.TheVariants.{Never}
 
 -- fixed fields, so many records at least, and so many bits after them at most
 abbrev pub plain_shape : List ℕ → List ℕ → ℕ → Option ℕ → MessageShape

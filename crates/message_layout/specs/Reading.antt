@@ -1,13 +1,10 @@
 -- Bits read by a layout, part by part: of each part what it says, and the bits after it.
+use Rattle.message_layout.specs.Common.{total_width, number_at, values_at, Contents, Presence}
+use Rattle.message_layout.specs.Common.{Never, Flagged, UnlessLeft}
 use Rattle.std.specs.Prelude.{ℕ, ◌*◌, ◌==◌, if◌then◌else◌, not, Bool, true, false, List, length}
 use Rattle.std.specs.Prelude.{take, drop, nat_le, Option, None, Some}
-use Rattle.chip_core.specs.Fields.{total_width}
-use Rattle.chip_core.specs.Readings.{number_at, values_at}
 use Rattle.message_layout.specs.Contents.{columns_in, count_in}
 use Rattle.message_layout.specs.Shapes.{MessageShape}
-use Rattle.message_layout.specs.declared.contents.Contents.{Contents}
-use Rattle.message_layout.specs.declared.layout.Presence.{Presence}
-use Rattle.message_layout.specs.declared.layout.Presence.TheVariants.{Never, Flagged, UnlessLeft}
 
 infixl 10 ◌>>=◌
 abbrev pub ◌>>=◌ : {A B : Type 0} → Option A → (A → Option B) → Option B

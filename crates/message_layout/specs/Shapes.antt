@@ -1,10 +1,8 @@
 -- Layouts of bodies as plain numbers: which fields stand in one, and in how many bits.
+use Rattle.message_layout.specs.Common.{total_width, Presence, Never, Flagged, UnlessLeft}
 use Rattle.std.specs.Prelude.{ℕ, ◌≤◌, ◌&&◌, Bool, true, false, List, [], ◌∷◌, length, map, nat_lt}
 use Rattle.std.specs.Prelude.{nat_le, Option, None, Some}
-use Rattle.chip_core.specs.Fields.{total_width}
 use Rattle.message_layout.specs.declared.layout.Layout.{Layout}
-use Rattle.message_layout.specs.declared.layout.Presence.{Presence}
-use Rattle.message_layout.specs.declared.layout.Presence.TheVariants.{Never, Flagged, UnlessLeft}
 
 -- the widths of the fields, and what stands among them
 pub record MessageShape : Type 0 where

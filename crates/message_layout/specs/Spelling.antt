@@ -1,13 +1,10 @@
 -- The bits that contents of a layout are sent as.
+use Rattle.message_layout.specs.Common.{field, spelled, in_widths, FieldsFit, Field, Contents}
+use Rattle.message_layout.specs.Common.{Presence, Never, Flagged, UnlessLeft}
 use Rattle.std.specs.Prelude.{ℕ, ◌≡◌, ◌/◌, ◌%◌, ◌^◌, ◌<◌, ◌≤◌, Bool, List, [], ◌∷◌, ◌++◌, length}
 use Rattle.std.specs.Prelude.{map, Option, None, Some}
-use Rattle.chip_core.specs.Fields.{field, spelled, in_widths, FieldsFit}
-use Rattle.chip_core.specs.declared.field.Field.{Field}
 use Rattle.message_layout.specs.Contents.{height, record_fields, shares}
 use Rattle.message_layout.specs.Shapes.{MessageShape}
-use Rattle.message_layout.specs.declared.contents.Contents.{Contents}
-use Rattle.message_layout.specs.declared.layout.Presence.{Presence}
-use Rattle.message_layout.specs.declared.layout.Presence.TheVariants.{Never, Flagged, UnlessLeft}
 
 -- the bit that says whether the group is there, where there is one, and the group
 abbrev pub group_fields : Presence → List ℕ → Option (List ℕ) → List Field

@@ -1,12 +1,11 @@
 -- Worked values.
+use Rattle.message_layout.specs.Common.{Contents, Flagged, UnlessLeft}
 use Rattle.std.specs.Prelude.{◌≡◌, refl, true, false, [], ◌∷◌, None, Some}
 use Rattle.chip_core.specs.Bits.{number, binary}
 use Rattle.message_layout.specs.Reading.{fields_at, group_at, number_part, octets_at, part_at}
 use Rattle.message_layout.specs.Reading.{presence_at, reading, records_at}
 use Rattle.message_layout.specs.Shapes.{is_lawful, MessageShape}
 use Rattle.message_layout.specs.Spelling.{spelling}
-use Rattle.message_layout.specs.declared.contents.Contents.{Contents}
-use Rattle.message_layout.specs.declared.layout.Presence.TheVariants.{Flagged, UnlessLeft}
 
 -- a layout with each kind of part
 all_parts : MessageShape

@@ -1,10 +1,10 @@
 //! Laws of the definitions: each function does nothing, and its contract is the law.
 
+ghost use Rattle.message_layout.specs.Common.{Contents as TheContents};
 ghost use Rattle.std.specs.Prelude.{◌≡◌, ◌↔◌, Bool, true, List, Some};
 ghost use Rattle.message_layout.specs.Reading.{reading};
 ghost use Rattle.message_layout.specs.Shapes.{is_lawful, MessageShape};
 ghost use Rattle.message_layout.specs.Spelling.{spelling, IsOf};
-ghost use Rattle.message_layout.specs.declared.contents.Contents.{Contents as TheContents};
 
 /// Reading a list of bits by a layout gives contents exactly where the list is their spelling.
 pub fn reading_turns_spelling_back()

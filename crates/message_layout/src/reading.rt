@@ -6,17 +6,16 @@
 //! The larger functions are put into their callers: a layout that is known there is gone by without
 //! a table, and what was read isn't copied from one call to the next.
 
+ghost use Rattle.message_layout.specs.Common.{total_width, AreWidths, column_at, number_at};
+ghost use Rattle.message_layout.specs.Common.{Contents as TheContents};
 ghost use Rattle.std.specs.Prelude.{◌≡◌, ◌≤◌, ◌<◌, ◌+◌, ◌*◌, ◌^◌, ◌++◌, ◌∷◌, [], true, length, map};
 ghost use Rattle.std.specs.Prelude.{drop, IfSome, Some};
-ghost use Rattle.chip_core.specs.Fields.{total_width, AreWidths};
-ghost use Rattle.chip_core.specs.Readings.{column_at, number_at};
 ghost use Rattle.message_layout.specs.Contents.{column_in, count_in};
-ghost use Rattle.message_layout.specs.Reading.{following, fields_at, group_at, is_rest, number_part};
-ghost use Rattle.message_layout.specs.Reading.{octets_at, part_at, presence_at, reading};
+ghost use Rattle.message_layout.specs.Reading.{following, fields_at, group_at, is_rest, octets_at};
+ghost use Rattle.message_layout.specs.Reading.{number_part, part_at, presence_at, reading};
 ghost use Rattle.message_layout.specs.Reading.{records_at};
 ghost use Rattle.message_layout.specs.Shapes.{is_lawful, shape, AreNarrow};
 ghost use Rattle.message_layout.specs.Spelling.{spelling, IsOf};
-ghost use Rattle.message_layout.specs.declared.contents.Contents.{Contents as TheContents};
 
 use crate::contents::Contents;
 use crate::layout::{FieldRow, Group, Layout, Octets, Presence, Records, width_in};

@@ -1,8 +1,8 @@
 //! Contents of a layout added to a body.
 
+ghost use Rattle.message_layout.specs.Common.{in_widths, spelled, AreWidths, FieldsFit};
 ghost use Rattle.std.specs.Prelude.{◌≡◌, ◌≤◌, ◌<◌, ◌+◌, ◌/◌, ◌^◌, ◌++◌, true, length, map, IfSome};
 ghost use Rattle.chip_core.specs.Bits.{binary};
-ghost use Rattle.chip_core.specs.Fields.{in_widths, spelled, AreWidths, FieldsFit};
 ghost use Rattle.message_layout.specs.Contents.{height, record_at, record_fields, shares};
 ghost use Rattle.message_layout.specs.Shapes.{is_lawful, shape};
 ghost use Rattle.message_layout.specs.Spelling.{group_fields, octet_bits, spelling, HaveValues};

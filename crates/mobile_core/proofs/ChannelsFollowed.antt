@@ -1,13 +1,11 @@
 -- What the channels after the mark have still to give, as samples come.
 use Rattle.mobile_core.proofs.Common.{◌≡◌, ℕ, ◌+◌, ◌^◌, ◌<◌, ◌≤◌, List, [], ◌++◌, length, refl, sym, ap, subst, ◌∙◌, inl, inr, Option, Some}
 use Rattle.mobile_core.proofs.Common.{None, ForSome, option_map_or, arith, length-append, Sample, HearsFollowed, HearsFrames, HearsPages}
-use Rattle.mobile_core.proofs.Common.{IsFollowedDue, IsSoundFollowed, EndFrom, WaitFrom, followed_events_left, followed_heard}
-use Rattle.mobile_core.proofs.Common.{paging_events_left, AreNear, Tuning, sync_stream, Event, Followed, Mark, PagingReceiver, SoftHandoff}
-use Rattle.mobile_core.proofs.Common.{IsSomeAnd, IsSoundPaging, IsSoundHandoff, IsDueAt, IsUnheard, Traffic, append-nil, bits_heard}
-use Rattle.mobile_core.proofs.Common.{followed_after, event_list, traffic_heard, traffic_events_left}
+use Rattle.mobile_core.proofs.Common.{IsFollowedDue, IsSoundFollowed, EndFrom, WaitFrom, followed_events_left, followed_heard, AreNear}
+use Rattle.mobile_core.proofs.Common.{paging_events_left, Tuning, sync_stream, Event, Followed, Mark, PagingReceiver, SoftHandoff, IsDueAt}
+use Rattle.mobile_core.proofs.Common.{IsSomeAnd, IsSoundPaging, IsSoundHandoff, IsUnheard, Traffic, append-nil, bits_heard, followed_after}
+use Rattle.mobile_core.proofs.Common.{event_list, traffic_heard, traffic_events_left, GoesOn, both, goes_as, joined, pages_from_mark}
 use Rattle.mobile_core.proofs.FramesFollowed.{frames_go, frames_more, told_few}
-use Rattle.heard_events.proofs.GoesOn.{GoesOn, both, goes_as, joined}
-use Rattle.heard_events.proofs.MarkStays.{pages_from_mark}
 use Rattle.mobile_core.proofs.PagesFollowed.{bits_few, pages_go, pages_more, pages_quiet, told_paged}
 
 -- what waits ends later

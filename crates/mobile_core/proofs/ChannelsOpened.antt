@@ -1,8 +1,7 @@
 -- What a continued channel stands for that has just been opened.
-use Rattle.mobile_core.proofs.Common.{◌≡◌, ℕ, ◌+◌, ◌*◌, ◌≤◌, List, length, refl, ap, ◌∙◌, subst, arith, true, Sample, Finger, frame_chips}
-use Rattle.mobile_core.proofs.Common.{clock_from, first_frame, AreNear, Receives, Stream, Continued, FrameClock}
+use Rattle.mobile_core.proofs.Common.{receives_more, receives_new, frame_chips, first_frame, clock_from, FrameClock, Continued, Receives, ℕ}
+use Rattle.mobile_core.proofs.Common.{AreNear, length, Sample, Finger, Stream, subst, arith, List, refl, true, ◌≡◌, ◌+◌, ◌*◌, ◌≤◌, ◌∙◌, ap}
 use Rattle.reception.specs.Sound.{IsSoundChannel}
-use Rattle.reception.proofs.Received.{receives_more, receives_new}
 
 -- A channel that is opened now has received the samples so far, and heard no frame: as a new one it
 -- has received nothing and has no frame due, and its first frame starts after these samples.

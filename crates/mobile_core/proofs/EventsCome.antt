@@ -1,13 +1,10 @@
 -- What a handset has still to tell where more samples come, up to the end of the next frame.
 use Rattle.mobile_core.proofs.Common.{◌≡◌, ℕ, suc, ◌+◌, ◌-◌, ◌<◌, ◌≤◌, List, [], ◌++◌, length, length-append, refl, sym, ap, ◌∙◌, arith}
-use Rattle.mobile_core.proofs.Common.{Sample, events, events_at, heard_within, EndFrom, HearsFollowed, IsFollowedDue, IsSoundFollowed}
-use Rattle.mobile_core.proofs.Common.{followed_events_left, sync_events_left, mark, mark_before, AreNear, sync_events_at, Tuning}
-use Rattle.mobile_core.proofs.Common.{sync_stream, Event, Followed, Mark, Option, flat_map_grown, followed_after}
+use Rattle.mobile_core.proofs.Common.{Sample, events, events_at, heard_within, EndFrom, HearsFollowed, IsFollowedDue, IsSoundFollowed, mark}
+use Rattle.mobile_core.proofs.Common.{followed_events_left, sync_events_left, mark_before, AreNear, sync_events_at, Tuning, sync_stream}
+use Rattle.mobile_core.proofs.Common.{Event, Followed, Mark, Option, flat_map_grown, followed_after, AreKnown, AreLater, GoesOn, both}
+use Rattle.mobile_core.proofs.Common.{IsSyncTimed, sync_frames, sync_goes, mark_before_sooner, mark_is}
 use Rattle.mobile_core.proofs.ChannelsFollowed.{goes_on}
-use Rattle.heard_events.proofs.Arrivals.{AreKnown, AreLater}
-use Rattle.heard_events.proofs.GoesOn.{GoesOn, both}
-use Rattle.heard_events.proofs.Growth.{IsSyncTimed, sync_frames, sync_goes}
-use Rattle.heard_events.proofs.MarkGrowth.{mark_before_sooner, mark_is}
 use Rattle.heard_events.proofs.EventsGrown.{after_before, events_at_by, events_sooner}
 
 module _ (t : Tuning) (low : ℕ) (timed : IsSyncTimed t low)

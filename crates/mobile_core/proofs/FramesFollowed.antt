@@ -1,19 +1,16 @@
 -- What a handset's traffic channel has still to give, as samples come.
-use Rattle.mobile_core.proofs.Common.{◌≡◌, ℕ, ◌+◌, ◌^◌, ◌<◌, ◌≤◌, ◌==◌, List, [], ◌++◌, length, refl, sym, ap, subst, ◌∙◌, arith, inr}
-use Rattle.mobile_core.proofs.Common.{Option, Some, None, take, false, length-append, Bool, if◌then◌else◌, ForSome, IsSomeAnd}
-use Rattle.mobile_core.proofs.Common.{false_from_ne_true, ne_eqb, take_all, Sample, frames_at, kept_to, legs_at, legs_by, messages_at}
-use Rattle.mobile_core.proofs.Common.{moment_place, moments_before, sets_at, pages_if_marked, coming_place, FollowsTraffic, HearsFrames}
-use Rattle.mobile_core.proofs.Common.{IsUnheard, traffic_left, traffic_events_left, HearsTraffic, HearsWith, IsSoundHandoff, IsTrafficDue}
-use Rattle.mobile_core.proofs.Common.{at_of, ◌∷◌, kept_in, next_end, noted_by, sets_left_of, traffic_heard, GivesFirst, WaitsAt}
-use Rattle.mobile_core.proofs.Common.{traffic_left_of, told_left_with, Tuning, Event, Leg, Mark, Traffic, SoftHandoff, option_map}
-use Rattle.mobile_core.proofs.Common.{told_after}
+use Rattle.mobile_core.proofs.Common.{traffic_events_left, false_from_ne_true, pages_if_marked, traffic_left_of, moments_before, GivesFirst}
+use Rattle.mobile_core.proofs.Common.{FollowsTraffic, IsSoundHandoff, told_left_with, length-append, if◌then◌else◌, traffic_heard, take_all}
+use Rattle.mobile_core.proofs.Common.{moment_place, coming_place, traffic_left, HearsTraffic, IsTrafficDue, sets_left_of, messages_at, ◌==◌}
+use Rattle.mobile_core.proofs.Common.{HearsFrames, SoftHandoff, option_map, told_after, IsSomeAnd, frames_at, IsUnheard, HearsWith, ForSome}
+use Rattle.mobile_core.proofs.Common.{next_end, noted_by, kept_to, legs_at, legs_by, sets_at, kept_in, WaitsAt, Traffic, goes_as, told_at}
+use Rattle.mobile_core.proofs.Common.{length, Option, ne_eqb, Sample, Tuning, GoesOn, subst, arith, false, at_of, Event, never, List, ◌++◌}
+use Rattle.mobile_core.proofs.Common.{refl, Some, None, take, Bool, Mark, both, ◌≡◌, ◌+◌, ◌^◌, ◌<◌, ◌≤◌, sym, ◌∙◌, inr, ◌∷◌, Leg, [], ap, ℕ}
 use Rattle.heard_events.specs.declared.channel.Channel.TheVariants.{Traffic as OnTraffic}
 use Rattle.mobile_core.proofs.FramesHeard.{none_come, none_kept, not_left, told_go}
 use Rattle.mobile_core.proofs.FramesTold.{hears_noted, moments_are}
-use Rattle.heard_events.proofs.GoesOn.{GoesOn, both, goes_as, never}
 use Rattle.heard_events.proofs.MomentGrowth.{kept_sooner}
 use Rattle.mobile_core.proofs.PagesFollowed.{paged_after}
-use Rattle.heard_events.proofs.TrafficGrowth.{told_at}
 use Rattle.mobile_core.proofs.FramesHeard as heard_frames
 
 -- what is heard of the channel when just n samples have been taken: frames first, the moment last

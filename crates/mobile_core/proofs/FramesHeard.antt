@@ -1,24 +1,16 @@
 -- What a traffic channel and the pilot sets beside it stand for, step by step.
-use Rattle.mobile_core.proofs.Common.{◌≡◌, ℕ, ◌+◌, ◌-◌, ◌*◌, ◌/◌, ◌^◌, ◌<◌, ◌≤◌, List, [], ◌++◌, Bool, ℤ, length, map, take, refl, sym}
-use Rattle.mobile_core.proofs.Common.{◌==◌, false, ne_eqb, sets_left_of, length-append, ap, ◌∙◌, arith, inl, inr, subst, true, Option, None}
-use Rattle.mobile_core.proofs.Common.{Some, IsTrue, is_some, cases_lt, cases_order, take_all, places, Sample, power_bit, decoded}
-use Rattle.mobile_core.proofs.Common.{PowerSofts, Decoded, after, traffic_mask, after-after, Standing, CapsuleStandsFor, softs, Finger}
-use Rattle.mobile_core.proofs.Common.{Data}
-use Rattle.mobile_core.proofs.Common.{power_places, scrambling, sums_on, all_fingers, legs_of, subchannels, heard_from, legs_by, moment_of}
-use Rattle.mobile_core.proofs.Common.{moment_place, told_by, all_noted, page_event, pages_if_marked, unscrambled, message_events, frame_end}
-use Rattle.mobile_core.proofs.Common.{all_sums, power_bits_at, decoded_at, raw_softs, HearsUpTo, HearsWith, IsSoundHandoff, IsTrafficDue}
-use Rattle.mobile_core.proofs.Common.{told_left_with, chips_after, frame_known, frame_state, has_frame, replaced_in, traffic_start, Tuning}
-use Rattle.mobile_core.proofs.Common.{Event, Leg, frame_chips, Mark, Traffic, SpelledSignal, SoftHandoff, TrafficReceiver, flat_map}
-use Rattle.mobile_core.specs.TrafficReceiving.{frame_taken, tuned_to}
-use Rattle.rake_finger.proofs.CloseFingers.{close_ends}
-use Rattle.heard_events.proofs.FrameBounds.{AreCloseAll, has_here, known_high, known_is, known_later, known_low}
-use Rattle.heard_events.proofs.Arrivals.{left}
-use Rattle.heard_events.proofs.TrafficGrowth.{frames_of, signals_sooner, heard_grown, heard_none, told_at, told_first, told_is, told_left}
-use Rattle.heard_events.proofs.TrafficGrowth.{told_none}
-use Rattle.heard_events.proofs.GoesOn.{GoesOn, goes_as, things_go}
-use Rattle.heard_events.specs.Left.{frames_left_of, messages_left_of}
-use Rattle.heard_events.specs.Signaling.{message_heard, messages_by}
-use Rattle.heard_events.specs.TrafficEvents.{frame_heard, frames_by}
+use Rattle.mobile_core.proofs.Common.{CapsuleStandsFor, messages_left_of, pages_if_marked, TrafficReceiver, message_events, IsSoundHandoff}
+use Rattle.mobile_core.proofs.Common.{told_left_with, signals_sooner, frames_left_of, length-append, power_bits_at, traffic_start, cases_lt}
+use Rattle.mobile_core.proofs.Common.{SpelledSignal, message_heard, sets_left_of, traffic_mask, power_places, moment_place, IsTrafficDue, ℕ}
+use Rattle.mobile_core.proofs.Common.{cases_order, after-after, all_fingers, subchannels, unscrambled, chips_after, frame_known, PowerSofts}
+use Rattle.mobile_core.proofs.Common.{frame_state, replaced_in, frame_chips, SoftHandoff, frame_taken, AreCloseAll, known_later, scrambling}
+use Rattle.mobile_core.proofs.Common.{heard_grown, messages_by, frame_heard, heard_from, page_event, decoded_at, close_ends, known_high, []}
+use Rattle.mobile_core.proofs.Common.{heard_none, told_first, power_bit, moment_of, all_noted, frame_end, raw_softs, HearsUpTo, HearsWith}
+use Rattle.mobile_core.proofs.Common.{has_frame, known_low, frames_of, told_left, told_none, things_go, frames_by, take_all, Standing, List}
+use Rattle.mobile_core.proofs.Common.{all_sums, flat_map, tuned_to, has_here, known_is, is_some, decoded, Decoded, sums_on, legs_of, length}
+use Rattle.mobile_core.proofs.Common.{legs_by, told_by, Traffic, told_at, told_is, goes_as, ne_eqb, Option, IsTrue, places, Sample, Finger}
+use Rattle.mobile_core.proofs.Common.{Tuning, GoesOn, false, arith, subst, after, softs, Event, ◌++◌, Bool, take, refl, ◌==◌, true, None, ℤ}
+use Rattle.mobile_core.proofs.Common.{Some, Data, Mark, left, ◌≡◌, ◌+◌, ◌-◌, ◌*◌, ◌/◌, ◌^◌, ◌<◌, ◌≤◌, map, sym, ◌∙◌, inl, inr, Leg, ap}
 use Rattle.frame_decoder.specs.TrafficFrames as frames
 
 -- the long code's state at a frame's first chip

@@ -1,16 +1,11 @@
 -- What a traffic channel and the pilot sets beside it stand for as they are opened.
-use Rattle.mobile_core.proofs.Common.{◌≡◌, ℕ, ◌-◌, ◌≤◌, List, [], ◌∷◌, length, ℤ, refl, sym, ap, ◌∙◌, arith, subst, None, true, pos}
-use Rattle.mobile_core.proofs.Common.{replicate, append-nil, get_or, ◌==◌, Some, slice_get, eq-eqb, unsigned_abs, sum_by, sum_by-replicate}
-use Rattle.mobile_core.proofs.Common.{places, Sample, Standing, new_standing, CapsuleStandsFor, AreClose, all_close, paths_close}
-use Rattle.mobile_core.proofs.Common.{all_fingers}
+use Rattle.mobile_core.proofs.Common.{◌≡◌, ℕ, ◌-◌, ◌≤◌, List, [], ◌∷◌, length, ℤ, refl, sym, ap, ◌∙◌, arith, subst, None, true, pos, get_or}
+use Rattle.mobile_core.proofs.Common.{replicate, append-nil, ◌==◌, Some, slice_get, eq-eqb, unsigned_abs, sum_by, sum_by-replicate, places}
+use Rattle.mobile_core.proofs.Common.{Sample, Standing, new_standing, CapsuleStandsFor, AreClose, all_close, paths_close, all_fingers, Leg}
 use Rattle.mobile_core.proofs.Common.{legs_of, pilot_finger, heard_from, kept_to, moment_place, all_noted, signals_before, HearsTraffic}
-use Rattle.mobile_core.proofs.Common.{told_left_with, traffic_start, Tuning, fingers_of, Event, Leg, Mark, Traffic, TrafficReceiver}
-use Rattle.heard_events.proofs.FrameBounds.{known_low}
-use Rattle.heard_events.proofs.MarkStays.{pilot_alone}
+use Rattle.mobile_core.proofs.Common.{told_left_with, traffic_start, Tuning, fingers_of, Event, Mark, Traffic, TrafficReceiver, known_low}
+use Rattle.mobile_core.proofs.Common.{pilot_alone, paths_fingers, IsTunedIn, beside, first_keeper, heard_none, told_left_none}
 use Rattle.mobile_core.proofs.FramesHeard.{left_unkept}
-use Rattle.heard_events.proofs.LegFingers.{paths_fingers}
-use Rattle.mobile_core.specs.TrafficReceiving.{IsTunedIn, beside, first_keeper}
-use Rattle.heard_events.proofs.TrafficGrowth.{heard_none, told_left_none}
 
 -- no soft value has come
 pub zeros_few : sum_by unsigned_abs (replicate 384 (pos 0)) ≡ 0

@@ -1,16 +1,14 @@
 -- What a traffic channel and the pilot sets beside it stand for, as they tell what has come.
-use Rattle.mobile_core.proofs.Common.{◌≡◌, ℕ, ◌+◌, ◌<◌, ◌≤◌, List, [], ◌∷◌, ◌++◌, Bool, true, false, length, refl, sym, ap, ◌∙◌, arith}
-use Rattle.mobile_core.proofs.Common.{subst, Option, None, Some, inl, inr, ◌==◌, if◌then◌else◌, option_to_list, cases_lt, Sample, Decoded}
-use Rattle.mobile_core.proofs.Common.{PagingMessage, accepted_of, direction_fault, Standing, unless_refused, with_neighbors}
-use Rattle.mobile_core.proofs.Common.{with_thresholds, DirectionFault, Accepted, CapsuleStandsFor, TrafficBody, at_of, legs_of, legs_by}
-use Rattle.mobile_core.proofs.Common.{moment_place, all_noted, body_noted, moment_from, moments_before, noted, noted_with, page_noted}
-use Rattle.mobile_core.proofs.Common.{system_thresholds, capsule_with, signaling_message_at, message_events, signal_at, signal_in}
-use Rattle.mobile_core.proofs.Common.{signal_of, signals_before, GivesFirst, HearsTraffic, HearsWith, IsSoundHandoff, noted_by}
-use Rattle.mobile_core.proofs.Common.{told_left_with, frame_known, Tuning, Leg, kept_in, sets_left_of, clock_after_frame, Event, Mark}
-use Rattle.mobile_core.proofs.Common.{Traffic, SpelledSignal, SoftHandoff}
-use Rattle.heard_events.proofs.TrafficGrowth.{signals_more, told_left, told_next}
+use Rattle.mobile_core.proofs.Common.{◌≡◌, ℕ, ◌+◌, ◌<◌, ◌≤◌, List, [], ◌∷◌, ◌++◌, Bool, true, false, length, refl, sym, ap, ◌∙◌, arith, inl}
+use Rattle.mobile_core.proofs.Common.{subst, Option, None, Some, inr, ◌==◌, if◌then◌else◌, option_to_list, cases_lt, Sample, Decoded, at_of}
+use Rattle.mobile_core.proofs.Common.{PagingMessage, accepted_of, direction_fault, Standing, unless_refused, with_neighbors, DirectionFault}
+use Rattle.mobile_core.proofs.Common.{with_thresholds, Accepted, CapsuleStandsFor, TrafficBody, legs_of, legs_by, moment_place, all_noted}
+use Rattle.mobile_core.proofs.Common.{body_noted, moment_from, moments_before, noted, noted_with, page_noted, system_thresholds, signal_at}
+use Rattle.mobile_core.proofs.Common.{capsule_with, signaling_message_at, message_events, signal_in, signal_of, signals_before, GivesFirst}
+use Rattle.mobile_core.proofs.Common.{HearsTraffic, HearsWith, IsSoundHandoff, noted_by, told_left_with, frame_known, Tuning, Leg, kept_in}
+use Rattle.mobile_core.proofs.Common.{sets_left_of, clock_after_frame, Event, Mark, Traffic, SpelledSignal, SoftHandoff, signals_more}
+use Rattle.mobile_core.proofs.Common.{told_left, told_next, power_bits_at, decoded_at, frame_event, frame_heard as heard_frame}
 use Rattle.mobile_core.proofs.FramesHeard.{closes, due_inside, left_unkept}
-use Rattle.heard_events.specs.TrafficEvents.{power_bits_at, decoded_at, frame_event, frame_heard as heard_frame}
 use Rattle.paging_message.specs.declared.message.PagingMessage.TheVariants as pages
 use Rattle.traffic_message.specs.declared.body.TrafficBody.TheVariants as bodies
 use Rattle.heard_events.specs.declared.event.Event.TheVariants as events

@@ -1,4 +1,3 @@
--- The modules of lemmas of `mobile_core`.
 pub mod Common
 pub mod ChannelsOpened
 pub mod SyncHeard

@@ -1,14 +1,9 @@
 -- A handset that has just told a mark has taken no sample after it, and one that has told all has the mark of all samples.
-use Rattle.mobile_core.proofs.Common.{◌≡◌, ℕ, ◌+◌, ◌≤◌, true, false, List, [], ◌∷◌, ◌++◌, length, sym, ap, ◌∙◌, arith, inl, inr, nat_le}
-use Rattle.mobile_core.proofs.Common.{Some, flat_map, list_all, list_any, and_from, cases_lt, le-leb, lt-leb, append_assoc, places, Sample}
-use Rattle.mobile_core.proofs.Common.{events_at, at_of, mark, sets_mark, AreNear, Mobile, Tuning, sync_stream, Event, Pilot, Mark, subst}
-use Rattle.mobile_core.proofs.Common.{ForSome, Option, None, refl, is_some, events, heard_within, IsTimed}
-use Rattle.mobile_core.specs.Standing.{StandsFor, events_left}
-use Rattle.reception.proofs.ClockSteps.{before_next}
-use Rattle.heard_events.proofs.Growth.{sync_known}
-use Rattle.heard_events.proofs.MarkLater.{mark_later}
-use Rattle.heard_events.proofs.MarkStays.{mark_set, mark_told}
-use Rattle.heard_events.proofs.MarkTold.{among_before, ends_before, first_part, heard_split, is_before}
+use Rattle.mobile_core.proofs.Common.{append_assoc, heard_within, among_before, sync_stream, events_left, before_next, ends_before, AreNear}
+use Rattle.mobile_core.proofs.Common.{heard_split, sync_known, mark_later, first_part, events_at, sets_mark, StandsFor, mark_told, flat_map}
+use Rattle.mobile_core.proofs.Common.{is_before, list_all, list_any, and_from, cases_lt, mark_set, ForSome, is_some, IsTimed, length, false}
+use Rattle.mobile_core.proofs.Common.{nat_le, le-leb, lt-leb, places, Sample, Mobile, Tuning, Option, events, arith, at_of, Event, Pilot, ℕ}
+use Rattle.mobile_core.proofs.Common.{subst, true, List, ◌++◌, Some, mark, Mark, None, refl, ◌≡◌, ◌+◌, ◌≤◌, ◌∷◌, sym, ◌∙◌, inl, inr, [], ap}
 
 -- the mark of a handset is that of the samples taken
 pub mark_is : (t : Tuning) (mobile : Mobile) (heard : List Sample) (given : List Event) →

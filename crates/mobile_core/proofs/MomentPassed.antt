@@ -1,16 +1,13 @@
 -- What a traffic channel and the pilot sets beside it stand for as a moment passes.
 use Rattle.mobile_core.proofs.Common.{◌≡◌, ℕ, ◌+◌, ◌-◌, ◌<◌, ◌≤◌, List, [], ◌∷◌, ◌++◌, length, take, sym, ap, ◌∙◌, arith, subst, Option}
-use Rattle.mobile_core.proofs.Common.{None, inl, inr, true, false, ◌==◌, flat_map, option_to_list, cases_lt, eq-eqb, take_all, Sample}
-use Rattle.mobile_core.proofs.Common.{filter_ext_places, flat_map_ext_filter_places, Standing, CapsuleStandsFor, AreClose, event_list}
+use Rattle.mobile_core.proofs.Common.{None, inl, inr, true, false, ◌==◌, flat_map, option_to_list, cases_lt, eq-eqb, take_all, Sample, Leg}
+use Rattle.mobile_core.proofs.Common.{filter_ext_places, flat_map_ext_filter_places, Standing, CapsuleStandsFor, AreClose, event_list, Mark}
 use Rattle.mobile_core.proofs.Common.{all_fingers, legs_of, heard_from, kept_to, legs_by, moment_of, moment_place, passed, sets_events}
 use Rattle.mobile_core.proofs.Common.{all_noted, signal_at, signals_before, decoded_at, HearsTraffic, HearsUntuned, kept_in, sets_left_of}
-use Rattle.mobile_core.proofs.Common.{told_left_with, traffic_left_of, frame_known, has_frame, Tuning, Event, Leg, IsSoundHandoff, Mark}
-use Rattle.mobile_core.proofs.Common.{SetsKeeper, Traffic, SoftHandoff}
-use Rattle.std.proofs.lemmas.List.{append-nil}
-use Rattle.heard_events.proofs.FrameBounds.{known_low}
+use Rattle.mobile_core.proofs.Common.{told_left_with, traffic_left_of, frame_known, has_frame, Tuning, Event, IsSoundHandoff, SetsKeeper}
+use Rattle.mobile_core.proofs.Common.{Traffic, SoftHandoff, append-nil, known_low, heard_none, told_left_none}
 use Rattle.mobile_core.proofs.FramesHeard.{closes, from_next, left_unkept, not_left, start_moment, told_given}
 use Rattle.heard_events.proofs.MomentGrowth.{kept_new, kept_old}
-use Rattle.heard_events.proofs.TrafficGrowth.{heard_none, told_left_none}
 
 -- FRAMES ARE HEARD FROM THE PILOTS OF THEIR OWN NUMBER ALONE
 module _ (t : Tuning) (traffic : Traffic) (m : Mark) (legs legs' : ℕ → List Leg) where

@@ -3,10 +3,8 @@ use Rattle.mobile_core.proofs.Common.{◌≡◌, ℕ, ◌+◌, ◌^◌, ◌<◌,
 use Rattle.mobile_core.proofs.Common.{Some, None, IfSome, is_some, nat_lt, ForSome, option_to_list, cases_lt, map-append, Sample, IsDueAt}
 use Rattle.mobile_core.proofs.Common.{page_event, pages_if_marked, FollowsPages, HearsPages, IsUnpaged, paging_left, paging_events_left}
 use Rattle.mobile_core.proofs.Common.{HearsBit, HearsPaging, IsSoundPaging, IsSomeAnd, bits_heard, subst, pages_left, Tuning, Event, Mark}
-use Rattle.mobile_core.proofs.Common.{Paging, PagingReceiver, SpelledPage, told_after}
-use Rattle.reception.proofs.ClockSteps.{before_next, from_next}
-use Rattle.heard_events.proofs.Arrivals.{none_between}
-use Rattle.heard_events.proofs.GoesOn.{GoesOn, goes_as, mapped, never}
+use Rattle.mobile_core.proofs.Common.{Paging, PagingReceiver, SpelledPage, told_after, before_next, from_next, none_between, GoesOn, mapped}
+use Rattle.mobile_core.proofs.Common.{goes_as, never}
 use Rattle.heard_events.proofs.PageGrowth.{page_frames, pages_none}
 use Rattle.heard_events.proofs.PageGrowth as growth
 use Rattle.mobile_core.proofs.PagesHeard as pages

@@ -1,16 +1,12 @@
 -- What the receiver of a paging channel stands for, step by step.
-use Rattle.mobile_core.proofs.Common.{◌≡◌, ℕ, ◌+◌, ◌<◌, ◌≤◌, Bool, true, false, List, [], ◌∷◌, ◌++◌, length, take, refl, sym, ap, ◌∙◌}
-use Rattle.mobile_core.proofs.Common.{subst, arith, inl, inr, Option, Some, slice_get, nat_lt, option_to_list, cases_lt, lt-ltb, le-ltb}
-use Rattle.mobile_core.proofs.Common.{append_assoc, take_all, taken_more, Sample, Framing, half_frame_body, half_frame_capsule_ending}
-use Rattle.mobile_core.proofs.Common.{IsDueAt, clock_after_frame, paging_bits_before, bits_up_to, page_at, page_in, pages_from, HearsBit}
-use Rattle.mobile_core.proofs.Common.{HearsPaging, bit_passed, pages_left, paging_rate, paging_stream, Receives, frame_own_bits, Tuning}
-use Rattle.mobile_core.proofs.Common.{Continued, Mark, PagingReceiver, SpelledPage}
-use Rattle.std.proofs.lemmas.List.{append-nil}
-use Rattle.paging_message.specs.HalfFrames.{HalfFramesStandFor}
-use Rattle.reception.proofs.ClockSteps.{due_inside, due_known, before_next}
+use Rattle.mobile_core.proofs.Common.{◌≡◌, ℕ, ◌+◌, ◌<◌, ◌≤◌, Bool, true, false, List, [], ◌∷◌, ◌++◌, length, take, refl, sym, ap, ◌∙◌, inl}
+use Rattle.mobile_core.proofs.Common.{subst, arith, inr, Option, Some, slice_get, nat_lt, option_to_list, cases_lt, lt-ltb, le-ltb, Sample}
+use Rattle.mobile_core.proofs.Common.{append_assoc, take_all, taken_more, Framing, half_frame_body, half_frame_capsule_ending, IsDueAt}
+use Rattle.mobile_core.proofs.Common.{clock_after_frame, paging_bits_before, bits_up_to, page_at, page_in, pages_from, HearsBit, bit_passed}
+use Rattle.mobile_core.proofs.Common.{HearsPaging, pages_left, paging_rate, paging_stream, Receives, frame_own_bits, Tuning, Continued}
+use Rattle.mobile_core.proofs.Common.{Mark, PagingReceiver, SpelledPage, append-nil, HalfFramesStandFor, due_inside, due_known, before_next}
+use Rattle.mobile_core.proofs.Common.{receives_heard, receives_more, IsOfChannel}
 use Rattle.heard_events.proofs.PageGrowth.{bits_before_more, bits_before_none, bits_before_sooner, left_next, pages_after_last, pages_next}
-use Rattle.reception.proofs.Received.{receives_heard, receives_more}
-use Rattle.mobile_core.specs.PagingReceiving.{IsOfChannel}
 
 pub take_none : {A : Type 0} (xs : List A) → take 0 xs ≡ []
 take_none [] = refl

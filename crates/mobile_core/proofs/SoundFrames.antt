@@ -1,12 +1,9 @@
 -- What always holds of the receiver of a traffic channel, as it goes on.
-use Rattle.mobile_core.proofs.Common.{◌≡◌, ℕ, ◌+◌, ◌*◌, ◌^◌, ◌<◌, ◌≤◌, true, List, length, ℤ, ap, ◌∙◌, arith, subst, Held, sum_by}
-use Rattle.mobile_core.proofs.Common.{unsigned_abs, PowerSofts, Finger, Data, take, AreClose, legs_close, all_fingers, legs_of, frame_end}
-use Rattle.mobile_core.proofs.Common.{IsSoundTraffic, Tuning, Mark, SetsKeeper, Traffic, TrafficReceiver, All, IsInRing, frame_chips}
-use Rattle.heard_events.specs.LegSofts.{IsHeldFrom}
-use Rattle.mobile_core.specs.TrafficReceiving.{IsTunedIn, frame_taken}
+use Rattle.mobile_core.proofs.Common.{◌≡◌, ℕ, ◌+◌, ◌*◌, ◌^◌, ◌<◌, ◌≤◌, true, List, length, ℤ, ap, ◌∙◌, arith, subst, Held, sum_by, Finger}
+use Rattle.mobile_core.proofs.Common.{unsigned_abs, PowerSofts, Data, take, AreClose, legs_close, all_fingers, legs_of, frame_end, Tuning}
+use Rattle.mobile_core.proofs.Common.{IsSoundTraffic, Mark, SetsKeeper, Traffic, TrafficReceiver, All, IsInRing, frame_chips, IsHeldFrom}
+use Rattle.mobile_core.proofs.Common.{IsTunedIn, frame_taken, begun_in_ring, close_ends, all_some, legs_are_close}
 use Rattle.reception.specs.Sound.{IsSoundReceiver}
-use Rattle.rake_finger.proofs.CloseFingers.{begun_in_ring, close_ends}
-use Rattle.heard_events.proofs.LegFingers.{all_some, legs_are_close}
 
 module _ {r : TrafficReceiver} (is : IsSoundTraffic r) where
   -- the samples of its fingers are in the ring when the frame has just ended

@@ -1,9 +1,7 @@
 -- Steps of a handset: those that take no sample, and those that follow one another.
 use Rattle.mobile_core.proofs.Common.{◌≡◌, ℕ, ◌+◌, List, ◌++◌, length, length-append, length-take, length-drop, take, drop, sym, ap, ◌∙◌}
-use Rattle.mobile_core.proofs.Common.{subst, ◌≤◌, arith, Option, Some, None, IfSome, append_assoc, take-add, Sample, event_list, at_of}
-use Rattle.mobile_core.proofs.Common.{Steps, Tells, Event, Mobile, Tuning, ◌^◌, heard_of}
-use Rattle.std.proofs.lemmas.List.{append-nil}
-use Rattle.mobile_core.specs.Standing.{StandsFor}
+use Rattle.mobile_core.proofs.Common.{subst, ◌≤◌, arith, Option, Some, None, IfSome, append_assoc, take-add, Sample, event_list, at_of, ◌^◌}
+use Rattle.mobile_core.proofs.Common.{Steps, Tells, Event, Mobile, Tuning, heard_of, append-nil, StandsFor}
 use Rattle.mobile_core.proofs.ChannelsFollowed.{followed_few}
 use Rattle.mobile_core.proofs.PagesHeard.{take_none}
 

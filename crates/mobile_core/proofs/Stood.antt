@@ -1,19 +1,15 @@
 -- What a handset stands for, step by step.
 use Rattle.mobile_core.proofs.Common.{◌≡◌, ℕ, ◌+◌, ◌<◌, ◌≤◌, false, List, [], ◌∷◌, ◌++◌, length, refl, sym, ap, subst, ◌∙◌, arith, inl, inr}
-use Rattle.mobile_core.proofs.Common.{Option, Some, None, IsTrue, is_some, list_any, ForSome, append_assoc, list_any-append}
-use Rattle.mobile_core.proofs.Common.{Sample, Best, Held, HoldsLast, IsDueAt, events, EndFrom, HearsFollowed, IsFollowedDue, CheckForm}
-use Rattle.mobile_core.proofs.Common.{WaitFrom, first_of, mark_before, marks_at, followed_events_left, event_list, pilot_left}
-use Rattle.mobile_core.proofs.Common.{sync_events_left, sets_mark, AreNear, SetsMark, IsSoundSync, IsDueIn, Stands, left_of, HearsSync}
-use Rattle.mobile_core.proofs.Common.{HearsNext, Tuning, sync_stream, Event, Pilot, Followed, Mark, SyncReceiver, ◌||◌}
+use Rattle.mobile_core.proofs.Common.{Option, Some, None, IsTrue, is_some, list_any, ForSome, append_assoc, list_any-append, Sample, Best}
+use Rattle.mobile_core.proofs.Common.{Held, HoldsLast, IsDueAt, events, EndFrom, HearsFollowed, IsFollowedDue, CheckForm, WaitFrom, AreNear}
+use Rattle.mobile_core.proofs.Common.{first_of, mark_before, marks_at, followed_events_left, event_list, pilot_left, sync_events_left, Mark}
+use Rattle.mobile_core.proofs.Common.{sets_mark, SetsMark, IsSoundSync, IsDueIn, Stands, left_of, HearsSync, HearsNext, Tuning, sync_stream}
+use Rattle.mobile_core.proofs.Common.{Event, Pilot, Followed, SyncReceiver, ◌||◌, append-nil, before_next, from_next, due_inside, due_known}
+use Rattle.mobile_core.proofs.Common.{none_known, sync_goes, mark_before_more, mark_later}
 use Rattle.std.proofs.Math.Bool.{or-false}
-use Rattle.std.proofs.lemmas.List.{append-nil}
 use Rattle.mobile_core.proofs.ChannelsFollowed.{ends_later, followed_more, goes_on}
-use Rattle.reception.proofs.ClockSteps.{before_next, from_next, due_inside, due_known}
 use Rattle.heard_events.proofs.EventsGrown.{heard_none}
 use Rattle.mobile_core.proofs.EventsCome.{events_grown}
-use Rattle.heard_events.proofs.Growth.{none_known, sync_goes}
-use Rattle.heard_events.proofs.MarkGrowth.{mark_before_more}
-use Rattle.heard_events.proofs.MarkLater.{mark_later}
 use Rattle.mobile_core.proofs.SyncHeard.{hears_more}
 use Rattle.mobile_core.specs.SoundHandset.{IsSound}
 

@@ -1,12 +1,9 @@
 -- What the receiver of the sync channel stands for, step by step.
-use Rattle.mobile_core.proofs.Common.{◌≡◌, ℕ, ◌+◌, ◌<◌, ◌≤◌, Bool, false, ◌||◌, List, [], ◌∷◌, ◌++◌, length, refl, sym, ◌∙◌, arith}
-use Rattle.mobile_core.proofs.Common.{Option, Some, None, slice_get, is_some, option_or, Sample, piece, IsDueAt, frames_open}
-use Rattle.mobile_core.proofs.Common.{Receives, is_in_file, frames_before, HearsSync, Tuning, sync_stream, Continued, Mark, SyncReceiver}
-use Rattle.reception.proofs.ClockSteps.{before_next}
+use Rattle.mobile_core.proofs.Common.{frames_before_sooner, frames_before_none, mark_before_sooner, mark_before_none, frames_open-none, ◌≡◌}
+use Rattle.mobile_core.proofs.Common.{frames_before, receives_more, SyncReceiver, frames_open, sync_stream, before_next, is_in_file, length}
+use Rattle.mobile_core.proofs.Common.{slice_get, option_or, HearsSync, Continued, Receives, is_some, IsDueAt, Option, Sample, Tuning, false}
+use Rattle.mobile_core.proofs.Common.{arith, piece, Bool, ◌||◌, List, ◌++◌, refl, Some, None, Mark, ◌+◌, ◌<◌, ◌≤◌, ◌∷◌, sym, ◌∙◌, [], ℕ}
 use Rattle.rake_finger.proofs.FrameTimes.{outside_low}
-use Rattle.heard_events.proofs.Growth.{frames_before_sooner, frames_before_none}
-use Rattle.heard_events.proofs.MarkGrowth.{mark_before_none, mark_before_sooner, frames_open-none}
-use Rattle.reception.proofs.Received.{receives_more}
 use Rattle.sync_message.specs.Framing as framing
 
 pub either : (m n : Option Mark) → is_some (option_or m n) ≡ (is_some m || is_some n)

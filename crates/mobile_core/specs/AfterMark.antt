@@ -1,19 +1,13 @@
 -- What the receivers stand for that a mark opens.
+use Rattle.mobile_core.specs.Common.{Traffic, Sample, pages_left, Tuning, Event, Mark, SpelledPage}
 use Rattle.std.specs.Prelude.{◌≡◌, ◌⊎◌, ℕ, ◌-◌, ◌*◌, ◌<◌, ◌≤◌, Bool, true, false, nat_lt, List, map}
 use Rattle.std.specs.Prelude.{length, Option, Some, None, []}
 use Rattle.std.specs.Option.{ForSome}
-use Rattle.chip_core.specs.declared.assignment.Traffic.{Traffic}
-use Rattle.chip_core.specs.declared.sample.Sample.{Sample}
 use Rattle.heard_events.specs.PagingEvents.{page_event}
 use Rattle.mobile_core.specs.PagingReceiving.{HearsPaging, bits_heard}
-use Rattle.heard_events.specs.Left.{pages_left}
 use Rattle.heard_events.specs.TrafficEvents.{if_followed}
 use Rattle.mobile_core.specs.TrafficReceiving.{HearsTraffic, traffic_left_of}
-use Rattle.heard_events.specs.Tuning.{Tuning}
-use Rattle.heard_events.specs.declared.event.Event.{Event}
-use Rattle.heard_events.specs.declared.mark.Mark.{Mark}
 use Rattle.mobile_core.specs.declared.paging_receiver.PagingReceiver.{PagingReceiver}
-use Rattle.heard_events.specs.SpelledMessages.{SpelledPage}
 use Rattle.mobile_core.specs.declared.soft_handoff.SoftHandoff.{SoftHandoff}
 
 -- What is told by n samples leaves the mark, or sets one that lies after them.

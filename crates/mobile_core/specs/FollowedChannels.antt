@@ -1,19 +1,14 @@
 -- What the channels stand for that a handset follows from the mark on.
+use Rattle.mobile_core.specs.Common.{Traffic, Sample, IsDueAt, Tuning, Event, Mark}
 use Rattle.std.specs.Prelude.{◌≡◌, ◌⊎◌, ℕ, ◌+◌, ◌<◌, ◌≤◌, List, [], ◌++◌, take, pos, slice_get}
 use Rattle.std.specs.Prelude.{Option, Some}
 use Rattle.std.specs.Option.{ForSome, IsSomeAnd, MatchOption, option_map_or}
-use Rattle.chip_core.specs.declared.assignment.Traffic.{Traffic}
-use Rattle.chip_core.specs.declared.sample.Sample.{Sample}
 use Rattle.mobile_core.specs.AfterMark.{FollowsPages, FollowsTraffic, IsSoundAssignment, IsUnheard}
 use Rattle.mobile_core.specs.AfterMark.{IsUnpaged, paging_due, paging_left, traffic_left}
-use Rattle.reception.specs.Clocks.{IsDueAt}
 use Rattle.mobile_core.specs.PagingReceiving.{IsSoundPaging, bits_heard}
 use Rattle.mobile_core.specs.TrafficReceiving.{IsSoundHandoff, IsTrafficDue, WaitsAt, next_end}
 use Rattle.mobile_core.specs.TrafficReceiving.{traffic_due, traffic_heard}
-use Rattle.heard_events.specs.Tuning.{Tuning}
-use Rattle.heard_events.specs.declared.event.Event.{Event}
 use Rattle.mobile_core.specs.declared.followed.Followed.{Followed}
-use Rattle.heard_events.specs.declared.mark.Mark.{Mark}
 use Rattle.mobile_core.specs.declared.paging_receiver.PagingReceiver.{PagingReceiver}
 use Rattle.mobile_core.specs.declared.soft_handoff.SoftHandoff.{SoftHandoff}
 

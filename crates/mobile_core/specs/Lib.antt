@@ -1,4 +1,4 @@
--- The modules of definitions of `mobile_core`.
+pub mod Common
 pub mod SyncReceiving
 pub mod PagingReceiving
 pub mod TrafficReceiving

@@ -1,24 +1,16 @@
 -- What the receiver of a paging channel stands for.
+use Rattle.mobile_core.specs.Common.{Sample, paging_mask, Data, IsDueAt, clock_after_frame, Tuning}
+use Rattle.mobile_core.specs.Common.{pages_left, Scrambling, IsSoundChannel, Mark, SpelledPage}
 use Rattle.std.specs.Prelude.{◌≡◌, ℕ, ◌*◌, ◌+◌, ◌<◌, ◌≤◌, ◌^◌, if◌then◌else◌, List, ◌++◌, length}
 use Rattle.std.specs.Prelude.{nat_lt, take, Option}
 use Rattle.std.specs.Option.{option_to_list}
-use Rattle.chip_core.specs.declared.sample.Sample.{Sample}
-use Rattle.long_code.specs.LongCode.{paging_mask}
-use Rattle.paging_message.specs.HalfFrames as half_frames
-use Rattle.rake_finger.specs.declared.form.Form.TheVariants.{Data}
-use Rattle.reception.specs.Clocks.{IsDueAt, clock_after_frame}
-use Rattle.heard_events.specs.Left.{pages_left}
 use Rattle.heard_events.specs.PagingEvents.{paging_bits_before}
 use Rattle.heard_events.specs.PagingStreams.{paging_rate, paging_stream}
 use Rattle.reception.specs.Receiving.{Receives}
-use Rattle.reception.specs.declared.scrambling.Scrambling.{Scrambling}
 use Rattle.quality_bits.specs.declared.rate.Rate.{Rate}
-use Rattle.reception.specs.Sound.{IsSoundChannel}
 use Rattle.heard_events.specs.Streams.{frame_own_bits}
-use Rattle.heard_events.specs.Tuning.{Tuning}
-use Rattle.heard_events.specs.declared.mark.Mark.{Mark}
 use Rattle.mobile_core.specs.declared.paging_receiver.PagingReceiver.{PagingReceiver}
-use Rattle.heard_events.specs.SpelledMessages.{SpelledPage}
+use Rattle.paging_message.specs.HalfFrames as half_frames
 
 -- the bits of the next frame, of which the framer took so many, are those of a frame that is due
 pub record IsUnderWay (t : Tuning) (channel : ℕ) (m : Mark) (r : PagingReceiver)

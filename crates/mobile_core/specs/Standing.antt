@@ -1,22 +1,18 @@
 -- What a handset stands for, and what a step does.
+use Rattle.mobile_core.specs.Common.{Sample, IsDueAt, event_list, at_of, pilot_left, Tuning, Event}
+use Rattle.mobile_core.specs.Common.{sync_events_left}
 use Rattle.std.specs.Prelude.{◌≡◌, ◌⊎◌, ℕ, ◌+◌, ◌-◌, ◌^◌, ◌≤◌, List, ◌++◌, length, take, is_some}
 use Rattle.std.specs.Prelude.{None, Option, IfSome, IsTrue}
 use Rattle.std.specs.List.{list_any}
 use Rattle.std.specs.Option.{ForSome}
 use Rattle.chip_core.specs.declared.check_form.CheckForm.{CheckForm}
-use Rattle.chip_core.specs.declared.sample.Sample.{Sample}
 use Rattle.pilot_search.specs.declared.sweeping.Best.{Best}
 use Rattle.rake_finger.specs.Held.{Held, HoldsLast}
-use Rattle.reception.specs.Clocks.{IsDueAt}
 use Rattle.heard_events.specs.Events.{events}
-use Rattle.heard_events.specs.Given.{event_list, at_of}
-use Rattle.heard_events.specs.Left.{pilot_left, sync_events_left}
 use Rattle.heard_events.specs.Marks.{sets_mark}
 use Rattle.mobile_core.specs.FollowedChannels.{HearsFollowed, IsFollowedDue, followed_due}
 use Rattle.mobile_core.specs.FollowedChannels.{followed_events_left, followed_heard}
 use Rattle.mobile_core.specs.SyncReceiving.{HearsSync}
-use Rattle.heard_events.specs.Tuning.{Tuning}
-use Rattle.heard_events.specs.declared.event.Event.{Event}
 use Rattle.mobile_core.specs.declared.mobile.Mobile.{Mobile}
 use Rattle.mobile_core.specs.declared.mobile.Step.{Step}
 use Rattle.mobile_core.specs.declared.followed.Followed.{Followed}

@@ -1,21 +1,15 @@
 -- What the receiver of the sync channel stands for.
+use Rattle.mobile_core.specs.Common.{Sample, Sync, event_list, sync_events_left, IsSoundChannel}
+use Rattle.mobile_core.specs.Common.{IsSoundMark, Tuning, sync_stream, Event}
 use Rattle.std.specs.Prelude.{◌≡◌, ◌≤◌, ℕ, ◌-◌, ◌*◌, ◌^◌, ◌||◌, List, ◌++◌, is_some, Option}
 use Rattle.std.specs.List.{list_any}
 use Rattle.std.specs.Option.{ForSome}
-use Rattle.chip_core.specs.declared.sample.Sample.{Sample}
 use Rattle.rake_finger.specs.Soft.{frame_chips}
-use Rattle.rake_finger.specs.declared.form.Form.TheVariants.{Sync}
-use Rattle.sync_message.specs.Framing as framing
-use Rattle.heard_events.specs.Given.{event_list}
-use Rattle.heard_events.specs.Left.{sync_events_left}
 use Rattle.heard_events.specs.Marks.{frames_open, mark_before, sets_mark}
 use Rattle.reception.specs.Receiving.{Receives}
-use Rattle.reception.specs.Sound.{IsSoundChannel}
-use Rattle.heard_events.specs.SoundMarks.{IsSoundMark}
 use Rattle.heard_events.specs.SyncEvents.{frames_before}
-use Rattle.heard_events.specs.Tuning.{Tuning, sync_stream}
-use Rattle.heard_events.specs.declared.event.Event.{Event}
 use Rattle.mobile_core.specs.declared.sync_receiver.SyncReceiver.{SyncReceiver}
+use Rattle.sync_message.specs.Framing as framing
 
 -- It has taken these samples, and of the frames in them has heard those before the next one.
 pub record HearsSync (t : Tuning) (r : SyncReceiver) (heard : List Sample) : Type 0 where

@@ -1,20 +1,19 @@
 -- What the receiver of a traffic channel and the pilot sets beside it stand for.
-use Rattle.std.specs.Prelude.{◌≡◌, ◌⊎◌, ℕ, ◌+◌, ◌-◌, ◌*◌, ◌<◌, ◌≤◌, ◌^◌, true, List, ◌∷◌, ◌++◌}
-use Rattle.std.specs.Prelude.{length, take, sum_by, unsigned_abs, IsTrue, Option, Some, None}
-use Rattle.std.specs.Prelude.{is_some, min, if◌then◌else◌, ℤ, Bool, false}
+use Rattle.mobile_core.specs.Common.{Sample, traffic_mask, frames_left_of, messages_left_of, Tuning}
+use Rattle.mobile_core.specs.Common.{sets_left_of, Event, Mark, Traffic, SpelledSignal, frame_come}
+use Rattle.mobile_core.specs.Common.{IsSoundReceiver, Scrambling}
+use Rattle.std.specs.Prelude.{◌≡◌, ◌⊎◌, ℕ, ◌+◌, ◌-◌, ◌*◌, ◌<◌, ◌≤◌, ◌^◌, true, List, ◌∷◌, ◌++◌, min}
+use Rattle.std.specs.Prelude.{length, take, sum_by, unsigned_abs, IsTrue, Option, Some, None, ℤ}
+use Rattle.std.specs.Prelude.{is_some, if◌then◌else◌, Bool, false}
 use Rattle.chip_core.specs.Air.{data_frame_chips}
-use Rattle.chip_core.specs.declared.sample.Sample.{Sample}
 use Rattle.frame_decoder.specs.TrafficFrames.{summed_subchannels}
 use Rattle.frame_decoder.specs.declared.power.PowerSofts.{PowerSofts}
-use Rattle.long_code.specs.LongCode.{traffic_mask}
 use Rattle.pilot_search.specs.declared.paths.Near.{Near}
 use Rattle.pilot_sets.specs.Standing.{Standing, new_standing}
 use Rattle.quality_bits.specs.Pieces.{CapsuleStandsFor}
 use Rattle.rake_finger.specs.declared.finger.Finger.{Finger}
-use Rattle.heard_events.specs.Close as closes
 use Rattle.rake_finger.specs.Near.{AreClose}
 use Rattle.heard_events.specs.Close.{paths_close, places_in}
-use Rattle.heard_events.specs.Left.{frames_left_of, messages_left_of, sets_left_of}
 use Rattle.heard_events.specs.Legs.{all_fingers, legs_of}
 use Rattle.heard_events.specs.Moments.{heard_from, kept_to, legs_by, moment_of, moment_place}
 use Rattle.heard_events.specs.Noted.{all_noted, noted_with}
@@ -22,18 +21,11 @@ use Rattle.heard_events.specs.SetsKeeping.{IsSoundKeeper, coming_place}
 use Rattle.heard_events.specs.Signaling.{message_events, signals_before}
 use Rattle.heard_events.specs.TrafficEvents.{all_sums, raw_softs}
 use Rattle.heard_events.specs.TrafficStreams.{frame_known, frame_state, traffic_start}
-use Rattle.heard_events.specs.Tuning.{Tuning}
-use Rattle.heard_events.specs.declared.event.Event.{Event}
-use Rattle.heard_events.specs.declared.mark.Mark.{Mark}
 use Rattle.heard_events.specs.declared.leg.Leg.{Leg}
 use Rattle.heard_events.specs.declared.sets_keeper.SetsKeeper.{SetsKeeper}
-use Rattle.chip_core.specs.declared.assignment.Traffic.{Traffic}
-use Rattle.heard_events.specs.SpelledMessages.{SpelledSignal}
-use Rattle.reception.specs.Clocks.{frame_come}
-use Rattle.reception.specs.Sound.{IsSoundReceiver}
-use Rattle.reception.specs.declared.scrambling.Scrambling.{Scrambling}
 use Rattle.mobile_core.specs.declared.soft_handoff.SoftHandoff.{SoftHandoff}
 use Rattle.mobile_core.specs.declared.traffic_receiver.TrafficReceiver.{TrafficReceiver}
+use Rattle.heard_events.specs.Close as closes
 
 -- THE PILOT SETS
 -- sets beside a receiver

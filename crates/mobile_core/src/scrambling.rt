@@ -1,9 +1,8 @@
 //! The scrambling of paging and traffic channels.
 
+ghost use Rattle.mobile_core.specs.Common.{paging_mask, traffic_mask, IsSoundMark};
 ghost use Rattle.std.specs.Prelude.{◌≡◌, ◌<◌, ◌≤◌, ◌^◌};
 ghost use Rattle.heard_events.specs.TrafficStreams.{frame_state};
-ghost use Rattle.long_code.specs.LongCode.{paging_mask, traffic_mask};
-ghost use Rattle.heard_events.specs.SoundMarks.{IsSoundMark};
 
 use chip_core::Traffic;
 use chip_core::air::FRAME_OFFSET_CHIPS;

@@ -1,10 +1,9 @@
 //! The sync channel as it is received.
 
+ghost use Rattle.mobile_core.specs.Common.{at_of, event_list, IsSoundMark};
 ghost use Rattle.std.specs.Prelude.{◌≡◌, ◌<◌, ◌≤◌, ◌^◌, IfSome};
 ghost use Rattle.std.specs.Option.{ForSome, option_or};
-ghost use Rattle.heard_events.specs.Given.{at_of, event_list};
 ghost use Rattle.heard_events.specs.Marks.{first_of, frames_with, marks_of};
-ghost use Rattle.heard_events.specs.SoundMarks.{IsSoundMark};
 ghost use Rattle.heard_events.specs.SyncEvents.{events_of};
 
 use chip_core::air::{CODE_CHIPS, OFFSET_CHIPS, SUPERFRAME_BITS, SUPERFRAME_CHIPS, SYNC_ROW};

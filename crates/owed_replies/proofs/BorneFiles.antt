@@ -1,11 +1,10 @@
 -- Files whose sync channel bears their noise: a handset that hears one is told the time just where
 -- the cell tells it.
-use Rattle.owed_replies.proofs.Common.{◌≡◌, ℕ, List, length, take, refl, sym, ap, ◌∙◌, subst, Option, None, Some, is_some, Contains}
-use Rattle.owed_replies.proofs.Common.{Sample, Width, Header, CellPlan, PagingPlan, TrafficPlan, SyncPlan, IsReceivable, made_samples, mark}
-use Rattle.owed_replies.proofs.Common.{Tuning, IsOnPath, IsNearFile, IsPlanFile, IsCellFile, lawful_traffic, named_receivable}
-use Rattle.owed_replies.proofs.Common.{clean_end, end_when, settings_for, tuning_for, Traffic, All-contains, Bears, HasSyncSigns, IsNear}
-use Rattle.owed_replies.proofs.Common.{IsPagingPlan, IsSyncPlan, clean_signs, marked_in, near_sync, shows_sync}
-use Rattle.owed_replies.proofs.Common.{near-equal, near-same, none_borne, sent_paging_rate}
+use Rattle.owed_replies.proofs.Common.{named_receivable, sent_paging_rate, lawful_traffic, IsReceivable, made_samples, settings_for, length}
+use Rattle.owed_replies.proofs.Common.{All-contains, HasSyncSigns, IsPagingPlan, TrafficPlan, clean_signs, PagingPlan, IsNearFile, Contains}
+use Rattle.owed_replies.proofs.Common.{IsPlanFile, IsCellFile, tuning_for, IsSyncPlan, shows_sync, near-equal, none_borne, clean_end, subst}
+use Rattle.owed_replies.proofs.Common.{marked_in, near_sync, near-same, CellPlan, SyncPlan, IsOnPath, end_when, is_some, Traffic, Option, ℕ}
+use Rattle.owed_replies.proofs.Common.{Sample, Header, Tuning, IsNear, Width, Bears, List, take, refl, None, Some, mark, ◌≡◌, sym, ◌∙◌, ap}
 use Rattle.owed_replies.proofs.TuningLaw.{near_long, on_plans_path}
 
 -- The sync channel bears noise of this size, or the cell sends none and there is no noise.

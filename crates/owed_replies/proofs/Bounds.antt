@@ -1,9 +1,9 @@
 -- Lemmas on how many bytes are taken of an input at most.
-use Rattle.owed_replies.proofs.Common.{◌≡◌, ℕ, ◌+◌, ◌-◌, ◌*◌, ◌≤◌, ◌++◌, min, List, [], length, sym, ap, arith, subst, length-append}
-use Rattle.owed_replies.proofs.Common.{Option, None, Some, IfSome, Result, Ok, Err, Consumes-nil, Consumes-trans, flat_map, Consumes}
-use Rattle.owed_replies.proofs.Common.{Sample, Width, ConsumesAtMost, Opens, Reading, header_spelling, opening, sample_len, sample_spelling}
-use Rattle.owed_replies.proofs.Common.{width_of, FileFault, Header, length-header_spelling, length-samples, sample_len-mono, PassesSamples}
-use Rattle.owed_replies.proofs.Common.{TakesNoMore, TakesSpan, file_end, most_taken, TaskTakesNoMore, Task, Make, Receive, Trial}
+use Rattle.owed_replies.proofs.Common.{◌≡◌, ℕ, ◌+◌, ◌-◌, ◌*◌, ◌≤◌, ◌++◌, min, List, [], length, sym, ap, arith, subst, length-append, None}
+use Rattle.owed_replies.proofs.Common.{Option, Some, IfSome, Result, Ok, Err, Consumes-nil, Consumes-trans, flat_map, Consumes, Sample}
+use Rattle.owed_replies.proofs.Common.{Width, ConsumesAtMost, Opens, Reading, header_spelling, opening, sample_len, sample_spelling, Header}
+use Rattle.owed_replies.proofs.Common.{width_of, FileFault, length-header_spelling, length-samples, sample_len-mono, PassesSamples, Task}
+use Rattle.owed_replies.proofs.Common.{TakesNoMore, TakesSpan, file_end, most_taken, TaskTakesNoMore, Make, Receive, Trial}
 
 -- ---- bounds
 

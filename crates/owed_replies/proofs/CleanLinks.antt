@@ -1,9 +1,9 @@
 -- What is written of a clean link is what its cell sends, channel by channel.
 use Rattle.owed_replies.proofs.Common.{◌≡◌, ◌⊎◌, inl, inr, ℕ, ◌≤◌, List, ◌++◌, length, take, refl, ap, ◌∙◌, subst, All, Option, Some, Ok}
-use Rattle.owed_replies.proofs.Common.{Sample, Width, IsSampleFile, Header, made_samples, CellPlan, KeptTap, run_text, events, Tuning}
+use Rattle.owed_replies.proofs.Common.{Sample, Width, IsSampleFile, Header, made_samples, CellPlan, KeptTap, run_text, events, Tuning, told}
 use Rattle.owed_replies.proofs.Common.{Event, Traffic, IsPaging, tuning_to, IsNotDirected, IsOnPath, IsCleanLink, cell_energy, HearsEach}
-use Rattle.owed_replies.proofs.Common.{each_channel, WritesEach, clean_end, file_end_of, file_text, told, settings_for, tuning_for}
-use Rattle.owed_replies.proofs.Common.{AnswersAfter, IsFileReply, Reply, following, Status, NoMemory, named_receivable}
+use Rattle.owed_replies.proofs.Common.{each_channel, WritesEach, clean_end, file_end_of, file_text, settings_for, tuning_for, AnswersAfter}
+use Rattle.owed_replies.proofs.Common.{IsFileReply, Reply, following, Status, NoMemory, named_receivable}
 use Rattle.owed_replies.proofs.CleanTexts.{clean_end-is, on_path, tuned_to_cell}
 use Rattle.owed_replies.proofs.Replies.{whole_file}
 

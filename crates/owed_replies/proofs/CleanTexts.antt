@@ -1,10 +1,10 @@
 -- The text of a clean link.
 use Rattle.owed_replies.proofs.Common.{◌≡◌, ◌⊎◌, inl, inr, ℕ, ◌≤◌, List, ◌++◌, length, take, sym, ap, ◌∙◌, subst, All, Option, Some, Ok}
 use Rattle.owed_replies.proofs.Common.{Sample, IsSampleFile, Header, Width, energy, IsFreeOf, phase_at, CellPlan, named_receivable, KeptTap}
-use Rattle.owed_replies.proofs.Common.{run_text, events, Event, IsPaging, made_samples, Tuning, IsCellFile, IsCleanLink, cell_energy}
+use Rattle.owed_replies.proofs.Common.{run_text, events, Event, IsPaging, made_samples, Tuning, IsCellFile, IsCleanLink, cell_energy, told}
 use Rattle.owed_replies.proofs.Common.{IsNotDirected, IsOnPath, IsTunedToPlan, tuning_to, FollowsSent, sent_events, messages_back, tuned_is}
-use Rattle.owed_replies.proofs.Common.{Traffic, clean_end, clean_events, told, file_end_of, file_text, settings_for, tuning_for}
-use Rattle.owed_replies.proofs.Common.{AnswersAfter, IsFileReply, Reply, following, Settings, Status, NoMemory}
+use Rattle.owed_replies.proofs.Common.{Traffic, clean_end, clean_events, file_end_of, file_text, settings_for, tuning_for, AnswersAfter}
+use Rattle.owed_replies.proofs.Common.{IsFileReply, Reply, following, Settings, Status, NoMemory}
 use Rattle.owed_replies.proofs.BorneFiles.{cell_borne, end_is, path}
 use Rattle.owed_replies.proofs.Replies.{whole_file}
 

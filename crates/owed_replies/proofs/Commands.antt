@@ -1,10 +1,8 @@
 -- Lemmas on what is promised of a command: a run that does the task of the job that arguments name does
 -- their command, and so does one that moves nothing, of arguments that name none or for want of memory.
-use Rattle.owed_replies.proofs.Common.{◌≡◌, ◌↔◌, ℕ, ◌⊎◌, inl, inr, List, [], refl, sym, subst, arith, Option, None, Some, Appends-nil, Job}
-use Rattle.owed_replies.proofs.Common.{IsLawfulJob, Purpose, Status, Task, Receive, IsCut, IsEnd, IsLong, IsFileEnd, IsPurposeEnd}
-use Rattle.owed_replies.proofs.Common.{IsSearchEnd, IsEndOf, IsTaskEnd, IsVerdict, RunsCommand, RunsTask, task_of}
+use Rattle.owed_replies.proofs.Common.{◌≡◌, ◌↔◌, ℕ, ◌⊎◌, List, [], refl, subst, Option, Some, Job, IsLawfulJob, Purpose, Status, Task}
+use Rattle.owed_replies.proofs.Common.{Receive, IsFileEnd, IsPurposeEnd, IsSearchEnd, IsTaskEnd, RunsCommand, RunsTask, task_of}
 use Rattle.command_line.specs.declared.job.Job.TheVariants.{Follow, Trial}
-use Rattle.owed_replies.proofs.Bounds.{none_most, unread_most}
 use Rattle.owed_replies.proofs.CleanLinks.{each_answer}
 use Rattle.owed_replies.proofs.CleanTexts.{clean_answer}
 use Rattle.owed_replies.proofs.Completed.{complete_answer}

@@ -1,9 +1,9 @@
 -- An input without a fault is read to its end, unless a call on the outside fails or memory runs out.
 use Rattle.owed_replies.proofs.Common.{◌≡◌, ℕ, ◌⊎◌, inl, inr, List, refl, sym, subst, Bool, true, false, Option, None, Some, IfSome, Result}
 use Rattle.owed_replies.proofs.Common.{Ok, Err, IsOk, Rose, FileFault, ScriptFault, plan_named, KeptTap, Reception, Status, Task, Make}
-use Rattle.owed_replies.proofs.Common.{Receive, Trial, IsEnd, IsSearchable, end_when, file_end_of, file_text, made_file, Answers}
-use Rattle.owed_replies.proofs.Common.{IsAnswered, IsFileReply, IsLawfulTaskInput, IsTaskEnd, IsTaskReply, Reply, TaskReadsInput}
-use Rattle.owed_replies.proofs.Common.{TaskReadsWell, taps_by, RunsTask, trial_line}
+use Rattle.owed_replies.proofs.Common.{Receive, Trial, IsEnd, IsSearchable, end_when, file_end_of, file_text, made_file, Answers, IsTaskEnd}
+use Rattle.owed_replies.proofs.Common.{IsAnswered, IsFileReply, IsLawfulTaskInput, IsTaskReply, Reply, TaskReadsInput, TaskReadsWell}
+use Rattle.owed_replies.proofs.Common.{taps_by, RunsTask, trial_line}
 use Rattle.owed_replies.proofs.Replies.{named_well, one_task_reply, whole_file}
 
 -- an input is owed a whole text, and a good end

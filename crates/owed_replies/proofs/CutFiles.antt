@@ -1,14 +1,11 @@
 -- Lemmas on how many samples some bytes are, and on what is taken of a sample file that isn't read whole.
-use Rattle.owed_replies.proofs.Common.{◌≡◌, ℕ, ◌+◌, ◌*◌, ◌≤◌, ◌++◌, min, List, length, sym, ap, ◌∙◌, subst, arith, append_assoc}
-use Rattle.owed_replies.proofs.Common.{length-append, Option, None, Some, IfSome, Ok, Err, flat_map, Consumes, Sample, ConsumesAtMost}
-use Rattle.owed_replies.proofs.Common.{FileFault, Extra, ReadFault, Header, Width, Opens, Reading, header_spelling, opening, sample_len}
-use Rattle.owed_replies.proofs.Common.{sample_spelling, width_of, opening-spelled, length-header_spelling, sample_len-mono, KeptTap}
-use Rattle.owed_replies.proofs.Common.{IsLong, file_status, Reception}
-use Rattle.std.proofs.Common.{◌<◌}
+use Rattle.owed_replies.proofs.Common.{◌≡◌, ℕ, ◌+◌, ◌*◌, ◌≤◌, ◌++◌, min, List, length, sym, ap, ◌∙◌, subst, arith, append_assoc, Option, Ok}
+use Rattle.owed_replies.proofs.Common.{length-append, None, Some, IfSome, Err, flat_map, Consumes, Sample, ConsumesAtMost, FileFault, Extra}
+use Rattle.owed_replies.proofs.Common.{ReadFault, Header, Width, Opens, Reading, header_spelling, opening, sample_len, sample_spelling, ◌<◌}
+use Rattle.owed_replies.proofs.Common.{width_of, opening-spelled, length-header_spelling, sample_len-mono, KeptTap, IsLong, file_status}
+use Rattle.owed_replies.proofs.Common.{Reception, CutsShort, IsLawfulHeader, IsUnopened, TakesFew, WritesAll, WritesFirst}
 use Rattle.cdma_io.specs.Outside.{ConsumesFewer}
 use Rattle.chip_core.specs.declared.width.Width.TheVariants.{Eight, Sixteen}
-use Rattle.cdma_io.specs.SampleFile.{CutsShort, IsLawfulHeader}
-use Rattle.owed_replies.specs.Broken.{IsUnopened, TakesFew, WritesAll, WritesFirst}
 
 -- ---- how many samples some bytes are
 

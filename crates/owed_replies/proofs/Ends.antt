@@ -1,14 +1,10 @@
 -- Lemmas on runs that end before the file does, and on runs over a file that nobody hears.
 use Rattle.owed_replies.proofs.Common.{◌≡◌, ℕ, ◌≤◌, ◌++◌, List, refl, ap, arith, ◌∙◌, true, Option, None, Some, IfSome, Result, ◌⊎◌, inl}
-use Rattle.owed_replies.proofs.Common.{[], Bool, flat_map, Appends-nil, Sample, Rose, FileFault, ReadFault, Header, header_spelling}
-use Rattle.owed_replies.proofs.Common.{sample_spelling, width_of, KeptTap, front_begins, Status, Done, NoSync, BadFile, NoMemory}
-use Rattle.owed_replies.proofs.Common.{WriteFault, file_status, BeginsFile, IsEnd, IsFault, TakesNoMore, TakesSpan, WritesNoMore, ended}
-use Rattle.owed_replies.proofs.Common.{PurposeIsUnheard, end_when, is_told, listening, Purpose, Follow, Tuned, ReceivesFile, Reception}
-use Rattle.owed_replies.proofs.Common.{IsOk, Width, plan_named}
-use Rattle.std.specs.Io.KnownBytes.{IsAtEnd}
-use Rattle.owed_replies.specs.Make.{WritesNoMoreMade, WritesMadeFile}
-use Rattle.cdma_io.specs.Outside.{ConsumesAtMost}
-use Rattle.owed_replies.specs.TaskRuns.{MakesFile}
+use Rattle.owed_replies.proofs.Common.{[], Bool, flat_map, Appends-nil, Sample, Rose, FileFault, ReadFault, Header, header_spelling, Status}
+use Rattle.owed_replies.proofs.Common.{sample_spelling, width_of, KeptTap, front_begins, Done, NoSync, BadFile, NoMemory, WriteFault, IsEnd}
+use Rattle.owed_replies.proofs.Common.{file_status, BeginsFile, IsFault, TakesNoMore, TakesSpan, WritesNoMore, ended, PurposeIsUnheard}
+use Rattle.owed_replies.proofs.Common.{end_when, is_told, listening, Purpose, Follow, Tuned, ReceivesFile, Reception, IsOk, Width, IsAtEnd}
+use Rattle.owed_replies.proofs.Common.{plan_named, WritesNoMoreMade, WritesMadeFile, ConsumesAtMost, MakesFile}
 
 -- a status that comes of a fault of the file blames a read, or the file's bytes
 pub by_file_status : (P : Status → Type 0) (fault : FileFault) → P Status.ReadFault →

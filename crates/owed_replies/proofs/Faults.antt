@@ -1,11 +1,9 @@
 -- Lemmas on the one fault that a bad file has, and its place.
-use Rattle.owed_replies.proofs.Common.{◌≡◌, ◌≢◌, ℕ, ◌+◌, ◌-◌, ◌*◌, ◌≤◌, ◌++◌, min, List, length, refl, ap, subst, arith, inl, inr}
-use Rattle.owed_replies.proofs.Common.{length-append, Option, None, Some, IfSome, Ok, Err, flat_map, Consumes, Sample, FileFault, Short}
-use Rattle.owed_replies.proofs.Common.{Extra, ReadFault, TooFew, Header, Opens, Reading, header_spelling, opening, sample_len}
-use Rattle.owed_replies.proofs.Common.{sample_spelling, width_of, opening-spelled, length-header_spelling, length-samples, sample_len-mono}
-use Rattle.owed_replies.proofs.Common.{append_assoc, ◌∙◌, IsFaultIn, IsRestFault, PassesSamples}
-use Rattle.std.proofs.Common.{◌<◌}
-use Rattle.cdma_io.specs.SampleFile.{CutsShort, IsLawfulHeader, RunsOn, next_place}
+use Rattle.owed_replies.proofs.Common.{◌≡◌, ◌≢◌, ℕ, ◌+◌, ◌-◌, ◌*◌, ◌≤◌, ◌++◌, min, List, length, refl, ap, subst, arith, inl, inr, Option}
+use Rattle.owed_replies.proofs.Common.{length-append, None, Some, IfSome, Ok, Err, flat_map, Consumes, Sample, FileFault, Short, Extra, ◌∙◌}
+use Rattle.owed_replies.proofs.Common.{ReadFault, TooFew, Header, Opens, Reading, header_spelling, opening, sample_len, sample_spelling}
+use Rattle.owed_replies.proofs.Common.{width_of, opening-spelled, length-header_spelling, length-samples, sample_len-mono, append_assoc}
+use Rattle.owed_replies.proofs.Common.{IsFaultIn, IsRestFault, PassesSamples, ◌<◌, CutsShort, IsLawfulHeader, RunsOn, next_place}
 
 -- opening the file answers it
 pub fault_of_opening : (rest : Option (List ℕ)) (span : ℕ) (e : FileFault) →

@@ -1,9 +1,9 @@
 -- Lemmas on files with a fault, and on runs that end by it.
-use Rattle.owed_replies.proofs.Common.{◌≡◌, ◌≢◌, ℕ, ◌+◌, ◌*◌, ◌≤◌, List, length, sym, ap, ◌∙◌, subst, arith, inl, inr, length-append}
-use Rattle.owed_replies.proofs.Common.{Option, None, Some, IfSome, Result, Ok, Err, IfErr, IsErrAnd, flat_map, Sample, FileFault, Short}
-use Rattle.owed_replies.proofs.Common.{Extra, ReadFault, TooFew, Header, IsSampleFile, Reading, header_spelling, opening, sample_len}
-use Rattle.owed_replies.proofs.Common.{sample_spelling, width_of, opening-spelled, length-header_spelling, length-samples, Status, BadFile}
-use Rattle.owed_replies.proofs.Common.{All, HasBits, Width, [], file_status, IsFaultIn, IsLaterFault, IsRestFault, IsSearchable, ended}
+use Rattle.owed_replies.proofs.Common.{◌≡◌, ◌≢◌, ℕ, ◌+◌, ◌*◌, ◌≤◌, List, length, sym, ap, ◌∙◌, subst, arith, inl, inr, length-append, None}
+use Rattle.owed_replies.proofs.Common.{Option, Some, IfSome, Result, Ok, Err, IfErr, IsErrAnd, flat_map, Sample, FileFault, Short, Extra}
+use Rattle.owed_replies.proofs.Common.{ReadFault, TooFew, Header, IsSampleFile, Reading, header_spelling, opening, sample_len, width_of, []}
+use Rattle.owed_replies.proofs.Common.{sample_spelling, opening-spelled, length-header_spelling, length-samples, Status, BadFile, All}
+use Rattle.owed_replies.proofs.Common.{HasBits, Width, file_status, IsFaultIn, IsLaterFault, IsRestFault, IsSearchable, ended}
 
 -- ---- what the bytes of a good file tell
 

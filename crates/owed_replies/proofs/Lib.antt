@@ -1,4 +1,3 @@
--- The modules of lemmas of `owed_replies`.
 pub mod BorneFiles
 pub mod Bounds
 pub mod CleanLinks

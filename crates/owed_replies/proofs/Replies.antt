@@ -1,14 +1,13 @@
 -- Lemmas on what a run owes: what its answer says follows from the causes of each end, and no input
 -- is owed two replies.
-use Rattle.owed_replies.proofs.Common.{◌≡◌, ◌≢◌, ℕ, ◌≤◌, ◌⊎◌, inl, inr, List, [], length, refl, sym, ap, ◌∙◌, subst, Option, None, Some}
-use Rattle.owed_replies.proofs.Common.{IfErr, IfSome, OnErr, OnOk, Result, Ok, Err, map, take, append-nil, StartsWith, Appends, Sample}
-use Rattle.owed_replies.proofs.Common.{IsSampleFile, FileFault, Header, Width, file_unique, CellPlan, ScriptFault, plan_named, KeptTap}
-use Rattle.owed_replies.proofs.Common.{kept_by, Job, front_begins, taken_begins, Reception, Status, Task, Make, Receive, Trial, IsCut}
-use Rattle.owed_replies.proofs.Common.{IsEnd, IsFaultIn, IsHeaderFault, IsSearchable, WritesText, ended, PurposeIsUnheard, file_end_of}
-use Rattle.owed_replies.proofs.Common.{file_text}
+use Rattle.owed_replies.proofs.Common.{◌≡◌, ◌≢◌, ℕ, ◌≤◌, ◌⊎◌, inl, inr, List, [], length, refl, sym, ap, ◌∙◌, subst, Option, None, Some, Ok}
+use Rattle.owed_replies.proofs.Common.{IfErr, IfSome, OnErr, OnOk, Result, Err, map, take, append-nil, StartsWith, Appends, Sample, Header}
+use Rattle.owed_replies.proofs.Common.{IsSampleFile, FileFault, Width, file_unique, CellPlan, ScriptFault, plan_named, KeptTap, kept_by}
+use Rattle.owed_replies.proofs.Common.{Job, front_begins, taken_begins, Reception, Status, Task, Make, Receive, Trial, IsCut, IsEnd, ended}
+use Rattle.owed_replies.proofs.Common.{IsFaultIn, IsHeaderFault, IsSearchable, WritesText, PurposeIsUnheard, file_end_of, file_text, Reply}
 use Rattle.owed_replies.proofs.Common.{Purpose, WritesMadeFile, made_file, Answers, AnswersAfter, IsAnswered, IsEarlyFault, IsFaultyFile}
 use Rattle.owed_replies.proofs.Common.{IsFaultyScript, IsFileEnd, IsFileReply, IsPurposeEnd, IsReply, IsScriptReply, IsSearchEnd, IsTaskEnd}
-use Rattle.owed_replies.proofs.Common.{IsTaskReply, IsTrialEnd, IsTrialReply, IsVerdict, IsWholeFile, IsWholeScript, Reply, GainsNothingOr}
+use Rattle.owed_replies.proofs.Common.{IsTaskReply, IsTrialEnd, IsTrialReply, IsVerdict, IsWholeFile, IsWholeScript, GainsNothingOr}
 use Rattle.owed_replies.proofs.Common.{taps_by, task_of, trial_line, AppendsPrefix}
 use Rattle.owed_replies.proofs.Ends.{by_end}
 use Rattle.owed_replies.proofs.Files.{no_fault, one_fault}

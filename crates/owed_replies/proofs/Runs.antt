@@ -1,14 +1,13 @@
 -- Lemmas on runs of the program: one whose output was then passed on, and with taps of each form.
-use Rattle.owed_replies.proofs.Common.{◌≡◌, ℕ, ◌≤◌, ◌++◌, ◌⊎◌, inl, inr, List, [], ◌∷◌, refl, sym, ap, subst, arith, map, take, Option}
-use Rattle.owed_replies.proofs.Common.{Bool, true, false, ◌↔◌, None, Some, IfSome, IsOk, Result, Ok, Err, OnOk, OnErr, Appends}
-use Rattle.owed_replies.proofs.Common.{Appends-kept, CountsFaults, Rose, next_count, Sample, IsSampleFile, FileFault, Header, flat_map}
-use Rattle.owed_replies.proofs.Common.{header_spelling, sample_spelling, width_of, length-take-le, take-append-drop, flat_map-append}
-use Rattle.owed_replies.proofs.Common.{append_assoc, drop, Keeps, Keeps-refl, BeginsFile, front_begins, ◌∙◌, KeptTap, Job, Reception}
-use Rattle.owed_replies.proofs.Common.{Status, Task, Make, Receive, Trial, HasWritten, IsEnd, IsHeaderFault, Answers, AnswersAfter, Begins}
-use Rattle.owed_replies.proofs.Common.{IsAnswered, IsEarlyFault, IsReply, IsTaskReply, IsVerdict, Reply, GainsNothingOr, MayHold, IsPassedOn}
-use Rattle.owed_replies.proofs.Common.{PassesOn, RunsCommand, each_form, IsTaskPromising, TaskWritesWhole, TaskWritesTaken, WritesEach, task_of}
-use Rattle.owed_replies.proofs.Common.{kept_by, TellsEnd, AppendsPrefix, HasCause, end_line, length, take_all, clean_end, clean_events}
-use Rattle.owed_replies.proofs.Common.{run_text}
+use Rattle.owed_replies.proofs.Common.{◌≡◌, ℕ, ◌≤◌, ◌++◌, ◌⊎◌, inl, inr, List, [], ◌∷◌, refl, sym, ap, subst, arith, map, take, Option, ◌↔◌}
+use Rattle.owed_replies.proofs.Common.{Bool, true, false, None, Some, IfSome, IsOk, Result, Ok, Err, OnOk, OnErr, Appends, Appends-kept}
+use Rattle.owed_replies.proofs.Common.{Rose, Sample, IsSampleFile, FileFault, Header, flat_map, header_spelling, sample_spelling, width_of}
+use Rattle.owed_replies.proofs.Common.{length-take-le, take-append-drop, flat_map-append, append_assoc, drop, Keeps, BeginsFile, ◌∙◌, Job}
+use Rattle.owed_replies.proofs.Common.{front_begins, KeptTap, Reception, Status, Task, Make, Receive, Trial, HasWritten, IsEnd, Answers}
+use Rattle.owed_replies.proofs.Common.{IsHeaderFault, AnswersAfter, Begins, IsAnswered, IsEarlyFault, IsReply, IsTaskReply, IsVerdict}
+use Rattle.owed_replies.proofs.Common.{Reply, GainsNothingOr, MayHold, IsPassedOn, PassesOn, RunsCommand, each_form, IsTaskPromising}
+use Rattle.owed_replies.proofs.Common.{TaskWritesWhole, TaskWritesTaken, WritesEach, task_of, kept_by, TellsEnd, AppendsPrefix, HasCause}
+use Rattle.owed_replies.proofs.Common.{end_line, length, take_all, clean_end, clean_events, run_text}
 use Rattle.std.specs.Bool.{IsTrue}
 use Rattle.command_line.specs.declared.job.Job.TheVariants.{Follow}
 use Rattle.owed_replies.proofs.Commands.{write_fault_end}

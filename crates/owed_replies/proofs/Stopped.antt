@@ -1,14 +1,11 @@
 -- Lemmas on runs over a sample file that end by a fault, before its first samples were read or after them.
 use Rattle.owed_replies.proofs.Common.{◌≡◌, ◌≢◌, ℕ, ◌≤◌, List, [], Option, IfSome, Result, Err, inl, refl, sym, subst, arith, Appends-nil}
-use Rattle.owed_replies.proofs.Common.{ConsumesAtMost, FileFault, ReadFault, KeptTap, Reception, Status, file_status, IsCut, IsLong}
-use Rattle.owed_replies.proofs.Common.{IsFault, IsFaultIn, IsOfFiles, WritesNoMore}
-use Rattle.owed_replies.specs.Broken.{IsUnopened, TakesFew, WritesAll, WritesFirst}
+use Rattle.owed_replies.proofs.Common.{ConsumesAtMost, FileFault, ReadFault, KeptTap, Reception, Status, file_status, IsCut, IsLong, Rose}
+use Rattle.owed_replies.proofs.Common.{IsFault, IsFaultIn, IsOfFiles, WritesNoMore, IsUnopened, TakesFew, WritesAll, WritesFirst}
+use Rattle.owed_replies.proofs.Common.{BeginsFile, IsHeaderFault, TakesNoMore, ReceivesFile}
 use Rattle.owed_replies.proofs.CutFiles.{nothing_all, nothing_first}
-use Rattle.cdma_io.specs.Outside.{Rose}
 use Rattle.owed_replies.proofs.Ends.{by_file_status, fault_no_end}
 use Rattle.owed_replies.proofs.Files.{blamed, unsearchable}
-use Rattle.owed_replies.specs.Find.{BeginsFile, IsHeaderFault, TakesNoMore}
-use Rattle.owed_replies.specs.TaskRuns.{ReceivesFile}
 use Rattle.owed_replies.specs.declared.status.Status.TheVariants as ends
 
 -- a fault is none of arguments and scripts

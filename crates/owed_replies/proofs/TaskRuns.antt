@@ -1,10 +1,9 @@
 -- Lemmas on what runs promise: one that receives a sample file, makes one or tries a link does a task,
 -- and one that does a job's task does the job.
-use Rattle.owed_replies.proofs.Common.{◌≡◌, ℕ, ◌≤◌, ◌⊎◌, inl, inr, List, refl, subst, arith, Option, None, Some, IfSome, Result, Err}
-use Rattle.owed_replies.proofs.Common.{IfSome_then, Appends, Width, Rose, KeptTap, Job, Reception, Status, Task, Make, Receive, Trial}
-use Rattle.owed_replies.proofs.Common.{IsOfFiles, ended, AnswersAfter, IsAnswered, IsFileEnd, IsFileReply, IsScriptEnd, IsScriptReply}
-use Rattle.owed_replies.proofs.Common.{IsTaskReply, IsTrialEnd, IsVerdict, Reply, taps_by, MakesFile, ReceivesFile, RunsTask, task_of}
-use Rattle.owed_replies.proofs.Common.{trial_line}
+use Rattle.owed_replies.proofs.Common.{◌≡◌, ℕ, ◌≤◌, ◌⊎◌, inl, inr, List, refl, subst, arith, Option, None, Some, IfSome, Result, Err, Width}
+use Rattle.owed_replies.proofs.Common.{IfSome_then, Appends, Rose, KeptTap, Job, Reception, Status, Task, Make, Receive, Trial, IsOfFiles}
+use Rattle.owed_replies.proofs.Common.{ended, AnswersAfter, IsAnswered, IsFileEnd, IsFileReply, IsScriptEnd, IsScriptReply, IsTaskReply}
+use Rattle.owed_replies.proofs.Common.{IsTrialEnd, IsVerdict, Reply, taps_by, MakesFile, ReceivesFile, RunsTask, task_of, trial_line}
 use Rattle.owed_replies.proofs.Bounds.{none_most}
 use Rattle.owed_replies.proofs.Replies.{HasTrialCauses, early_by, failed_with, fault_owed, made_owed, named_well, owed_answer, purpose_end}
 use Rattle.owed_replies.proofs.Replies.{script_cut, script_done, script_fault_owed, task_named, text_owed, trial_done, trial_early}

@@ -1,19 +1,14 @@
 -- What is written of a sample file that breaks off, whose reading fails, or that goes on too long.
+use Rattle.owed_replies.specs.Common.{Sample, Header, Width, HasBits, IsLawfulHeader, opening}
+use Rattle.owed_replies.specs.Common.{header_spelling, sample_len, sample_spelling, width_of}
+use Rattle.owed_replies.specs.Common.{KeptTap, Reception, Status}
 use Rattle.std.specs.Prelude.{◌≡◌, ℕ, ◌+◌, ◌*◌, ◌<◌, ◌≤◌, ◌++◌, List, length, All, Option, IfSome}
 use Rattle.std.specs.Prelude.{Some, Ok}
 use Rattle.std.specs.List.{flat_map}
 use Rattle.std.specs.Io.{StartsWith}
 use Rattle.std.specs.Io.KnownBytes.{Appends, Consumes}
-use Rattle.chip_core.specs.declared.sample.Sample.{Sample}
-use Rattle.cdma_io.specs.declared.header.Header.{Header}
 use Rattle.cdma_io.specs.declared.file_fault.FileFault.TheVariants.{Short, Extra}
-use Rattle.chip_core.specs.declared.width.Width.{Width}
-use Rattle.cdma_io.specs.SampleFile.{HasBits, IsLawfulHeader, header_spelling, opening, sample_len}
-use Rattle.cdma_io.specs.SampleFile.{sample_spelling, width_of}
-use Rattle.event_tap.specs.Taps.{KeptTap}
 use Rattle.owed_replies.specs.Hearing.{Listening, GainsText, file_text}
-use Rattle.owed_replies.specs.declared.reception.Reception.{Reception}
-use Rattle.owed_replies.specs.declared.status.Status.{Status}
 use Rattle.owed_replies.specs.declared.status.Status.TheVariants.{BadFile, ReadFault}
 
 -- the file ended before its samples, or a read failed

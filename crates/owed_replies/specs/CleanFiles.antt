@@ -1,16 +1,8 @@
 -- A clean link whose cell a script names.
+use Rattle.owed_replies.specs.Common.{Sample, Width, Header, best_phase, energy, made_samples}
+use Rattle.owed_replies.specs.Common.{phase_at, CellPlan, plan_named, events, Traffic, tuning_to}
+use Rattle.owed_replies.specs.Common.{IsNotDirected}
 use Rattle.std.specs.Prelude.{ℕ, ◌≡◌, List, take, All, Option, Ok}
-use Rattle.chip_core.specs.declared.sample.Sample.{Sample}
-use Rattle.chip_core.specs.declared.width.Width.{Width}
-use Rattle.cdma_io.specs.declared.header.Header.{Header}
-use Rattle.pilot_search.specs.Search.{best_phase, energy}
-use Rattle.cell_plan.specs.Sampled.{made_samples}
-use Rattle.cell_plan.specs.Transmitter.{phase_at}
-use Rattle.cell_plan.specs.declared.plan.CellPlan.{CellPlan}
-use Rattle.cell_script.specs.Script.{plan_named}
-use Rattle.heard_events.specs.Events.{events}
-use Rattle.chip_core.specs.declared.assignment.Traffic.{Traffic}
-use Rattle.clean_link.specs.CleanLink.{IsNotDirected, tuning_to}
 
 -- A file holds what a script's cell sends: its flags and samples are the cell's, the search finds
 -- the cell's path, and there is one finger. The link's delay is in the chip at which the file

@@ -1,13 +1,7 @@
 -- What is written of a clean link, channel by channel and frame by frame.
+use Rattle.owed_replies.specs.Common.{made_samples, CellPlan, events, Event, Traffic, KeptTap}
+use Rattle.owed_replies.specs.Common.{run_text, tuning_to, HearsEach}
 use Rattle.std.specs.Prelude.{◌≡◌, ℕ, List, ◌++◌, Option, Some}
-use Rattle.cell_plan.specs.Sampled.{made_samples}
-use Rattle.cell_plan.specs.declared.plan.CellPlan.{CellPlan}
-use Rattle.heard_events.specs.Events.{events}
-use Rattle.heard_events.specs.declared.event.Event.{Event}
-use Rattle.chip_core.specs.declared.assignment.Traffic.{Traffic}
-use Rattle.event_tap.specs.Taps.{KeptTap, run_text}
-use Rattle.clean_link.specs.CleanLink.{tuning_to}
-use Rattle.clean_link.specs.HeardEach.{HearsEach}
 use Rattle.owed_replies.specs.CleanFiles.{cell_energy}
 
 -- After what a sink held stands what taps make of a list of events. They are all of a handset in

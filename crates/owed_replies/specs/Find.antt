@@ -1,25 +1,18 @@
 -- What is read and written where a sample file is received.
+use Rattle.owed_replies.specs.Common.{Sample, ConsumesAtMost, Header, FileFault, IsLawfulHeader}
+use Rattle.owed_replies.specs.Common.{IsSampleFile, HasBits, Reading, header_spelling, next_place}
+use Rattle.owed_replies.specs.Common.{opening, sample_len, sample_spelling, width_of, Width, Status}
+use Rattle.owed_replies.specs.Common.{Reception, KeptTap}
 use Rattle.std.specs.Prelude.{◌≡◌, ℕ, ◌+◌, ◌*◌, ◌<◌, ◌≤◌, ◌++◌, ◌⊎◌, List, [], length, All, Option}
 use Rattle.std.specs.Prelude.{IfSome, Result, Ok, Err, Some}
 use Rattle.std.specs.List.{flat_map}
 use Rattle.std.specs.Io.{StartsWith}
 use Rattle.std.specs.Io.KnownBytes.{Appends, Consumes}
-use Rattle.chip_core.specs.declared.sample.Sample.{Sample}
-use Rattle.cdma_io.specs.Outside.{ConsumesAtMost}
-use Rattle.cdma_io.specs.declared.header.Header.{Header}
-use Rattle.cdma_io.specs.declared.file_fault.FileFault.{FileFault}
 use Rattle.cdma_io.specs.declared.file_fault.FileFault.TheVariants.{Short, Extra, ReadFault, TooFew}
-use Rattle.cdma_io.specs.SampleFile.{IsLawfulHeader, IsSampleFile, HasBits, Reading}
-use Rattle.cdma_io.specs.SampleFile.{header_spelling, next_place, opening, sample_len}
-use Rattle.cdma_io.specs.SampleFile.{sample_spelling, width_of}
-use Rattle.chip_core.specs.declared.width.Width.{Width}
-use Rattle.owed_replies.specs.declared.status.Status.{Status}
-use Rattle.owed_replies.specs.declared.status.Status.TheVariants as ends
 use Rattle.owed_replies.specs.declared.status.Status.TheVariants.{Done, NoSync, BadFile, WriteFault}
 use Rattle.owed_replies.specs.declared.status.Status.TheVariants.{BadWords, BadScript}
-use Rattle.owed_replies.specs.declared.reception.Reception.{Reception}
-use Rattle.event_tap.specs.Taps.{KeptTap}
 use Rattle.owed_replies.specs.Hearing.{file_end_of, file_text}
+use Rattle.owed_replies.specs.declared.status.Status.TheVariants as ends
 
 -- bytes that are a sample file of so many samples or more
 pub record IsSearchable (bytes : List ℕ) (span : ℕ) : Type 0 where

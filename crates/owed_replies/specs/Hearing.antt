@@ -1,39 +1,21 @@
 -- What is written of a sample file, and what a handset tells on the way.
-use Rattle.std.specs.Prelude.{◌≡◌, ℕ, ◌-◌, ◌≤◌, replicate, pos, slice_get, Bool, true}
-use Rattle.std.specs.Prelude.{if◌then◌else◌, List, [], ◌++◌, length, take, All, Option, None}
-use Rattle.std.specs.Prelude.{Some, is_some, nat_lt}
+use Rattle.owed_replies.specs.Common.{sample_spelling, near_deltas, sent_events, best_phase, Sample}
+use Rattle.owed_replies.specs.Common.{tuned_text, sync_sent, TunedText, Reception, CellPlan, Header}
+use Rattle.owed_replies.specs.Common.{Settings, run_text, HasBits, Channel, Traffic, KeptTap, Width}
+use Rattle.owed_replies.specs.Common.{Purpose, energy, events, Tuning, Status, Event, Pilot}
+use Rattle.std.specs.Prelude.{◌≡◌, ℕ, ◌-◌, ◌≤◌, replicate, pos, slice_get, Bool, true, List, []}
+use Rattle.std.specs.Prelude.{if◌then◌else◌, ◌++◌, length, take, All, Option, None, Some, is_some}
+use Rattle.std.specs.Prelude.{nat_lt}
 use Rattle.std.specs.List.{flat_map}
 use Rattle.std.specs.Io.{StartsWith}
 use Rattle.std.specs.Io.KnownBytes.{Appends, Consumes}
-use Rattle.chip_core.specs.declared.sample.Sample.{Sample}
-use Rattle.cdma_io.specs.declared.header.Header.{Header}
-use Rattle.chip_core.specs.declared.width.Width.{Width}
-use Rattle.cdma_io.specs.SampleFile.{HasBits, sample_spelling}
-use Rattle.pilot_search.specs.Near.{near_deltas}
-use Rattle.pilot_search.specs.Search.{energy, best_phase}
 use Rattle.pilot_search.specs.declared.paths.Near.{Near}
-use Rattle.cell_plan.specs.declared.plan.CellPlan.{CellPlan}
-use Rattle.heard_events.specs.Events.{events}
 use Rattle.heard_events.specs.Marks.{mark}
-use Rattle.heard_events.specs.Tuning.{Tuning}
-use Rattle.heard_events.specs.declared.channel.Channel.{Channel}
-use Rattle.heard_events.specs.declared.event.Event.{Event}
-use Rattle.heard_events.specs.declared.event.Event.TheVariants.{Pilot}
-use Rattle.heard_events.specs.declared.settings.Settings.{Settings}
-use Rattle.chip_core.specs.declared.assignment.Traffic.{Traffic}
 use Rattle.command_line.specs.Args.{IsFingers, IsLawfulTraffic, IsPaging}
 use Rattle.event_tap.specs.EventLines.{event_line}
-use Rattle.event_tap.specs.Taps.{KeptTap, run_text}
-use Rattle.clean_link.specs.CleanLink.{sync_sent}
-use Rattle.clean_link.specs.SentEvents.{sent_events}
-use Rattle.event_tap.specs.TunedTexts.{tuned_text}
-use Rattle.event_tap.specs.declared.tuned_text.TunedText.{TunedText}
 use Rattle.owed_replies.specs.CleanFiles.{cell_energy}
 use Rattle.owed_replies.specs.Ranks.{survey_text}
-use Rattle.owed_replies.specs.declared.purpose.Purpose.{Purpose}
 use Rattle.owed_replies.specs.declared.purpose.Purpose.TheVariants.{Find, Follow, Survey, Tuned}
-use Rattle.owed_replies.specs.declared.reception.Reception.{Reception}
-use Rattle.owed_replies.specs.declared.status.Status.{Status}
 use Rattle.owed_replies.specs.declared.status.Status.TheVariants.{Done, NoSync}
 
 -- ---- the text of a file

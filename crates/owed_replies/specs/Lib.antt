@@ -1,7 +1,7 @@
--- The modules of definitions of `owed_replies`.
 pub mod Broken
 pub mod CleanFiles
 pub mod CleanLinks
+pub mod Common
 pub mod Find
 pub mod Hearing
 pub mod Make

@@ -1,14 +1,10 @@
 -- What the command `make` reads and writes.
+use Rattle.owed_replies.specs.Common.{Width, header_spelling, sample_spelling, CellPlan, plan_named}
+use Rattle.owed_replies.specs.Common.{made_samples, header_of}
 use Rattle.std.specs.Prelude.{◌≡◌, ℕ, ◌++◌, ◌⊎◌, List, [], take, drop, Option, IfSome, Ok}
 use Rattle.std.specs.List.{flat_map}
 use Rattle.std.specs.Io.{StartsWith}
 use Rattle.std.specs.Io.KnownBytes.{Appends}
-use Rattle.chip_core.specs.declared.width.Width.{Width}
-use Rattle.cdma_io.specs.SampleFile.{header_spelling, sample_spelling}
-use Rattle.cell_plan.specs.declared.plan.CellPlan.{CellPlan}
-use Rattle.cell_script.specs.Script.{plan_named}
-use Rattle.cell_plan.specs.Sampled.{made_samples}
-use Rattle.cell_plan.specs.Transmitter.{header_of}
 
 -- the bytes of so many of a cell's samples from a place on
 abbrev pub piece_bytes : Width → CellPlan → ℕ → ℕ → List ℕ

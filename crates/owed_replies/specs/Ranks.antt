@@ -1,8 +1,8 @@
 -- What the command `survey` writes: the first ranks of the pilots, a line each.
+use Rattle.owed_replies.specs.Common.{Sample}
 use Rattle.std.specs.Prelude.{ℕ, List, ◌++◌, take, codes, decimal}
 use Rattle.std.specs.Fmt.{signed_decimal}
 use Rattle.std.specs.List.{flat_map}
-use Rattle.chip_core.specs.declared.sample.Sample.{Sample}
 use Rattle.pilot_survey.specs.Survey.{ranking}
 use Rattle.pilot_survey.specs.declared.rank.Rank.{Rank}
 

@@ -1,29 +1,12 @@
 -- What a run owes: for each command and the bytes of its input, the text that is written of it and
 -- how the run ends, or the fault that it has.
-use Rattle.std.specs.Prelude.{◌≡◌, ◌≢◌, ℕ, ◌≤◌, ◌++◌, ◌⊎◌, List, [], length, Option, IsOk, None}
-use Rattle.std.specs.Prelude.{Some, Result, Ok, Err}
+use Rattle.owed_replies.specs.Common.{Sample, FileFault, Header, Width, ConsumesAtMost, CellPlan}
+use Rattle.owed_replies.specs.Common.{IsSampleFile, ScriptFault, plan_named, KeptTap, kept_by, Job}
+use Rattle.owed_replies.specs.Common.{Purpose, Reception, Status, Task, Make, Receive, Trial}
+use Rattle.std.specs.Prelude.{◌≡◌, ◌≢◌, ℕ, ◌≤◌, ◌++◌, ◌⊎◌, List, [], length, Option, IsOk, None, Ok}
+use Rattle.std.specs.Prelude.{Some, Result, Err}
 use Rattle.std.specs.Io.{StartsWith}
 use Rattle.std.specs.Io.KnownBytes.{Appends}
-use Rattle.chip_core.specs.declared.sample.Sample.{Sample}
-use Rattle.cdma_io.specs.declared.file_fault.FileFault.{FileFault}
-use Rattle.cdma_io.specs.declared.file_fault.FileFault.TheVariants as file
-use Rattle.cdma_io.specs.declared.header.Header.{Header}
-use Rattle.chip_core.specs.declared.width.Width.{Width}
-use Rattle.cdma_io.specs.Outside.{ConsumesAtMost}
-use Rattle.cdma_io.specs.SampleFile.{IsSampleFile}
-use Rattle.cell_plan.specs.declared.plan.CellPlan.{CellPlan}
-use Rattle.cell_script.specs.declared.script_fault.ScriptFault.{ScriptFault}
-use Rattle.cell_script.specs.declared.script_fault.ScriptFault.TheVariants as script
-use Rattle.cell_script.specs.Script.{plan_named}
-use Rattle.event_tap.specs.Taps.{KeptTap, kept_by}
-use Rattle.command_line.specs.declared.job.Job.{Job}
-use Rattle.owed_replies.specs.declared.purpose.Purpose.{Purpose}
-use Rattle.owed_replies.specs.declared.purpose.Purpose.TheVariants as purposes
-use Rattle.owed_replies.specs.declared.reception.Reception.{Reception}
-use Rattle.owed_replies.specs.declared.status.Status.{Status}
-use Rattle.owed_replies.specs.declared.status.Status.TheVariants as ends
-use Rattle.owed_replies.specs.declared.task.Task.{Task}
-use Rattle.owed_replies.specs.declared.task.Task.TheVariants.{Make, Receive, Trial}
 use Rattle.owed_replies.specs.Broken.{WritesAll, WritesFirst}
 use Rattle.owed_replies.specs.Find.{BeginsFile, BeginsText, IsFaultIn, IsHeaderFault, IsSearchable}
 use Rattle.owed_replies.specs.Find.{TakesNoMore}
@@ -31,6 +14,10 @@ use Rattle.owed_replies.specs.Hearing.{file_end_of, file_text}
 use Rattle.owed_replies.specs.Make.{BeginsMadeFile, made_file}
 use Rattle.owed_replies.specs.Tasks.{task_of}
 use Rattle.owed_replies.specs.Trials.{trial_line}
+use Rattle.cdma_io.specs.declared.file_fault.FileFault.TheVariants as file
+use Rattle.cell_script.specs.declared.script_fault.ScriptFault.TheVariants as script
+use Rattle.owed_replies.specs.declared.purpose.Purpose.TheVariants as purposes
+use Rattle.owed_replies.specs.declared.status.Status.TheVariants as ends
 
 -- ---- replies
 

@@ -1,34 +1,25 @@
 -- What a run promises of the command that its arguments name; and the process, which has a tap of
 -- each form, passes on what was written, and tells how the run ended.
+use Rattle.owed_replies.specs.Common.{Traffic, Sample, Width, AppendsPrefix, ConsumesAtMost, Rose}
+use Rattle.owed_replies.specs.Common.{next_count, IsSampleFile, FileFault, Header, CellPlan, Job}
+use Rattle.owed_replies.specs.Common.{FollowsSent, kept_by, run_text, Status}
 use Rattle.std.specs.Prelude.{◌≡◌, ℕ, ◌≤◌, ◌++◌, ◌⊎◌, ◌↔◌, List, [], ◌∷◌, length, Option, None}
 use Rattle.std.specs.Prelude.{IfSome, Some}
 use Rattle.std.specs.Io.KnownBytes.{Appends, IsAtEnd, Keeps}
-use Rattle.chip_core.specs.declared.assignment.Traffic.{Traffic}
-use Rattle.chip_core.specs.declared.sample.Sample.{Sample}
-use Rattle.chip_core.specs.declared.width.Width.{Width}
-use Rattle.cdma_io.specs.Outside.{AppendsPrefix, ConsumesAtMost, Rose, next_count}
-use Rattle.cdma_io.specs.SampleFile.{IsSampleFile}
-use Rattle.cdma_io.specs.declared.file_fault.FileFault.{FileFault}
-use Rattle.cdma_io.specs.declared.file_fault.FileFault.TheVariants as file
-use Rattle.cdma_io.specs.declared.header.Header.{Header}
 use Rattle.cell_plan.specs.Plan.{IsFreeOf}
-use Rattle.cell_plan.specs.declared.plan.CellPlan.{CellPlan}
-use Rattle.clean_link.specs.SentEvents.{FollowsSent}
-use Rattle.command_line.specs.declared.job.Job.{Job}
 use Rattle.command_line.specs.declared.job.Job.TheVariants.{Follow, Trial}
-use Rattle.event_tap.specs.Taps.{kept_by, run_text}
-use Rattle.owed_replies.specs.declared.status.Status.{Status}
-use Rattle.owed_replies.specs.declared.status.Status.TheVariants as ends
 use Rattle.owed_replies.specs.Broken.{IsCut, IsLong}
 use Rattle.owed_replies.specs.CleanFiles.{IsCleanLink}
 use Rattle.owed_replies.specs.CleanLinks.{WritesEach}
 use Rattle.owed_replies.specs.Find.{IsEnd, IsHeaderFault}
 use Rattle.owed_replies.specs.Hearing.{clean_end, clean_events}
 use Rattle.owed_replies.specs.Replies.{AnswersAfter, Begins, BoundsInput, IsAnswered, IsEarlyFault}
-use Rattle.owed_replies.specs.Replies.{IsEndOf, IsPromising, IsReply, IsVerdict, ReadsInput}
-use Rattle.owed_replies.specs.Replies.{ReadsWell, Reply, WritesWhole, WritesTaken, GainsNothingOr}
+use Rattle.owed_replies.specs.Replies.{IsEndOf, IsPromising, IsReply, IsVerdict, ReadsInput, Reply}
+use Rattle.owed_replies.specs.Replies.{ReadsWell, WritesWhole, WritesTaken, GainsNothingOr}
 use Rattle.owed_replies.specs.Status.{code_of, end_line}
 use Rattle.owed_replies.specs.Trials.{trial_line}
+use Rattle.cdma_io.specs.declared.file_fault.FileFault.TheVariants as file
+use Rattle.owed_replies.specs.declared.status.Status.TheVariants as ends
 
 -- A run of the job that arguments name, or of arguments that name none, ended so, with taps of
 -- these forms, over a source that told these bytes and then tells those that are left, and a sink

@@ -2,14 +2,14 @@
 -- ends one.
 use Rattle.std.specs.Prelude.{ℕ, List, [], ◌∷◌, ◌++◌, codes, decimal, Option, None, Some}
 use Rattle.cdma_io.specs.declared.file_fault.FileFault.{FileFault}
-use Rattle.cdma_io.specs.declared.file_fault.FileFault.TheVariants as file
 use Rattle.cdma_io.specs.SampleFile.{fault_place}
 use Rattle.cell_script.specs.declared.script_fault.ScriptFault.{ScriptFault}
-use Rattle.cell_script.specs.declared.script_fault.ScriptFault.TheVariants as script
 use Rattle.owed_replies.specs.declared.status.Status.{Status}
 use Rattle.owed_replies.specs.declared.status.Status.TheVariants.{Done, NoSync, BadWords, BadFile}
 use Rattle.owed_replies.specs.declared.status.Status.TheVariants.{ReadFault, WriteFault, NoMemory}
 use Rattle.owed_replies.specs.declared.status.Status.TheVariants.{BadScript}
+use Rattle.cdma_io.specs.declared.file_fault.FileFault.TheVariants as file
+use Rattle.cell_script.specs.declared.script_fault.ScriptFault.TheVariants as script
 
 abbrev pub code_of : Status → ℕ
 code_of Done = 0

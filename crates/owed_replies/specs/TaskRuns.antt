@@ -2,30 +2,22 @@
 -- source that told these bytes and then tells those that are left, and a sink that told these and
 -- then those; of each, numbers are its counts of faults before and after, and a type says that it
 -- is as it was.
+use Rattle.owed_replies.specs.Common.{Width, ConsumesAtMost, Rose, FileFault, ScriptFault, KeptTap}
+use Rattle.owed_replies.specs.Common.{plan_named, Reception, Status, Task, Trial}
 use Rattle.std.specs.Prelude.{◌≡◌, ◌≢◌, ℕ, ◌≤◌, ◌⊎◌, List, Option, IfSome, IsOk, Err}
 use Rattle.std.specs.Io.KnownBytes.{Appends, IsAtEnd}
-use Rattle.chip_core.specs.declared.width.Width.{Width}
-use Rattle.cdma_io.specs.Outside.{ConsumesAtMost, Rose}
-use Rattle.cdma_io.specs.declared.file_fault.FileFault.{FileFault}
-use Rattle.cdma_io.specs.declared.file_fault.FileFault.TheVariants as file
-use Rattle.cell_script.specs.declared.script_fault.ScriptFault.{ScriptFault}
-use Rattle.cell_script.specs.declared.script_fault.ScriptFault.TheVariants as script
-use Rattle.cell_script.specs.Script.{plan_named}
-use Rattle.event_tap.specs.Taps.{KeptTap}
-use Rattle.owed_replies.specs.declared.reception.Reception.{Reception}
-use Rattle.owed_replies.specs.declared.status.Status.{Status}
-use Rattle.owed_replies.specs.declared.status.Status.TheVariants as ends
-use Rattle.owed_replies.specs.declared.task.Task.{Task}
-use Rattle.owed_replies.specs.declared.task.Task.TheVariants.{Trial}
 use Rattle.owed_replies.specs.Broken.{IsCut, IsLong, WritesAll, WritesFirst}
 use Rattle.owed_replies.specs.Find.{BeginsFile, IsEnd, IsFaultIn, IsHeaderFault, IsOfFiles}
 use Rattle.owed_replies.specs.Find.{IsSearchable, TakesNoMore, WritesNoMore, WritesText}
 use Rattle.owed_replies.specs.Hearing.{PurposeIsUnheard}
 use Rattle.owed_replies.specs.Make.{WritesMadeFile, WritesNoMoreMade}
-use Rattle.owed_replies.specs.Replies.{IsAnswered, IsEarlyFault, IsTaskEnd, IsTaskPromising}
-use Rattle.owed_replies.specs.Replies.{IsTaskReply, IsVerdict, TaskBegins, TaskReadsInput}
-use Rattle.owed_replies.specs.Replies.{TaskTakesNoMore, TaskWritesWhole, TaskWritesTaken, GainsNothingOr}
+use Rattle.owed_replies.specs.Replies.{IsTaskPromising, TaskTakesNoMore, TaskWritesWhole, IsTaskEnd}
+use Rattle.owed_replies.specs.Replies.{TaskWritesTaken, TaskReadsInput, GainsNothingOr, IsTaskReply}
+use Rattle.owed_replies.specs.Replies.{IsEarlyFault, IsAnswered, TaskBegins, IsVerdict}
 use Rattle.owed_replies.specs.Trials.{trial_line}
+use Rattle.cdma_io.specs.declared.file_fault.FileFault.TheVariants as file
+use Rattle.cell_script.specs.declared.script_fault.ScriptFault.TheVariants as script
+use Rattle.owed_replies.specs.declared.status.Status.TheVariants as ends
 
 -- a sample file was received, with these taps
 pub record ReceivesFile (taps : List KeptTap) (r : Reception) (status : Status)

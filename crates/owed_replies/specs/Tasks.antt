@@ -1,21 +1,13 @@
 -- What a run does for each job: the table of the commands.
+use Rattle.owed_replies.specs.Common.{Channel, TunedText, Job, Traffic, IsLawfulTuned, Purpose}
+use Rattle.owed_replies.specs.Common.{Reception, Task, Make, Receive, Trial}
 use Rattle.std.specs.Prelude.{ℕ, ◌≤◌, Option, None, Some}
-use Rattle.heard_events.specs.declared.channel.Channel.{Channel}
-use Rattle.heard_events.specs.declared.channel.Channel.TheVariants as channels
-use Rattle.event_tap.specs.declared.tuned_text.TunedText.{TunedText}
-use Rattle.event_tap.specs.declared.tuned_text.TunedText.TheVariants.{Listed, RateSetTwo}
-use Rattle.event_tap.specs.declared.tuned_text.TunedText.TheVariants.{Slots}
-use Rattle.command_line.specs.declared.job.Job.{Job}
-use Rattle.command_line.specs.declared.job.Job.TheVariants as jobs
-use Rattle.chip_core.specs.declared.assignment.Traffic.{Traffic}
-use Rattle.owed_replies.specs.declared.purpose.Purpose.TheVariants as purposes
+use Rattle.event_tap.specs.declared.tuned_text.TunedText.TheVariants.{Listed, RateSetTwo, Slots}
 use Rattle.command_line.specs.Args.{IsBase, IsFingers, IsTop, IsWidth, IsWorkers}
-use Rattle.event_tap.specs.TunedTexts.{IsLawfulTuned}
 use Rattle.owed_replies.specs.Hearing.{IsLawfulHandset}
-use Rattle.owed_replies.specs.declared.purpose.Purpose.{Purpose}
-use Rattle.owed_replies.specs.declared.reception.Reception.{Reception}
-use Rattle.owed_replies.specs.declared.task.Task.{Task}
-use Rattle.owed_replies.specs.declared.task.Task.TheVariants.{Make, Receive, Trial}
+use Rattle.heard_events.specs.declared.channel.Channel.TheVariants as channels
+use Rattle.command_line.specs.declared.job.Job.TheVariants as jobs
+use Rattle.owed_replies.specs.declared.purpose.Purpose.TheVariants as purposes
 
 -- ---- how sample files are received
 

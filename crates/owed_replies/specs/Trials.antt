@@ -1,18 +1,10 @@
 -- What the command `trial` writes: how much of a link that a number tells a handset hears.
-use Rattle.std.specs.Prelude.{◌^◌, ℕ, ◌+◌, ◌≤◌, Bool, false, if◌then◌else◌, List, ◌++◌}
-use Rattle.std.specs.Prelude.{length, filter, take, codes, decimal, Some}
-use Rattle.chip_core.specs.declared.sample.Sample.{Sample}
+use Rattle.owed_replies.specs.Common.{Sample, best_phase, made_samples, header_of, events, Tuning}
+use Rattle.owed_replies.specs.Common.{Event, Frame, Settings, is_frame, is_page, is_sync}
+use Rattle.std.specs.Prelude.{◌^◌, ℕ, ◌+◌, ◌≤◌, Bool, false, if◌then◌else◌, List, ◌++◌, length}
+use Rattle.std.specs.Prelude.{filter, take, codes, decimal, Some}
 use Rattle.chip_core.specs.declared.width.Width.TheVariants.{Sixteen}
-use Rattle.pilot_search.specs.Search.{best_phase}
-use Rattle.cell_plan.specs.Sampled.{made_samples}
-use Rattle.cell_plan.specs.Transmitter.{header_of}
 use Rattle.trial_link.specs.Trial.{trial_plan, trial_serial_number}
-use Rattle.heard_events.specs.Events.{events}
-use Rattle.heard_events.specs.Tuning.{Tuning}
-use Rattle.heard_events.specs.declared.event.Event.{Event}
-use Rattle.heard_events.specs.declared.event.Event.TheVariants.{Frame}
-use Rattle.heard_events.specs.declared.settings.Settings.{Settings}
-use Rattle.clean_link.specs.HeardEach.{is_frame, is_page, is_sync}
 use Rattle.owed_replies.specs.Hearing.{settings_for, tuning_for}
 use Rattle.owed_replies.specs.declared.counts.Counts.{Counts}
 

@@ -1,13 +1,7 @@
 -- The handset that hears a file is tuned by it, and lies on the path of the cell that it holds.
+use Rattle.owed_replies.specs.Common.{Traffic, Sample, Width, Header, near_deltas, best_phase}
+use Rattle.owed_replies.specs.Common.{CellPlan, IsOnPath}
 use Rattle.std.specs.Prelude.{◌≡◌, ℕ, List, length, take, Option}
-use Rattle.chip_core.specs.declared.assignment.Traffic.{Traffic}
-use Rattle.chip_core.specs.declared.sample.Sample.{Sample}
-use Rattle.chip_core.specs.declared.width.Width.{Width}
-use Rattle.cdma_io.specs.declared.header.Header.{Header}
-use Rattle.pilot_search.specs.Near.{near_deltas}
-use Rattle.pilot_search.specs.Search.{best_phase}
-use Rattle.cell_plan.specs.declared.plan.CellPlan.{CellPlan}
-use Rattle.clean_link.specs.CleanLink.{IsOnPath}
 use Rattle.clean_signal.specs.NearFiles.{IsNearFile}
 use Rattle.owed_replies.specs.Hearing.{settings_for, tuning_for}
 

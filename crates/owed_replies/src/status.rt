@@ -1,10 +1,9 @@
 //! How a run of the program ends.
 
-ghost use Rattle.std.specs.Prelude.{◌≡◌, ◌≤◌, ◌+◌, ◌++◌, ◌↔◌, Some, length, IsAscii};
-ghost use Rattle.std.specs.Prelude.{IsTrue, decimal};
+ghost use Rattle.std.specs.Prelude.{◌≡◌, ◌≤◌, ◌+◌, ◌++◌, ◌↔◌, Some, length, IsAscii, IsTrue};
+ghost use Rattle.std.specs.Prelude.{decimal};
 ghost use Rattle.owed_replies.specs.Status.{code_of, end_line, file_status, fault_kind_text};
-ghost use Rattle.owed_replies.specs.Status.{located};
-ghost use Rattle.owed_replies.specs.Status.{script_line, text_of};
+ghost use Rattle.owed_replies.specs.Status.{located, script_line, text_of};
 
 use cdma_io::FileFault;
 use cell_script::ScriptFault;

@@ -1,17 +1,14 @@
 -- What stands after the message types, by its layouts.
 use Rattle.paging_message.proofs.Common.{Bool, Contents, IsNeighborList, IsOf, IsPagingMessage, IsSpelled, List, MessageShape, MessageType}
 use Rattle.paging_message.proofs.Common.{NeighborFields, None, PagingMessage, Some, [], admits, and_parts, ap, arith, body_of, both_columns}
-use Rattle.paging_message.proofs.Common.{cases_Bool, channel_contents, channel_shape, channel_widths, channels_from, cond, contents_of}
-use Rattle.paging_message.proofs.Common.{count_in, eqb-true, false, first_column, get_or, has_length, has_type, inl, inr, is_lawful, le-leb}
-use Rattle.paging_message.proofs.Common.{length, list_said, lt-leb, map-places-all, mapped, mapped_cond, message_at, message_body}
-use Rattle.paging_message.proofs.Common.{message_from, neighbor_contents, neighbor_shape, neighbor_widths, neighbors_from}
-use Rattle.paging_message.proofs.Common.{no_columns, not_both, other_contents, other_from, other_shape, other_type, own_types}
-use Rattle.paging_message.proofs.Common.{paging_kind_of, paging_shape_of, places, plain_back, plain_reading, plain_shape, reading}
-use Rattle.paging_message.proofs.Common.{record_fit, refl, rest_back, subst, sym, system_contents, system_from, system_of, system_shape}
-use Rattle.paging_message.proofs.Common.{system_values, system_widths, true, type_in, ℕ, ◌+◌, ◌-◌, ◌<◌, ◌==◌, ◌||◌, ◌∙◌, ◌∷◌, ◌≡◌, ◌≤◌}
-use Rattle.std.proofs.Common.{All}
-use Rattle.std.specs.List.{list_all}
-use Rattle.std.proofs.lemmas.List.{get_or_default}
+use Rattle.paging_message.proofs.Common.{cases_Bool, channel_contents, channel_shape, channel_widths, channels_from, cond, contents_of, inl}
+use Rattle.paging_message.proofs.Common.{count_in, eqb-true, false, first_column, get_or, has_length, has_type, inr, is_lawful, le-leb, sym}
+use Rattle.paging_message.proofs.Common.{length, list_said, lt-leb, map-places-all, mapped, mapped_cond, message_at, message_body, not_both}
+use Rattle.paging_message.proofs.Common.{message_from, neighbor_contents, neighbor_shape, neighbor_widths, neighbors_from, no_columns, refl}
+use Rattle.paging_message.proofs.Common.{other_contents, other_from, other_shape, other_type, own_types, paging_kind_of, paging_shape_of, ℕ}
+use Rattle.paging_message.proofs.Common.{places, plain_back, plain_reading, plain_shape, reading, record_fit, rest_back, subst, system_from}
+use Rattle.paging_message.proofs.Common.{system_contents, system_of, system_shape, system_values, system_widths, true, type_in, ◌+◌, ◌-◌}
+use Rattle.paging_message.proofs.Common.{◌<◌, ◌==◌, ◌||◌, ◌∙◌, ◌∷◌, ◌≡◌, ◌≤◌, All, list_all, get_or_default}
 use Rattle.paging_message.specs.declared.message.PagingMessage.TheVariants as messages
 
 -- a claim on each message type: on those with fields of their own, and on the others

@@ -1,9 +1,9 @@
 -- What laid capsules carry: their half-frames end just the capsules, run by run.
 use Rattle.paging_message.proofs.Common.{◌≡◌, ℕ, suc, ◌+◌, ◌-◌, ◌*◌, ◌/◌, ◌<◌, ◌≤◌, Bool, List, [], ◌∷◌, ◌++◌, length, map, refl, sym, ap}
-use Rattle.paging_message.proofs.Common.{◌∙◌, arith, append_assoc, length-append, flat_map, option_to_list, cases_Bool, inl, inr}
-use Rattle.paging_message.proofs.Common.{flat_map-append, append-nil, map-append, mul-le-mul_left, places, Piece, Rate, R9600, R4800, R2400}
-use Rattle.paging_message.proofs.Common.{R1200, capsules_in, half_frame_body, flat_map-add, flat_map-nothing, flat_map-zero}
-use Rattle.paging_message.proofs.Common.{flat_map_ext_places, length-take-le, length-drop, drop, half_frame_capsule_ending, take}
+use Rattle.paging_message.proofs.Common.{◌∙◌, arith, append_assoc, length-append, flat_map, option_to_list, cases_Bool, inl, inr, places}
+use Rattle.paging_message.proofs.Common.{flat_map-append, append-nil, map-append, mul-le-mul_left, Piece, Rate, R9600, R4800, R2400, R1200}
+use Rattle.paging_message.proofs.Common.{capsules_in, half_frame_body, flat_map-add, flat_map-nothing, flat_map-zero, flat_map_ext_places}
+use Rattle.paging_message.proofs.Common.{length-take-le, length-drop, drop, half_frame_capsule_ending, take}
 use Rattle.paging_message.proofs.LaidRuns.{AreChainedRuns, first_put_begins, first_puts_chained, first_puts_laid, lawful_some, none_padded}
 use Rattle.paging_message.proofs.LaidRuns.{put-begins, put-follows, runs_pieces, runs_put}
 use Rattle.paging_message.proofs.Layings.{framed_whole}

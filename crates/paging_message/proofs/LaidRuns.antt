@@ -2,9 +2,9 @@
 use Rattle.paging_message.proofs.Common.{◌≡◌, ℕ, zero, suc, ◌+◌, ◌-◌, ◌*◌, ◌/◌, ◌%◌, ◌<◌, ◌≤◌, ◌==◌, ◌||◌, if◌then◌else◌, Bool, true, false}
 use Rattle.paging_message.proofs.Common.{List, [], ◌∷◌, ◌++◌, length, map, take, drop, replicate, refl, sym, ap, subst, ◌∙◌, arith, inl}
 use Rattle.paging_message.proofs.Common.{inr, append_assoc, length-append, flat_map, list_any, cases_Bool, eq-eqb, ne_eqb, flat_map-append}
-use Rattle.paging_message.proofs.Common.{append-nil, drop-drop, drop_at, list_any-append, div-mul-add, mul-add-mod_self_left}
-use Rattle.paging_message.proofs.Common.{mul-le-mul_left, places, Piece, flat_map_ext_places, flat_map-add, bits_left, IsWhole}
-use Rattle.paging_message.proofs.Common.{nil_from_length, false_from_ne_true, flat_map-zero, mod_self}
+use Rattle.paging_message.proofs.Common.{append-nil, drop-drop, drop_at, list_any-append, div-mul-add, mul-add-mod_self_left, places, Piece}
+use Rattle.paging_message.proofs.Common.{mul-le-mul_left, flat_map_ext_places, flat_map-add, bits_left, IsWhole, nil_from_length, mod_self}
+use Rattle.paging_message.proofs.Common.{false_from_ne_true, flat_map-zero}
 use Rattle.paging_message.proofs.Layings.{any_other, below_more, below_push, framed_whole, half_front, not_begun}
 use Rattle.paging_message.proofs.Runs.{joined, AreChained, length-padded, no_width, run_bits, run_piece, run_pieces, run_width}
 use Rattle.paging_message.proofs.Runs.{run_width_some}

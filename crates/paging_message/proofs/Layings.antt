@@ -1,10 +1,10 @@
 -- Bits laid in half-frames, one after another.
-use Rattle.paging_message.proofs.Common.{◌≡◌, ℕ, suc, ◌+◌, ◌-◌, ◌*◌, ◌/◌, ◌%◌, ◌<◌, ◌≤◌, ◌==◌, ◌||◌, if◌then◌else◌, Bool, true, false}
-use Rattle.paging_message.proofs.Common.{cond, List, [], ◌∷◌, ◌++◌, length, take, drop, replicate, refl, sym, ap, ◌∙◌, arith, append_assoc}
-use Rattle.paging_message.proofs.Common.{length-append, length-drop, not, inl, inr, IsTrue, flat_map, list_any, cases_lt, cases_Bool}
-use Rattle.paging_message.proofs.Common.{eq-eqb, eqb-true, eqb-false, ne_eqb, append-nil, length-take-le, take-append-drop, mod-eq_of_lt}
-use Rattle.paging_message.proofs.Common.{take-append-le, drop-append-le, drop_at, take_all, length-replicate, replicate-append-replicate}
-use Rattle.paging_message.proofs.Common.{list_any-append, div-mul-add, mod-mul-add, div-add-mod, mod-lt, mod_self, mul-le-mul_left, places}
+use Rattle.paging_message.proofs.Common.{◌≡◌, ℕ, suc, ◌+◌, ◌-◌, ◌*◌, ◌/◌, ◌%◌, ◌<◌, ◌≤◌, ◌==◌, ◌||◌, if◌then◌else◌, Bool, true, false, cond}
+use Rattle.paging_message.proofs.Common.{List, [], ◌∷◌, ◌++◌, length, take, drop, replicate, refl, sym, ap, ◌∙◌, arith, append_assoc, not}
+use Rattle.paging_message.proofs.Common.{length-append, length-drop, inl, inr, IsTrue, flat_map, list_any, cases_lt, cases_Bool, eq-eqb}
+use Rattle.paging_message.proofs.Common.{eqb-true, eqb-false, ne_eqb, append-nil, length-take-le, take-append-drop, mod-eq_of_lt, drop_at}
+use Rattle.paging_message.proofs.Common.{take-append-le, drop-append-le, take_all, length-replicate, replicate-append-replicate, mod-lt}
+use Rattle.paging_message.proofs.Common.{list_any-append, div-mul-add, mod-mul-add, div-add-mod, mod_self, mul-le-mul_left, places}
 use Rattle.paging_message.proofs.Common.{flat_map-zero, or-false, bits_left, flat_map_ext_places, flat_map-places-more}
 use Rattle.paging_message.specs.Laying as laying
 

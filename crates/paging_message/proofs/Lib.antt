@@ -1,4 +1,3 @@
--- The modules of lemmas of `paging_message`.
 pub mod ByLayout
 pub mod Carried
 pub mod Chains

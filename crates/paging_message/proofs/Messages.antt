@@ -1,12 +1,11 @@
 -- Bodies of messages, spelled and read again.
 use Rattle.paging_message.proofs.Common.{◌≡◌, ℕ, ◌+◌, ◌%◌, ◌^◌, ◌<◌, ◌≤◌, ◌==◌, ◌&&◌, Bool, true, List, ◌++◌, length, drop, take, refl, sym}
-use Rattle.paging_message.proofs.Common.{ap, subst, ◌∙◌, arith, nat_le, inl, inr, Option, Some, None, IfSome, and_parts, and_from}
-use Rattle.paging_message.proofs.Common.{cases_Bool, cases_lt, eq-eqb, eqb-true, le-leb, leb-true, length-append, binary, number}
-use Rattle.paging_message.proofs.Common.{length-binary, after_front, front, number_front, number_at, FillsCapsule, M30, guard_some}
-use Rattle.paging_message.proofs.Common.{not_both, number_again, number_part, number_there, mapped, mapped_some, reading, reading_again}
-use Rattle.paging_message.proofs.Common.{reading_there, spelling, IsOf, Contents, MessageShape, admits, HasMessage, message_body}
-use Rattle.paging_message.proofs.Common.{IsPagingMessage, PagingMessage, contents_of, paging_kind_of, message_from, paging_shape_of}
-use Rattle.paging_message.proofs.Common.{body_reading, is_body, message_at}
+use Rattle.paging_message.proofs.Common.{ap, subst, ◌∙◌, arith, nat_le, inl, inr, Option, Some, None, IfSome, and_parts, and_from, cases_lt}
+use Rattle.paging_message.proofs.Common.{cases_Bool, eq-eqb, eqb-true, le-leb, leb-true, length-append, binary, number, length-binary, M30}
+use Rattle.paging_message.proofs.Common.{after_front, front, number_front, number_at, FillsCapsule, guard_some, not_both, number_again}
+use Rattle.paging_message.proofs.Common.{number_part, number_there, mapped, mapped_some, reading, reading_again, reading_there, spelling}
+use Rattle.paging_message.proofs.Common.{IsOf, Contents, MessageShape, admits, HasMessage, message_body, IsPagingMessage, PagingMessage}
+use Rattle.paging_message.proofs.Common.{contents_of, paging_kind_of, message_from, paging_shape_of, body_reading, is_body, message_at}
 use Rattle.paging_message.proofs.ByLayout.{admits_short, lawful, made_again, made_of, placed, spelled_by}
 
 pub message_fills : (m : PagingMessage) → IsPagingMessage m → FillsCapsule M30 (message_body m)

@@ -1,14 +1,14 @@
 -- The half-frames of a run of capsules, and what their bits end.
-use Rattle.paging_message.proofs.Common.{◌≡◌, ℕ, zero, suc, ◌+◌, ◌-◌, ◌*◌, ◌/◌, ◌%◌, ◌<◌, ◌≤◌, ◌==◌, Bool, false, List, [], ◌∷◌, ◌++◌}
-use Rattle.paging_message.proofs.Common.{length, map, take, refl, sym, ap, ◌∙◌, arith, append_assoc, length-append, Option, None, inl, inr}
-use Rattle.paging_message.proofs.Common.{flat_map, option_to_list, cases_lt, ne_eqb, flat_map-append, append-nil, length-take-le}
-use Rattle.paging_message.proofs.Common.{map-append, take-append-le, mod-mul-add, places, length-map-places, Piece, bodies, from_last_start}
-use Rattle.paging_message.proofs.Common.{ends_chain, flat_map_ext_places, flat_map-add, flat_map-zero, map-next, map-zero, true, cond, drop}
-use Rattle.paging_message.proofs.Common.{replicate, length-replicate, drop_at, take_at, Some, nat_le, nat_lt, eq-eqb, le-leb, le-ltb}
-use Rattle.paging_message.proofs.Common.{lt-leb, lt-ltb, take-take, div-mul-add, mod_below, mul-le-mul_left, take-add, fill, padded_to}
-use Rattle.paging_message.proofs.Common.{div-add-mod', if◌then◌else◌, and_from, and_left, and_right, cases_order, false_from_ne_true}
-use Rattle.paging_message.proofs.Common.{drop-take, number, is_stated, stated_bits, IsWhole, stated_bounds, stated_from, bits_left}
-use Rattle.paging_message.proofs.Common.{flat_map-next, flat_map-nothing, mod-eq_of_lt}
+use Rattle.paging_message.proofs.Common.{◌≡◌, ℕ, zero, suc, ◌+◌, ◌-◌, ◌*◌, ◌/◌, ◌%◌, ◌<◌, ◌≤◌, ◌==◌, Bool, false, List, [], ◌∷◌, ◌++◌, map}
+use Rattle.paging_message.proofs.Common.{length, take, refl, sym, ap, ◌∙◌, arith, append_assoc, length-append, Option, None, inl, inr, true}
+use Rattle.paging_message.proofs.Common.{flat_map, option_to_list, cases_lt, ne_eqb, flat_map-append, append-nil, length-take-le, places}
+use Rattle.paging_message.proofs.Common.{map-append, take-append-le, mod-mul-add, length-map-places, Piece, bodies, from_last_start, cond}
+use Rattle.paging_message.proofs.Common.{ends_chain, flat_map_ext_places, flat_map-add, flat_map-zero, map-next, map-zero, drop, replicate}
+use Rattle.paging_message.proofs.Common.{length-replicate, drop_at, take_at, Some, nat_le, nat_lt, eq-eqb, le-leb, le-ltb, lt-leb, lt-ltb}
+use Rattle.paging_message.proofs.Common.{take-take, div-mul-add, mod_below, mul-le-mul_left, take-add, fill, padded_to, div-add-mod'}
+use Rattle.paging_message.proofs.Common.{if◌then◌else◌, and_from, and_left, and_right, cases_order, false_from_ne_true, drop-take, number}
+use Rattle.paging_message.proofs.Common.{is_stated, stated_bits, IsWhole, stated_bounds, stated_from, bits_left, flat_map-next}
+use Rattle.paging_message.proofs.Common.{flat_map-nothing, mod-eq_of_lt}
 use Rattle.paging_message.proofs.Chains.{is_there}
 use Rattle.paging_message.proofs.Pieces.{run, run-places}
 use Rattle.paging_message.proofs.Scans.{NoneStarts, chain_of, cut_short, ended, from_start_of_run, none_starts-append, scan, scan-next}

@@ -1,11 +1,10 @@
 -- What the half-frames of a stream end, one half-frame after another.
 use Rattle.paging_message.proofs.Common.{◌≡◌, ℕ, zero, suc, ◌+◌, ◌*◌, ◌/◌, ◌%◌, ◌<◌, ◌≤◌, ◌==◌, Bool, false, List, [], ◌∷◌, ◌++◌, length}
-use Rattle.paging_message.proofs.Common.{map, take, refl, sym, ap, ◌∙◌, arith, append_assoc, length-append, Option, None, inl, inr}
-use Rattle.paging_message.proofs.Common.{flat_map, option_to_list, cases_lt, ne_eqb, append-nil, length-take-le, take-append-le}
-use Rattle.paging_message.proofs.Common.{mod-mul-add, take-append-add, places, Piece, bodies, from_last_start, ends_chain, half_frames}
-use Rattle.paging_message.proofs.Common.{half_frame_capsule_ending, flat_map_ext_places, flat_map-add, flat_map-next, flat_map-nothing}
-use Rattle.paging_message.proofs.Common.{flat_map-zero, map-next, map-zero, true, cond, drop, replicate, piece, get_or, drop-drop}
-use Rattle.paging_message.proofs.Common.{drop_at, take_at, map-places-all}
+use Rattle.paging_message.proofs.Common.{map, take, refl, sym, ap, ◌∙◌, arith, append_assoc, length-append, Option, None, inl, inr, ne_eqb}
+use Rattle.paging_message.proofs.Common.{flat_map, option_to_list, cases_lt, append-nil, length-take-le, take-append-le, mod-mul-add, Piece}
+use Rattle.paging_message.proofs.Common.{take-append-add, places, bodies, from_last_start, ends_chain, half_frames, flat_map_ext_places}
+use Rattle.paging_message.proofs.Common.{half_frame_capsule_ending, flat_map-add, flat_map-next, flat_map-nothing, flat_map-zero, map-next}
+use Rattle.paging_message.proofs.Common.{map-zero, true, cond, drop, replicate, piece, get_or, drop-drop, drop_at, take_at, map-places-all}
 use Rattle.paging_message.proofs.Cutting.{halves_more, mark_ends, part}
 use Rattle.paging_message.proofs.Pieces.{started_after}
 

@@ -1,6 +1,6 @@
 -- Which bodies are those of messages, by their type and length.
+use Rattle.paging_message.specs.Common.{has_length}
 use Rattle.std.specs.Prelude.{◌≡◌, ℕ, ◌-◌, ◌&&◌, Bool, List, nat_le}
-use Rattle.message_layout.specs.Plain.{has_length}
 use Rattle.paging_message.specs.Layouts.{paging_shape_of}
 use Rattle.paging_message.specs.Messages.{message_body, IsPagingMessage}
 use Rattle.paging_message.specs.declared.message.PagingMessage.{PagingMessage}

@@ -1,8 +1,6 @@
 -- The CDMA Channel List Message (TIA/EIA-95-B, 7.7.2.3.2.4).
+use Rattle.paging_message.specs.Common.{plain_contents, plain_shape, MessageShape, Contents}
 use Rattle.std.specs.Prelude.{ℕ, List, [], ◌∷◌, codes, get_or, Some}
-use Rattle.message_layout.specs.Plain.{plain_contents, plain_shape}
-use Rattle.message_layout.specs.Shapes.{MessageShape}
-use Rattle.message_layout.specs.declared.contents.Contents.{Contents}
 use Rattle.paging_message.specs.Spelling.{IsSpelled}
 use Rattle.paging_message.specs.declared.channels.ChannelFields.{ChannelFields}
 

@@ -1,14 +1,13 @@
 -- Half-frames of the paging channel (TIA/EIA-95-B, 7.7.2.1): the SCI bit, 1 where a capsule begins
 -- right after it, and 95 bits of body at 9600 bits per second, or 47 at 4800.
+use Rattle.paging_message.specs.Common.{places, stated_bits, is_stated, still_open}
 use Rattle.std.specs.Prelude.{◌≡◌, ℕ, zero, suc, ◌+◌, ◌-◌, ◌*◌, ◌/◌, ◌%◌, ◌==◌, if◌then◌else◌, ◌&&◌}
 use Rattle.std.specs.Prelude.{Bool, List, [], ◌∷◌, length, map, take, drop, Option, Some, None}
 use Rattle.std.specs.Prelude.{nat_le}
 use Rattle.std.specs.List.{flat_map}
 use Rattle.std.specs.Option.{option_to_list}
-use Rattle.chip_core.specs.Bits.{places}
 use Rattle.quality_bits.specs.declared.rate.Rate.{Rate}
 use Rattle.quality_bits.specs.declared.rate.Rate.TheVariants.{R9600, R4800, R2400, R1200}
-use Rattle.quality_bits.specs.Capsules.{stated_bits, is_stated, still_open}
 use Rattle.quality_bits.specs.Pieces.{Piece, piece, bodies, from_last_start}
 
 -- the rates of a paging channel

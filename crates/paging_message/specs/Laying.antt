@@ -1,9 +1,8 @@
 -- Capsules laid one after another in the body bits of half-frames (TIA/EIA-95-B, 7.7.2.1).
+use Rattle.paging_message.specs.Common.{places, IsWhole}
 use Rattle.std.specs.Prelude.{◌≡◌, ℕ, ◌+◌, ◌-◌, ◌*◌, ◌/◌, ◌%◌, ◌<◌, ◌≤◌, ◌==◌, if◌then◌else◌, Bool}
 use Rattle.std.specs.Prelude.{true, false, List, [], ◌∷◌, ◌++◌, length, take, drop, replicate}
 use Rattle.std.specs.List.{flat_map, list_any}
-use Rattle.chip_core.specs.Bits.{places}
-use Rattle.quality_bits.specs.Capsules.{IsWhole}
 use Rattle.paging_message.specs.HalfFrames.{bits_left}
 
 -- the body bits of half-frames, and the half-frames in which a capsule begins after an SCI bit of

@@ -1,7 +1,7 @@
 -- The message types that have fields of their own: the table of what stands after each.
+use Rattle.paging_message.specs.Common.{LineNames, MessageShape}
 use Rattle.std.specs.Prelude.{ℕ, ◌≡◌, ◌==◌, if◌then◌else◌, Bool, false, List, [], ◌∷◌, codes}
 use Rattle.std.specs.List.{list_any}
-use Rattle.message_layout.specs.Shapes.{LineNames, MessageShape}
 use Rattle.paging_message.specs.Channels.{channel_names, channel_shape}
 use Rattle.paging_message.specs.Neighbors.{neighbor_names, neighbor_shape}
 use Rattle.paging_message.specs.Others.{other_contents, other_shape}

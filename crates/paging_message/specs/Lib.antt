@@ -1,6 +1,6 @@
--- The modules of definitions of `paging_message`.
 pub mod Admitted
 pub mod Channels
+pub mod Common
 pub mod HalfFrames
 pub mod Laying
 pub mod Layouts

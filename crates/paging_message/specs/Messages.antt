@@ -1,9 +1,6 @@
 -- The messages of the paging channel (TIA/EIA-95-B, 7.7.2.3).
+use Rattle.paging_message.specs.Common.{CheckForm, Contents, capsule, M30}
 use Rattle.std.specs.Prelude.{ℕ, ◌==◌, if◌then◌else◌, Bool, List}
-use Rattle.chip_core.specs.declared.check_form.CheckForm.{CheckForm}
-use Rattle.message_layout.specs.declared.contents.Contents.{Contents}
-use Rattle.quality_bits.specs.Capsules.{capsule}
-use Rattle.quality_bits.specs.declared.kind.Kind.TheVariants.{M30}
 use Rattle.paging_message.specs.Channels.{channel_contents, channels_from}
 use Rattle.paging_message.specs.Layouts.{paging_shape_of, IsOther}
 use Rattle.paging_message.specs.Neighbors.{neighbor_contents, neighbors_from}

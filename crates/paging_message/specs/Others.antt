@@ -1,8 +1,6 @@
 -- Messages of other types: the type, and all bits after it.
+use Rattle.paging_message.specs.Common.{plain_contents, plain_shape, MessageShape, Contents}
 use Rattle.std.specs.Prelude.{ℕ, [], ◌∷◌, None}
-use Rattle.message_layout.specs.Plain.{plain_contents, plain_shape}
-use Rattle.message_layout.specs.Shapes.{MessageShape}
-use Rattle.message_layout.specs.declared.contents.Contents.{Contents}
 use Rattle.paging_message.specs.declared.other.OtherFields.{OtherFields}
 
 abbrev pub other_shape : MessageShape

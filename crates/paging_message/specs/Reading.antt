@@ -1,11 +1,9 @@
 -- The message that a body or a capsule spells, as a function of its bits: each field is the number
 -- that stands at its place.
+use Rattle.paging_message.specs.Common.{CheckForm, list_said, if_spelled}
 use Rattle.std.specs.Prelude.{ℕ, ◌-◌, ◌%◌, ◌==◌, ◌&&◌, if◌then◌else◌, Bool, List, length, take}
 use Rattle.std.specs.Prelude.{drop, nat_le, Option, Some, None}
 pub use Rattle.chip_core.specs.Readings.{number_at}
-use Rattle.chip_core.specs.declared.check_form.CheckForm.{CheckForm}
-use Rattle.message_layout.specs.Plain.{list_said}
-use Rattle.quality_bits.specs.Capsules.{if_spelled}
 pub use Rattle.quality_bits.specs.Faults.{reading_of}
 use Rattle.paging_message.specs.Admitted.{admits}
 use Rattle.paging_message.specs.Layouts.{paging_shape_of}

@@ -1,11 +1,7 @@
 -- Bodies of messages: the message type, and what a message says by the type's layout.
+use Rattle.paging_message.specs.Common.{binary, MessageShape, Contents, FillsCapsule, M30}
 use Rattle.std.specs.Prelude.{ℕ, ◌^◌, ◌<◌, ◌++◌, Bool, List}
-use Rattle.chip_core.specs.Bits.{binary}
-use Rattle.message_layout.specs.Shapes.{MessageShape}
 use Rattle.message_layout.specs.Spelling.{spelling, IsOf}
-use Rattle.message_layout.specs.declared.contents.Contents.{Contents}
-use Rattle.quality_bits.specs.Capsules.{FillsCapsule}
-use Rattle.quality_bits.specs.declared.kind.Kind.TheVariants.{M30}
 
 abbrev pub body_of : ℕ → MessageShape → Contents → List Bool
 body_of kind s c = binary 8 kind ++ spelling s c

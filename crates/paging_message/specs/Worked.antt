@@ -1,11 +1,9 @@
 -- Worked values.
+use Rattle.paging_message.specs.Common.{number, binary, places, capsule, is_stated, M30}
 use Rattle.std.specs.Prelude.{◌≡◌, refl, ℕ, ◌+◌, ◌*◌, ◌-◌, Bool, true, false, List, [], ◌∷◌, ◌++◌}
 use Rattle.std.specs.Prelude.{replicate, length, take, map, Some, None}
-use Rattle.chip_core.specs.Bits.{number, binary, places}
 use Rattle.chip_core.specs.declared.check_form.CheckForm.TheVariants.{Plain}
 use Rattle.message_layout.specs.Spelling.{spelling}
-use Rattle.quality_bits.specs.Capsules.{capsule, is_stated}
-use Rattle.quality_bits.specs.declared.kind.Kind.TheVariants.{M30}
 use Rattle.quality_bits.specs.Quality.{check_bits}
 use Rattle.paging_message.specs.HalfFrames.{bits_left, ends_chain, half_frames}
 use Rattle.paging_message.specs.HalfFrames.{half_frame_capsule_ending}

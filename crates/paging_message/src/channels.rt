@@ -1,8 +1,8 @@
 //! The CDMA Channel List Message.
 
 ghost use Rattle.std.specs.Prelude.{◌≡◌};
-ghost use Rattle.paging_message.specs.Channels.{channel_contents, channel_values};
-ghost use Rattle.paging_message.specs.Channels.{channels_from, IsChannelList};
+ghost use Rattle.paging_message.specs.Channels.{channel_contents, channel_values, channels_from};
+ghost use Rattle.paging_message.specs.Channels.{IsChannelList};
 
 use chip_core::{Bits, Numbers};
 use message_layout::{ALL_BITS, Contents, Layout, Records};

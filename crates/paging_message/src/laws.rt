@@ -1,16 +1,13 @@
 //! Laws of the definitions: each function does nothing, and its contract is the law.
 
+ghost use Rattle.paging_message.specs.Common.{number, FillsCapsule, M30, CheckForm as TheForm};
 ghost use Rattle.std.specs.Prelude.{◌≡◌, ◌↔◌, ◌<◌, ◌++◌, Bool, true, false, List, Some, length};
 ghost use Rattle.std.specs.Prelude.{map, replicate, take};
-ghost use Rattle.chip_core.specs.Bits.{number};
-ghost use Rattle.quality_bits.specs.Capsules.{FillsCapsule};
-ghost use Rattle.quality_bits.specs.declared.kind.Kind.TheVariants.{M30};
 ghost use Rattle.paging_message.specs.Admitted.{admits, HasMessage};
 ghost use Rattle.quality_bits.specs.declared.rate.Rate.{Rate as TheRate};
-ghost use Rattle.chip_core.specs.declared.check_form.CheckForm.{CheckForm as TheForm};
 ghost use Rattle.paging_message.specs.HalfFrames.{capsules_in, half_frame_body, IsPagingRate};
-ghost use Rattle.paging_message.specs.Laying.{fill, half_frames_of, laid_all, nothing_laid};
-ghost use Rattle.paging_message.specs.Laying.{AreLawful, HasLaid, Laid, Place, Put};
+ghost use Rattle.paging_message.specs.Laying.{fill, half_frames_of, laid_all, nothing_laid, Laid};
+ghost use Rattle.paging_message.specs.Laying.{AreLawful, HasLaid, Place, Put};
 ghost use Rattle.paging_message.specs.Messages.{message_body, paging_capsule, IsPagingMessage};
 ghost use Rattle.paging_message.specs.Reading.{body_reading, paging_reading};
 ghost use Rattle.paging_message.specs.declared.message.PagingMessage.{PagingMessage as TheMessage};

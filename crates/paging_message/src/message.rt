@@ -1,10 +1,8 @@
 //! The messages, to and from their bodies and capsules.
 
+ghost use Rattle.paging_message.specs.Common.{line_names, shape, FillsCapsule, IsWhole, M30};
 ghost use Rattle.std.specs.Prelude.{◌≡◌, ◌↔◌, IfOk, IfSome, IsTrue, Some};
-ghost use Rattle.message_layout.specs.Shapes.{line_names, shape};
-ghost use Rattle.quality_bits.specs.Capsules.{FillsCapsule, IsWhole};
 ghost use Rattle.quality_bits.specs.Kinds.{IsChecked};
-ghost use Rattle.quality_bits.specs.declared.kind.Kind.TheVariants.{M30};
 ghost use Rattle.paging_message.specs.Layouts.{paging_names_of, paging_shape_of};
 
 use crate::channels::{CHANNEL_LIST, ChannelList};

@@ -2,8 +2,8 @@
 
 ghost use Rattle.std.specs.Prelude.{◌≡◌, ◌<◌, [], get_or};
 ghost use Rattle.chip_core.specs.Fields.{in_widths, FieldsFit};
-ghost use Rattle.paging_message.specs.System.{system_contents, system_from, system_names};
-ghost use Rattle.paging_message.specs.System.{system_of, system_values, system_widths, IsSystem};
+ghost use Rattle.paging_message.specs.System.{system_contents, system_from, system_names, IsSystem};
+ghost use Rattle.paging_message.specs.System.{system_of, system_values, system_widths};
 
 use chip_core::{Bits, Numbers};
 use message_layout::{

@@ -1,6 +1,6 @@
 -- The best phase of a range, and of two neighbouring ranges.
-use Rattle.pilot_search.proofs.Common.{◌≡◌, ℕ, List, refl, ap, ◌∙◌, arith, pos, ints, IsFirstGreatest}
-use Rattle.pilot_search.proofs.Common.{first_greatest, Sample, only, first_greatest-is, energy, best_phase, IsBestIn}
+use Rattle.pilot_search.proofs.Common.{◌≡◌, ℕ, List, refl, ap, ◌∙◌, arith, pos, ints, IsFirstGreatest, first_greatest, Sample, only, energy}
+use Rattle.pilot_search.proofs.Common.{first_greatest-is, best_phase, IsBestIn}
 
 first_of_all : (samples : List Sample) (phase most : ℕ) → IsBestIn samples 0 32768 phase most →
     IsFirstGreatest (λ k. pos (energy samples k)) 32768 phase

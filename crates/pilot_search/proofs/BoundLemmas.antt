@@ -1,9 +1,9 @@
 -- Sums of a part of the samples, and how great an energy can become.
-use Rattle.pilot_search.proofs.Common.{◌≡◌, ℕ, zero, suc, ◌+◌, ◌-◌, ◌*◌, ◌%◌, ◌≤◌, Bool, true, false, List, [], ◌∷◌, ◌++◌, length}
-use Rattle.pilot_search.proofs.Common.{take, drop, refl, sym, ap, ◌∙◌, subst, arith, ℤ, ◌+ℤ◌, unsigned_abs, mul-le-mul, take-add, ints}
-use Rattle.pilot_search.proofs.Common.{length-take-le, drop-drop, origin, plus, times, conjugate, point, of_sample, sum_of, norm, Pair}
-use Rattle.pilot_search.proofs.Common.{Sample, plus_assoc, origin-plus, sum_of-append, code_point, despread, pilot_chip, despread-append}
-use Rattle.pilot_search.proofs.Common.{phase_correlation, energy, magnitudes, square_of, bound, HasNoBoundBelow, IsSumOf}
+use Rattle.pilot_search.proofs.Common.{◌≡◌, ℕ, zero, suc, ◌+◌, ◌-◌, ◌*◌, ◌%◌, ◌≤◌, Bool, true, false, List, [], ◌∷◌, ◌++◌, length, take, ap}
+use Rattle.pilot_search.proofs.Common.{drop, refl, sym, ◌∙◌, subst, arith, ℤ, ◌+ℤ◌, unsigned_abs, mul-le-mul, take-add, ints, drop-drop}
+use Rattle.pilot_search.proofs.Common.{length-take-le, origin, plus, times, conjugate, point, of_sample, sum_of, norm, Pair, Sample, energy}
+use Rattle.pilot_search.proofs.Common.{plus_assoc, origin-plus, sum_of-append, code_point, despread, pilot_chip, despread-append, square_of}
+use Rattle.pilot_search.proofs.Common.{phase_correlation, magnitudes, bound, HasNoBoundBelow, IsSumOf}
 use Rattle.pilot_search.proofs.CorrelationSums.{plus_is}
 
 -- PARTS OF THE SAMPLES

@@ -1,10 +1,10 @@
 -- Lemmas on the sums of a correlation.
-use Rattle.pilot_search.proofs.Common.{◌≡◌, ℕ, suc, ◌+◌, ◌-◌, ◌*◌, ◌%◌, ◌<◌, ◌≤◌, List, [], ◌∷◌, ◌++◌, length, get_or}
-use Rattle.pilot_search.proofs.Common.{take, drop, All, min, refl, ◌⊎◌, ⊎_elim, inl, inr, sym, ap, ◌∙◌, arith, add-one, ℤ, pos, ◌+ℤ◌}
-use Rattle.pilot_search.proofs.Common.{drop_all, take-append-drop, length-take-le, length-drop, All-from_get_or, cases_order}
-use Rattle.pilot_search.proofs.Common.{drop-cons, zip_with, origin, plus, sum_of, plus_assoc, plus-origin, sum_of-append, Pair}
-use Rattle.pilot_search.proofs.Common.{Sample, pilot_chip, chip_signs, pilot_signs, despread, IsUnit, turned, despread-append, sign_unit}
-use Rattle.pilot_search.proofs.Common.{length-pilot_signs, get_or-pilot_signs, phase_correlation, correlation_with}
+use Rattle.pilot_search.proofs.Common.{◌≡◌, ℕ, suc, ◌+◌, ◌-◌, ◌*◌, ◌%◌, ◌<◌, ◌≤◌, List, [], ◌∷◌, ◌++◌, length, get_or, take, drop, All, min}
+use Rattle.pilot_search.proofs.Common.{refl, ◌⊎◌, ⊎_elim, inl, inr, sym, ap, ◌∙◌, arith, add-one, ℤ, pos, ◌+ℤ◌, drop_all, take-append-drop}
+use Rattle.pilot_search.proofs.Common.{length-take-le, length-drop, All-from_get_or, cases_order, drop-cons, zip_with, origin, plus, sum_of}
+use Rattle.pilot_search.proofs.Common.{plus_assoc, plus-origin, sum_of-append, Pair, Sample, pilot_chip, chip_signs, pilot_signs, despread}
+use Rattle.pilot_search.proofs.Common.{IsUnit, turned, despread-append, sign_unit, length-pilot_signs, get_or-pilot_signs, correlation_with}
+use Rattle.pilot_search.proofs.Common.{phase_correlation}
 
 abbrev pub no_sample : Sample
 no_sample = record { i = pos 0; q = pos 0 }

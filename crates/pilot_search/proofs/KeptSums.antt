@@ -1,7 +1,6 @@
 -- Sums of two numbers, each kept as 64 bits.
-use Rattle.pilot_search.proofs.Common.{◌≡◌, ◌+◌, ◌^◌, ◌<◌, ◌≤◌, ◌∙◌, ℕ, sym, subst, arith, ℤ, ◌+ℤ◌, unsigned_abs, FitsSigned, to_z, of_z, w64}
-use Rattle.pilot_search.proofs.Common.{fits_signed_from_abs, to_z-of_z, plus, Pair}
-use Rattle.chip_core.proofs.Magnitudes.{abs_sum}
+use Rattle.pilot_search.proofs.Common.{◌≡◌, ◌+◌, ◌^◌, ◌<◌, ◌≤◌, ◌∙◌, ℕ, sym, subst, arith, ℤ, ◌+ℤ◌, unsigned_abs, FitsSigned, to_z, of_z}
+use Rattle.pilot_search.proofs.Common.{w64, fits_signed_from_abs, to_z-of_z, plus, Pair, abs_sum}
 
 read_back : (a : ℤ) → unsigned_abs a < 2 ^ 63 → to_z w64 (of_z w64 a) ≡ a
 read_back a small = to_z-of_z w64 a (fits_signed_from_abs w64 a (omega (arith, small)))

@@ -1,11 +1,11 @@
 -- Lanes of 32 bits that hold products of samples with signs, and sums of them.
-use Rattle.pilot_search.proofs.Common.{◌≡◌, ℕ, zero, suc, ◌+◌, ◌*◌, ◌%◌, ◌^◌, ◌<◌, ◌≤◌, List, [], ◌∷◌, map, length, get_or, take, drop}
-use Rattle.pilot_search.proofs.Common.{add-one, All, refl, sym, ap, ◌∙◌, arith, ℤ, pos, negsuc, ◌+ℤ◌, ◌*ℤ◌, unsigned_abs, to_z, of_z}
-use Rattle.pilot_search.proofs.Common.{FitsSigned, w16, w32, w64, neg_ℤ, +ℤ_assoc, Fits-of_z, int_wrap, ints, to_z-of_z, int_wrap_fits}
-use Rattle.pilot_search.proofs.Common.{wrapping_add-bits, wrapping_mul_onto, fits_signed_from_abs, unsigned_abs-mul, Each1, subst, Each2}
-use Rattle.pilot_search.proofs.Common.{zip2, map_at, All-head, All-tail, Each2-of, plus, total, Pair, real_part, Sample, across, abs_fits}
-use Rattle.pilot_search.proofs.Common.{correlation_with, IsUnit, product_at, real_lanes, imaginary_lanes, both, parts, eight, sample_at}
-use Rattle.pilot_search.proofs.Common.{signs_at, with_signs, AreShort, AreUnits, IsShort, AreProducts, Each1-weaker}
+use Rattle.pilot_search.proofs.Common.{◌≡◌, ℕ, zero, suc, ◌+◌, ◌*◌, ◌%◌, ◌^◌, ◌<◌, ◌≤◌, List, [], ◌∷◌, map, length, get_or, take, drop, All}
+use Rattle.pilot_search.proofs.Common.{add-one, refl, sym, ap, ◌∙◌, arith, ℤ, pos, negsuc, ◌+ℤ◌, ◌*ℤ◌, unsigned_abs, to_z, of_z, FitsSigned}
+use Rattle.pilot_search.proofs.Common.{w16, w32, w64, neg_ℤ, +ℤ_assoc, Fits-of_z, int_wrap, ints, to_z-of_z, int_wrap_fits, Each1, subst}
+use Rattle.pilot_search.proofs.Common.{wrapping_add-bits, wrapping_mul_onto, fits_signed_from_abs, unsigned_abs-mul, Each2, zip2, map_at}
+use Rattle.pilot_search.proofs.Common.{All-head, All-tail, Each2-of, plus, total, Pair, real_part, Sample, across, abs_fits, IsUnit, both}
+use Rattle.pilot_search.proofs.Common.{correlation_with, product_at, real_lanes, imaginary_lanes, parts, eight, sample_at, signs_at}
+use Rattle.pilot_search.proofs.Common.{with_signs, AreShort, AreUnits, IsShort, AreProducts, Each1-weaker}
 use Rattle.pilot_search.proofs.CorrelationSums.{correlation_with-more, no_sample}
 
 -- what a list has at any place, or 0 and 0 after its end

@@ -1,7 +1,7 @@
 -- The loop over groups of eight samples: what its lanes hold.
-use Rattle.pilot_search.proofs.Common.{◌≡◌, ℕ, ◌+◌, ◌*◌, ◌^◌, ◌<◌, ◌≤◌, List, length, drop, sym, ap, ◌∙◌, subst, arith, ℤ, ◌+ℤ◌}
-use Rattle.pilot_search.proofs.Common.{unsigned_abs, to_z, of_z, w64, Each1, Each2, zip2, to_z-of_z, fits_signed_from_abs, Each1-weaker}
-use Rattle.pilot_search.proofs.Common.{length-zip2, plus, total, Pair, Sample, correlation_with, LanesAreNear, AreProducts, AreSums}
+use Rattle.pilot_search.proofs.Common.{◌≡◌, ℕ, ◌+◌, ◌*◌, ◌^◌, ◌<◌, ◌≤◌, List, length, drop, sym, ap, ◌∙◌, subst, arith, ℤ, ◌+ℤ◌, to_z, of_z}
+use Rattle.pilot_search.proofs.Common.{unsigned_abs, w64, Each1, Each2, zip2, to_z-of_z, fits_signed_from_abs, Each1-weaker, length-zip2}
+use Rattle.pilot_search.proofs.Common.{plus, total, Pair, Sample, correlation_with, LanesAreNear, AreProducts, AreSums}
 use Rattle.pilot_search.proofs.CorrelationSums.{correlation_with-all}
 use Rattle.pilot_search.proofs.LaneLemmas.{kept, kept_lanes, kept_products, lanes_fit, bounds_more, total_bound, lanes_more}
 

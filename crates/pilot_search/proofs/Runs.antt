@@ -1,9 +1,9 @@
 -- In each complete run of the workers the best phase is evaluated.
-use Rattle.pilot_search.proofs.Common.{IsStart, ◌≡◌, ◌⊎◌, ℕ, zero, suc, ◌<◌, ◌≤◌, max, List, [], ◌∷◌, set, refl, sym, ap, ◌∙◌, subst}
-use Rattle.pilot_search.proofs.Common.{⊎_elim, inl, inr, arith, Some, Contains, All, slice_get, cases_order, cases_lt, All-set}
-use Rattle.pilot_search.proofs.Common.{All-contains, All-get_or, All-nil, All-cons, All-head, All-tail, slice_get_within}
-use Rattle.pilot_search.proofs.Common.{get_or_from_slice_get, Sample, energy, best_phase, greatest, Worker, Step, Evaluate, Publish, Read}
-use Rattle.pilot_search.proofs.Common.{Skip, Goes, Run, Parts, IsDone, FindsBest, ComesFirst, BestComesFirst, IsTry}
+use Rattle.pilot_search.proofs.Common.{IsStart, ◌≡◌, ◌⊎◌, ℕ, zero, suc, ◌<◌, ◌≤◌, max, List, [], ◌∷◌, set, refl, sym, ap, ◌∙◌, subst, inl}
+use Rattle.pilot_search.proofs.Common.{⊎_elim, inr, arith, Some, Contains, All, slice_get, cases_order, cases_lt, All-set, All-contains}
+use Rattle.pilot_search.proofs.Common.{All-get_or, All-nil, All-cons, All-head, All-tail, slice_get_within, get_or_from_slice_get, Sample}
+use Rattle.pilot_search.proofs.Common.{energy, best_phase, greatest, Worker, Step, Evaluate, Publish, Read, Skip, Goes, Run, Parts, IsDone}
+use Rattle.pilot_search.proofs.Common.{FindsBest, ComesFirst, BestComesFirst, IsTry}
 use Rattle.pilot_search.specs.SearchRun.{State}
 use Rattle.pilot_search.proofs.BoundLemmas.{bounds}
 use Rattle.pilot_search.proofs.FoundLemmas.{at_most_greatest}

@@ -1,8 +1,8 @@
 -- Each step on the shared word keeps its rule.
-use Rattle.pilot_search.proofs.Common.{◌≡◌, ◌≢◌, ℕ, zero, suc, ◌≤◌, true, false, List, [], ◌∷◌, length, set, get_or, inr, refl, sym, ap}
-use Rattle.pilot_search.proofs.Common.{◌∙◌, subst, ⊎_elim, arith, length-set, get_or-set_same, false≢true, none, some, some-ne-none}
-use Rattle.pilot_search.proofs.Common.{some-injective, get_elem?, State, Me, step, keeps, stepped, Allows, Splits, Joins, at_set, at_snoc}
-use Rattle.pilot_search.proofs.Common.{set_again, View, holding, spent, fresh_view, Lies, AllLie, IsSharedState, Begun, joined_views}
+use Rattle.pilot_search.proofs.Common.{◌≡◌, ◌≢◌, ℕ, zero, suc, ◌≤◌, true, false, List, [], ◌∷◌, length, set, get_or, inr, refl, sym, ap, Me}
+use Rattle.pilot_search.proofs.Common.{◌∙◌, subst, ⊎_elim, arith, length-set, get_or-set_same, false≢true, none, some, some-ne-none, State}
+use Rattle.pilot_search.proofs.Common.{some-injective, get_elem?, step, keeps, stepped, Allows, Splits, Joins, at_set, at_snoc, set_again}
+use Rattle.pilot_search.proofs.Common.{View, holding, spent, fresh_view, Lies, AllLie, IsSharedState, Begun, joined_views}
 
 abbrev Sat : Type 0
 Sat = Me (Unit {0}) View

@@ -1,6 +1,6 @@
 -- The best phase of a range.
+use Rattle.pilot_search.specs.Common.{Sample}
 use Rattle.std.specs.Prelude.{ℕ, ◌<◌, ◌≤◌, ◌≡◌, List}
-use Rattle.chip_core.specs.declared.sample.Sample.{Sample}
 use Rattle.pilot_search.specs.Search.{energy}
 
 -- the phase of greatest energy of those from one to before another, the least on a tie, with its

@@ -1,8 +1,7 @@
 -- How great the energy of a phase can still become, after some of the samples.
+use Rattle.pilot_search.specs.Common.{Pair, Sample}
 use Rattle.std.specs.Prelude.{◌≡◌, ◌<◌, ◌≤◌, ℕ, ◌+◌, ◌*◌, List, [], ◌∷◌, length, take, drop}
 use Rattle.std.specs.Prelude.{unsigned_abs, slice_index}
-use Rattle.chip_core.specs.declared.sample.Pair.{Pair}
-use Rattle.chip_core.specs.declared.sample.Sample.{Sample}
 use Rattle.pilot_search.specs.Search.{phase_correlation, energy, best_phase}
 
 -- the greatest energy of any phase

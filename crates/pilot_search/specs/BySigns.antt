@@ -1,10 +1,7 @@
 -- The correlation with a list of signs, one pair for each sample.
+use Rattle.pilot_search.specs.Common.{sum_of, Pair, Sample, turned}
 use Rattle.std.specs.Prelude.{◌≡◌, ◌≤◌, ◌*◌, List, length, ℤ, neg_ℤ, unsigned_abs}
 use Rattle.chip_core.specs.Bits.{zip_with}
-use Rattle.chip_core.specs.Complex.{sum_of}
-use Rattle.chip_core.specs.declared.sample.Pair.{Pair}
-use Rattle.chip_core.specs.declared.sample.Sample.{Sample}
-use Rattle.short_code.specs.Despread.{turned}
 
 unfoldable pub correlation_with : List Sample → List (ℤ × ℤ) → Pair
 correlation_with samples signs = sum_of (zip_with turned samples signs)

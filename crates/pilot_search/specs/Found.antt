@@ -1,7 +1,7 @@
 -- What workers find in their ranges of phases.
-use Rattle.std.specs.Prelude.{ℕ, ◌<◌, ◌≤◌, ◌≡◌, ◌*◌, ◌/◌, List, Option, Some, None, IfSome}
-use Rattle.std.specs.Prelude.{IsSomeAnd, if◌then◌else◌, nat_lt}
-use Rattle.chip_core.specs.declared.sample.Sample.{Sample}
+use Rattle.pilot_search.specs.Common.{Sample}
+use Rattle.std.specs.Prelude.{ℕ, ◌<◌, ◌≤◌, ◌≡◌, ◌*◌, ◌/◌, List, Option, Some, None, IfSome, nat_lt}
+use Rattle.std.specs.Prelude.{IsSomeAnd, if◌then◌else◌}
 use Rattle.pilot_search.specs.Search.{energy}
 use Rattle.pilot_search.specs.Bounds.{greatest}
 use Rattle.pilot_search.specs.declared.sweeping.Best.{Best}

@@ -1,13 +1,9 @@
 -- Eight products of samples with the code, side by side.
+use Rattle.pilot_search.specs.Common.{plus, total, Pair, Sample, IsUnit, turned}
 use Rattle.std.specs.Prelude.{◌≡◌, ◌≤◌, ℕ, ◌+◌, ◌*◌, unsigned_abs, List, [], ◌∷◌, map, get_or, drop}
 use Rattle.std.specs.Prelude.{length, ℤ, pos, ◌+ℤ◌, ◌*ℤ◌, FitsSigned}
 use lib.Lanes.{Each1}
 use mir.Syntax.{w16}
-use Rattle.chip_core.specs.Complex.{plus}
-use Rattle.chip_core.specs.Sums.{total}
-use Rattle.chip_core.specs.declared.sample.Pair.{Pair}
-use Rattle.chip_core.specs.declared.sample.Sample.{Sample}
-use Rattle.short_code.specs.Despread.{IsUnit, turned}
 use Rattle.pilot_search.specs.BySigns.{correlation_with}
 
 abbrev pub product_at : List Sample → List (ℤ × ℤ) → ℕ → Pair

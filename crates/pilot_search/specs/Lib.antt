@@ -1,7 +1,7 @@
--- The modules of definitions of `pilot_search`.
 pub mod BestIn
 pub mod Bounds
 pub mod BySigns
+pub mod Common
 pub mod Found
 pub mod Knowledge
 pub mod Lanes

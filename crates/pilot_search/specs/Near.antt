@@ -1,8 +1,7 @@
 -- The phases of greatest energy near the best one.
+use Rattle.pilot_search.specs.Common.{first_places, Sample}
 use Rattle.std.specs.Prelude.{ℕ, ◌+◌, ◌-◌, ◌%◌, if◌then◌else◌, nat_le, List, map, ℤ, pos, negsuc}
 use Rattle.std.specs.Prelude.{◌-ℤ◌}
-use Rattle.chip_core.specs.Sums.{first_places}
-use Rattle.chip_core.specs.declared.sample.Sample.{Sample}
 use Rattle.pilot_search.specs.Search.{energy}
 
 -- The 65 phases round a phase, modulo the period: how far after the first of them a phase lies. 64

@@ -1,6 +1,6 @@
 -- Phases with their energies, in order of rank: by greater energy, then by lesser phase.
+use Rattle.pilot_search.specs.Common.{Sample}
 use Rattle.std.specs.Prelude.{◌≡◌, ◌≢◌, ℕ, ◌+◌, ◌*◌, ◌<◌, ◌≤◌, List, length, get_or}
-use Rattle.chip_core.specs.declared.sample.Sample.{Sample}
 use Rattle.pilot_search.specs.Near.{near_phase_at}
 use Rattle.pilot_search.specs.Search.{energy}
 use Rattle.pilot_search.specs.declared.sweeping.Best.{Best}

@@ -1,10 +1,6 @@
 -- The search for the pilot: each phase's correlation with the samples, and the best phase.
+use Rattle.pilot_search.specs.Common.{sum_of, norm, first_greatest, Pair, Sample, despread}
 use Rattle.std.specs.Prelude.{ℕ, List, pos}
-use Rattle.chip_core.specs.Complex.{sum_of, norm}
-use Rattle.chip_core.specs.Sums.{first_greatest}
-use Rattle.chip_core.specs.declared.sample.Pair.{Pair}
-use Rattle.chip_core.specs.declared.sample.Sample.{Sample}
-use Rattle.short_code.specs.Despread.{despread}
 
 unfoldable pub phase_correlation : List Sample → ℕ → Pair
 phase_correlation samples phase = sum_of (despread phase samples)

@@ -1,8 +1,8 @@
 -- Workers that share the greatest energy published so far, and leave phases that can't reach it:
 -- every run of theirs.
+use Rattle.pilot_search.specs.Common.{Sample}
 use Rattle.std.specs.Prelude.{ℕ, ◌<◌, ◌≤◌, ◌≡◌, ◌⊎◌, max, List, [], ◌∷◌, set, Some, Contains, All}
 use Rattle.std.specs.Prelude.{slice_get, Option, MatchOption}
-use Rattle.chip_core.specs.declared.sample.Sample.{Sample}
 use Rattle.pilot_search.specs.Search.{energy, best_phase}
 use Rattle.pilot_search.specs.Bounds.{bound}
 

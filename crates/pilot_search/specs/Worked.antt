@@ -1,6 +1,6 @@
 -- Two samples on the first chips of the codes.
+use Rattle.pilot_search.specs.Common.{Sample}
 use Rattle.std.specs.Prelude.{◌≡◌, refl, List, [], ◌∷◌, pos, map}
-use Rattle.chip_core.specs.declared.sample.Sample.{Sample}
 use Rattle.short_code.specs.ShortCode.{chips_to}
 use Rattle.pilot_search.specs.Search.{phase_correlation, energy}
 

@@ -1,9 +1,9 @@
 //! Sums over whole groups of eight samples, on lanes, by the points of the code and the points
 //! turned.
 
+ghost use Rattle.pilot_search.specs.Common.{IsUnit};
 ghost use Rattle.std.specs.Prelude.{◌≡◌, ◌<◌, ◌≤◌, ◌+◌, ◌*◌, ◌%◌, length, map, All, unsigned_abs};
 ghost use Rattle.pilot_search.specs.BySigns.{across, correlation_with};
-ghost use Rattle.short_code.specs.Despread.{IsUnit};
 ghost use Rattle.pilot_search.specs.Lanes.{AreProducts, both};
 
 use crate::lanes::{GROUP, pair_sums, parts_of, sum_of_lanes, with_products};

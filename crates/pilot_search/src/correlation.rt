@@ -1,10 +1,9 @@
 //! The correlation of samples with the code at one phase.
 
+ghost use Rattle.pilot_search.specs.Common.{norm, IsUnit};
 ghost use Rattle.std.specs.Prelude.{◌≡◌, ◌<◌, ◌≤◌, ◌+◌, ◌*◌, ◌^◌, ℕ, length, unsigned_abs, All};
-ghost use Rattle.chip_core.specs.Complex.{norm};
 ghost use Rattle.pilot_search.specs.Search.{phase_correlation, energy};
 ghost use Rattle.pilot_search.specs.BySigns.{IsSumBy};
-ghost use Rattle.short_code.specs.Despread.{IsUnit};
 
 use crate::blocks::sum_of_groups;
 use crate::lanes::{GROUP, sums_on_lanes};

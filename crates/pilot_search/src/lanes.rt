@@ -1,13 +1,10 @@
 //! Sums of many samples on lanes, eight samples at a time.
 
+ghost use Rattle.pilot_search.specs.Common.{plus, total, Sample as TheSample, IsUnit};
 ghost use Rattle.std.specs.Prelude.{◌≡◌, ◌<◌, ◌≤◌, ◌+◌, ◌*◌, ◌/◌, ◌^◌, ◌+ℤ◌, ℕ, ℤ, List, length};
 ghost use Rattle.std.specs.Prelude.{drop, All, unsigned_abs};
 ghost use lib.Lanes.{Each1, Each2, zip2};
-ghost use Rattle.chip_core.specs.Complex.{plus};
-ghost use Rattle.chip_core.specs.Sums.{total};
-ghost use Rattle.chip_core.specs.declared.sample.Sample.{Sample as TheSample};
 ghost use Rattle.pilot_search.specs.BySigns.{across, correlation_with};
-ghost use Rattle.short_code.specs.Despread.{IsUnit};
 ghost use Rattle.pilot_search.specs.Lanes.{LanesAreNear, AreProducts, AreShort, AreSums, AreUnits};
 ghost use Rattle.pilot_search.specs.Lanes.{IsShort, eight, parts, sample_at, signs_at, with_signs};
 

@@ -1,7 +1,7 @@
 //! The points of the codes as numbers of 16 bits, as they are and turned by a quarter of a circle.
 
+ghost use Rattle.pilot_search.specs.Common.{IsUnit};
 ghost use Rattle.std.specs.Prelude.{◌≡◌, length, map, IfOk};
-ghost use Rattle.short_code.specs.Despread.{IsUnit};
 ghost use Rattle.short_code.specs.ShortCode.{pilot_signs};
 ghost use Rattle.pilot_search.specs.BySigns.{across};
 ghost use Rattle.pilot_search.specs.Lanes.{both};

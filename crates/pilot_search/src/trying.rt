@@ -1,8 +1,8 @@
 //! A worker's try of one phase.
 
+ghost use Rattle.pilot_search.specs.Common.{plus};
 ghost use Rattle.std.specs.Prelude.{◌≡◌, ◌<◌, ◌≤◌, ◌+◌, ◌*◌, ◌%◌, ◌^◌, ℕ, length, unsigned_abs};
 ghost use Rattle.std.specs.Prelude.{MatchOption, IfSome, IfNone};
-ghost use Rattle.chip_core.specs.Complex.{plus};
 ghost use Rattle.pilot_search.specs.Search.{energy};
 ghost use Rattle.pilot_search.specs.Knowledge.{IsHeld};
 ghost use Rattle.pilot_search.specs.SearchRun.{IsTry};

@@ -1,8 +1,8 @@
 -- The first of equal pilots, and the first that is repeated, as a loop finds them.
 use Rattle.pilot_sets.proofs.Common.{◌≡◌, ◌<◌, ◌+◌, ℕ, Bool, true, false, ◌||◌, List, [], ◌∷◌, ◌++◌, drop, length, Some, slice_get, nat_eq}
-use Rattle.std.proofs.lemmas.List.Elements.{All-get_or}
+use Rattle.pilot_sets.proofs.Common.{All-get_or, All, subst, refl, ap, sym, ◌∙◌, append_assoc, list_any-append, has, firsts, first_repeated}
+use Rattle.pilot_sets.proofs.Common.{left_at}
 use Rattle.std.proofs.lemmas.Option.{get_or_from_slice_get, slice_get_within}
-use Rattle.pilot_sets.proofs.Common.{All, subst, refl, ap, sym, ◌∙◌, append_assoc, list_any-append, has, firsts, first_repeated, left_at}
 
 -- an element of numbers that are all below another
 pub element_below : (xs : List ℕ) (most k x : ℕ) → All (λ n. n < most) xs →

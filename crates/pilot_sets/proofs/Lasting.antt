@@ -1,18 +1,17 @@
 -- What lasts over any sequence of calls.
 use Rattle.pilot_sets.proofs.Common.{◌≡◌, ◌≢◌, ◌<◌, ◌≤◌, ◌-◌, ℕ, Bool, true, false, cond, if◌then◌else◌, List, [], ◌∷◌, ◌++◌, length, map}
-use Rattle.pilot_sets.proofs.Common.{filter, take, suc, Option, Some, None, ap, sym, ◌∙◌, subst, arith, length-append, length-map}
-use Rattle.pilot_sets.proofs.Common.{length-take, ne_eqb, All-head, All-tail, All, DirectionFields, lacks, without, firsts, timed_pilots}
-use Rattle.pilot_sets.proofs.Common.{IsDirection, direction_fault, named_pilots, accepted_of, pilots_named, actives_without, fresh, left}
-use Rattle.pilot_sets.proofs.Common.{all_left, cleared, handed_off, energy_in, active_timed, candidate_timed, timed, stays, pilots_going}
-use Rattle.pilot_sets.proofs.Common.{rises, dropped, moving_up, measured, IsActiveSetIfAny, IsOrderly, Standing, new_standing}
-use Rattle.pilot_sets.proofs.Common.{unless_refused, directed, began_in, due_for, due_at, Call, after_call, after_all, IsLawfulCall}
-use Rattle.pilot_sets.proofs.Common.{AreApart, LeavesWaiting, Parameters, Neighbors, Direct, Due, Step, DirectionFault, ActivePilot}
-use Rattle.pilot_sets.proofs.Common.{CandidatePilot, Accepted, PilotSets}
+use Rattle.pilot_sets.proofs.Common.{filter, take, suc, Option, Some, None, ap, sym, ◌∙◌, subst, arith, length-append, length-map, ne_eqb}
+use Rattle.pilot_sets.proofs.Common.{length-take, All-head, All-tail, All, DirectionFields, lacks, without, firsts, timed_pilots, fresh}
+use Rattle.pilot_sets.proofs.Common.{IsDirection, direction_fault, named_pilots, accepted_of, pilots_named, actives_without, left, all_left}
+use Rattle.pilot_sets.proofs.Common.{cleared, handed_off, energy_in, active_timed, candidate_timed, timed, stays, pilots_going, rises, Call}
+use Rattle.pilot_sets.proofs.Common.{dropped, moving_up, measured, IsActiveSetIfAny, IsOrderly, Standing, new_standing, unless_refused, Due}
+use Rattle.pilot_sets.proofs.Common.{directed, began_in, due_for, due_at, after_call, after_all, IsLawfulCall, AreApart, LeavesWaiting}
+use Rattle.pilot_sets.proofs.Common.{Parameters, Neighbors, Direct, Step, DirectionFault, ActivePilot, CandidatePilot, Accepted, PilotSets}
 use Rattle.pilot_sets.proofs.Refusals.{accepted_few}
 use Rattle.pilot_sets.proofs.Steps.{left_is, due_is, directed_is}
 use Rattle.pilot_sets.proofs.Times.{once_at_most}
-use Rattle.pilot_sets.proofs.Orders.{new_orderly, neighbors_orderly, thresholds_orderly, waiting_orderly, accepted_active_set}
-use Rattle.pilot_sets.proofs.Orders.{handed_off_orderly, measured_orderly, length-after, handed_off-waiting}
+use Rattle.pilot_sets.proofs.Orders.{new_orderly, neighbors_orderly, thresholds_orderly, waiting_orderly, accepted_active_set, length-after}
+use Rattle.pilot_sets.proofs.Orders.{handed_off_orderly, measured_orderly, handed_off-waiting}
 
 -- IN ORDER
 directed_orderly : (first : ℕ) (d : DirectionFields) (s : Standing) → IsDirection d →

@@ -1,4 +1,3 @@
--- The modules of lemmas of `pilot_sets`.
 pub mod ActionTimes
 pub mod Common
 pub mod Firsts

@@ -1,13 +1,13 @@
 -- What keeps the sets in order.
-use Rattle.pilot_sets.proofs.Common.{◌≡◌, ◌<◌, ◌≤◌, ◌+◌, ◌-◌, ℕ, Bool, true, false, not, cond, List, [], ◌∷◌, ◌++◌, length, map, filter}
-use Rattle.pilot_sets.proofs.Common.{nat_eq, nat_lt, Some, None, refl, ap, sym, ◌∙◌, subst, arith, length-map, map-append, ltb-false}
-use Rattle.pilot_sets.proofs.Common.{All-nil, All-cons, All, has, lacks, without, firsts, active_pilots, candidate_pilots, timed_pilots}
-use Rattle.pilot_sets.proofs.Common.{pilots, pilots_of_actives, pilots_of_candidates, new_sets, neighbors_heard, thresholds_heard}
-use Rattle.pilot_sets.proofs.Common.{IsDirection, direction_fault, named_pilots, accepted_of, is_expired, pilots_named, actives_without}
-use Rattle.pilot_sets.proofs.Common.{next_subchannel, actives_after, fresh, left, all_left, cleared, handed_off, active_timed}
-use Rattle.pilot_sets.proofs.Common.{candidate_timed, timed, goes, stays, pilots_going, expired_moved, rises, rising, risen, measured}
-use Rattle.pilot_sets.proofs.Common.{times_listed, times_in, places_for, IsOnceEach, IsActiveSet, IsActiveSetIfAny, IsOrderly}
-use Rattle.pilot_sets.proofs.Common.{DirectionFields, Thresholds, ActivePilot, CandidatePilot, NamedPilot, Accepted, PilotSets}
+use Rattle.pilot_sets.proofs.Common.{◌≡◌, ◌<◌, ◌≤◌, ◌+◌, ◌-◌, ℕ, Bool, true, false, not, cond, List, [], ◌∷◌, ◌++◌, length, map, filter, ap}
+use Rattle.pilot_sets.proofs.Common.{nat_eq, nat_lt, Some, None, refl, sym, ◌∙◌, subst, arith, length-map, map-append, ltb-false, All-nil}
+use Rattle.pilot_sets.proofs.Common.{All-cons, All, has, lacks, without, firsts, active_pilots, candidate_pilots, timed_pilots, pilots}
+use Rattle.pilot_sets.proofs.Common.{pilots_of_actives, pilots_of_candidates, new_sets, neighbors_heard, thresholds_heard, IsDirection}
+use Rattle.pilot_sets.proofs.Common.{direction_fault, named_pilots, accepted_of, is_expired, pilots_named, actives_without, next_subchannel}
+use Rattle.pilot_sets.proofs.Common.{actives_after, fresh, left, all_left, cleared, handed_off, active_timed, candidate_timed, timed, goes}
+use Rattle.pilot_sets.proofs.Common.{stays, pilots_going, expired_moved, rises, rising, risen, measured, times_listed, times_in, places_for}
+use Rattle.pilot_sets.proofs.Common.{IsOnceEach, IsActiveSet, IsActiveSetIfAny, IsOrderly, DirectionFields, Thresholds, ActivePilot}
+use Rattle.pilot_sets.proofs.Common.{CandidatePilot, NamedPilot, Accepted, PilotSets}
 use Rattle.pilot_sets.proofs.Refusals.{accepted_few, accepted_known, accepted_once}
 use Rattle.pilot_sets.proofs.Steps.{left_is}
 use Rattle.pilot_sets.proofs.Rows.{one_row, named_rows, rows_after, timed_rows}

@@ -1,6 +1,6 @@
 -- Ratios are at most 1, and there is none after the end of their table.
-use Rattle.pilot_sets.proofs.Common.{◌≡◌, ◌<◌, ◌≤◌, ℕ, Bool, true, false, nat_le, refl, sym, ◌∙◌, leb-true, get_or_past, list_all_at}
-use Rattle.pilot_sets.proofs.Common.{list_all, ratio, ratios}
+use Rattle.pilot_sets.proofs.Common.{◌≡◌, ◌<◌, ◌≤◌, ℕ, Bool, true, false, nat_le, refl, sym, ◌∙◌, leb-true, get_or_past, list_all_at, ratio}
+use Rattle.pilot_sets.proofs.Common.{list_all, ratios}
 
 pub no_ratio : (k : ℕ) → 64 ≤ k → 0 ≡ ratio k
 no_ratio k h = sym (get_or_past ratios k 0 h)

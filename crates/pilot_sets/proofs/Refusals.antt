@@ -1,7 +1,7 @@
 -- Why a direction is refused, case by case.
 use Rattle.pilot_sets.proofs.Common.{◌≡◌, ◌<◌, ◌≤◌, ℕ, Bool, true, false, List, [], length, Option, Some, None, nat_lt, refl, sym, ◌∙◌}
-use Rattle.pilot_sets.proofs.Common.{arith, lt-ltb, ltb-true, ltb-false, find, is_unknown_row, first_repeated, direction_fault_of}
-use Rattle.pilot_sets.proofs.Common.{unknown_or_twice, TooMany, Unknown}
+use Rattle.pilot_sets.proofs.Common.{arith, lt-ltb, ltb-true, ltb-false, find, is_unknown_row, first_repeated, direction_fault_of, TooMany}
+use Rattle.pilot_sets.proofs.Common.{unknown_or_twice, Unknown}
 
 pub some_none : {X : Type 0} {x : X} → Some x ≡ None → ⊥
 some_none e = cc

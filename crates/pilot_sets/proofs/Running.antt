@@ -1,12 +1,11 @@
 -- Which timers run after a call.
-use Rattle.pilot_sets.proofs.Common.{◌≡◌, ℕ, Bool, true, false, cond, if◌then◌else◌, ◌||◌, ◌⊎◌, ⊎_elim, inl, inr, List, [], ◌∷◌, ◌++◌, map}
-use Rattle.pilot_sets.proofs.Common.{filter, nat_eq, Option, Some, None, unwrap_or, refl, ap, sym, ◌∙◌, eqb-true, map-append, subst, eq-eqb}
-use Rattle.pilot_sets.proofs.Common.{list_any-append, has, lacks, active_pilots, candidate_pilots, timed_pilots, is_strong, timer_after}
-use Rattle.pilot_sets.proofs.Common.{pilots_named, actives_without, timer_of, next_subchannel, actives_after, fresh, left, all_left}
-use Rattle.pilot_sets.proofs.Common.{cleared, handed_off, energy_in, active_timed, candidate_timed, timed, stays, dropped, moving_up}
-use Rattle.pilot_sets.proofs.Common.{measured, Standing, began_in, due_for, Call, after_call, active_timers, candidate_timers, IsAmong}
-use Rattle.pilot_sets.proofs.Common.{RunsSince, Starts, Parameters, Neighbors, Direct, Due, Step, ActivePilot, CandidatePilot, NamedPilot}
-use Rattle.pilot_sets.proofs.Common.{Accepted, PilotSets}
+use Rattle.pilot_sets.proofs.Common.{candidate_pilots, candidate_timers, list_any-append, actives_without, next_subchannel, candidate_timed}
+use Rattle.pilot_sets.proofs.Common.{CandidatePilot, if◌then◌else◌, active_pilots, actives_after, active_timers, timed_pilots, pilots_named}
+use Rattle.pilot_sets.proofs.Common.{active_timed, timer_after, ActivePilot, map-append, handed_off, after_call, Parameters, NamedPilot, []}
+use Rattle.pilot_sets.proofs.Common.{unwrap_or, is_strong, energy_in, moving_up, RunsSince, Neighbors, PilotSets, eqb-true, timer_of, false}
+use Rattle.pilot_sets.proofs.Common.{all_left, measured, Standing, began_in, Accepted, cleared, dropped, due_for, IsAmong, ⊎_elim, filter}
+use Rattle.pilot_sets.proofs.Common.{nat_eq, Option, eq-eqb, Starts, Direct, subst, lacks, fresh, timed, stays, Bool, true, cond, ◌||◌, ◌≡◌}
+use Rattle.pilot_sets.proofs.Common.{List, ◌++◌, Some, None, refl, left, Call, Step, ◌⊎◌, inl, inr, ◌∷◌, map, sym, ◌∙◌, has, Due, ap, ℕ}
 use Rattle.pilot_sets.proofs.Refusals.{some_none}
 use Rattle.pilot_sets.proofs.Steps.{left_is, due_is, directed_is}
 

@@ -1,8 +1,8 @@
 -- What holds after a step of the sets, where it holds of each thing that the step may come to.
 use Rattle.pilot_sets.proofs.Common.{◌≡◌, ℕ, ◌<◌, Bool, true, false, not, ◌&&◌, ◌==◌, if◌then◌else◌, [], ◌∷◌, ◌++◌, length, nat_lt, Option}
-use Rattle.pilot_sets.proofs.Common.{Some, None, refl, ltb-true, DirectionFields, DirectionFault, ActivePilot, Accepted, PilotSets}
-use Rattle.pilot_sets.proofs.Common.{direction_fault, accepted_of, is_expired, fresh, left, handed_off, Standing, unless_refused}
-use Rattle.pilot_sets.proofs.Common.{directed, began_in, due_for}
+use Rattle.pilot_sets.proofs.Common.{Some, None, refl, ltb-true, DirectionFields, DirectionFault, ActivePilot, Accepted, PilotSets, fresh}
+use Rattle.pilot_sets.proofs.Common.{direction_fault, accepted_of, is_expired, left, handed_off, Standing, unless_refused, directed}
+use Rattle.pilot_sets.proofs.Common.{began_in, due_for}
 
 -- a pilot that leaves the active set becomes a candidate or a neighbor, or is in no set
 pub left_is : (P : PilotSets → Type 0) (time : ℕ) (a : ActivePilot) (s : PilotSets) →

@@ -1,13 +1,10 @@
 -- A handoff direction: when it is refused, and when it takes effect (after TIA/EIA-95-B, 6.6.6.2).
-use Rattle.std.specs.Prelude.{ℕ, ◌+◌, ◌-◌, ◌%◌, ◌<◌, ◌≤◌, ◌≡◌, Bool, if◌then◌else◌, ◌||◌, ◌==◌}
-use Rattle.std.specs.Prelude.{List, [], ◌∷◌, length, nat_lt, Option, Some, None}
+use Rattle.pilot_sets.specs.Common.{DirectionFields, DirectionFault, TooMany, Unknown, Twice}
+use Rattle.pilot_sets.specs.Common.{NamedPilot, Accepted}
+use Rattle.std.specs.Prelude.{ℕ, ◌+◌, ◌-◌, ◌%◌, ◌<◌, ◌≤◌, ◌≡◌, Bool, if◌then◌else◌, ◌||◌, ◌==◌, []}
+use Rattle.std.specs.Prelude.{List, ◌∷◌, length, nat_lt, Option, Some, None}
 use Rattle.std.specs.List.{find, All}
 use Rattle.pilot_sets.specs.Pilots.{has}
-use Rattle.traffic_message.specs.declared.fields.DirectionFields.{DirectionFields}
-use Rattle.pilot_sets.specs.declared.fault.DirectionFault.{DirectionFault}
-use Rattle.pilot_sets.specs.declared.fault.DirectionFault.TheVariants.{TooMany, Unknown, Twice}
-use Rattle.pilot_sets.specs.declared.standing.NamedPilot.{NamedPilot}
-use Rattle.pilot_sets.specs.declared.standing.Accepted.{Accepted}
 
 -- a direction that names a pilot, and whose fields fit their widths
 pub record IsDirection (d : DirectionFields) : Type 0 where

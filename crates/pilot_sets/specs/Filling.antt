@@ -1,6 +1,6 @@
 -- What the model of a short list rests on: the array can be made again from the things it holds.
-use Rattle.std.proofs.Common.{◌≡◌, ◌<◌, ℕ, ◌+◌, ◌-◌, List, ◌++◌, take, drop, length, replicate}
-use Rattle.std.proofs.Common.{slice_set, sym, ap, ◌∙◌, arith}
+use Rattle.std.proofs.Common.{◌≡◌, ◌<◌, ℕ, ◌+◌, ◌-◌, List, ◌++◌, take, drop, length, replicate, sym}
+use Rattle.std.proofs.Common.{slice_set, ap, ◌∙◌, arith}
 use Rattle.std.proofs.lemmas.List.{length-take, length-set, take-append-drop, drop-set-lt}
 use Rattle.std.proofs.lemmas.List.{drop-drop, drop-replicate}
 use Rattle.pilot_sets.specs.Filled.{filled, IsFilled}

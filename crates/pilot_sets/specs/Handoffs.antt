@@ -1,15 +1,11 @@
 -- The first thing of a moment: the direction for its time takes effect.
+use Rattle.pilot_sets.specs.Common.{Thresholds, ActivePilot, CandidatePilot, NamedPilot, Accepted}
+use Rattle.pilot_sets.specs.Common.{PilotSets}
 use Rattle.std.specs.Prelude.{ℕ, ◌+◌, Bool, false, cond, not, if◌then◌else◌, ◌&&◌, ◌==◌, List, []}
 use Rattle.std.specs.Prelude.{◌∷◌, ◌++◌, length, map, filter, nat_lt, Option, Some, None}
 use Rattle.pilot_sets.specs.Pilots.{lacks, without}
 use Rattle.pilot_sets.specs.Timers.{is_expired}
 use Rattle.traffic_message.specs.declared.fields.Search.{Search}
-use Rattle.pilot_sets.specs.declared.thresholds.Thresholds.{Thresholds}
-use Rattle.pilot_sets.specs.declared.standing.ActivePilot.{ActivePilot}
-use Rattle.pilot_sets.specs.declared.standing.CandidatePilot.{CandidatePilot}
-use Rattle.pilot_sets.specs.declared.standing.NamedPilot.{NamedPilot}
-use Rattle.pilot_sets.specs.declared.standing.Accepted.{Accepted}
-use Rattle.pilot_sets.specs.declared.standing.PilotSets.{PilotSets}
 
 -- whether a direction waits for this time
 abbrev pub is_for : ℕ → Option Accepted → Bool

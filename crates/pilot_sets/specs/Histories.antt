@@ -1,4 +1,6 @@
 -- What happens to the sets, call by call.
+use Rattle.pilot_sets.specs.Common.{DirectionFields, DirectionFault, Thresholds, Accepted}
+use Rattle.pilot_sets.specs.Common.{ActivePilot, CandidatePilot, PilotSets}
 use Rattle.std.specs.Prelude.{ℕ, ◌≡◌, ◌≢◌, ◌≤◌, ◌<◌, ◌%◌, ◌⊎◌, List, [], ◌∷◌, ◌++◌, length, map}
 use Rattle.std.specs.Prelude.{Option, Some}
 use Rattle.std.specs.List.{All}
@@ -6,14 +8,7 @@ use Rattle.pilot_sets.specs.Directions.{IsDirection, direction_fault}
 use Rattle.pilot_sets.specs.Orderly.{times_in}
 use Rattle.pilot_sets.specs.Standing.{Standing, with_thresholds, with_neighbors, directed, due_at}
 use Rattle.pilot_sets.specs.Standing.{stepped}
-use Rattle.traffic_message.specs.declared.fields.DirectionFields.{DirectionFields}
-use Rattle.pilot_sets.specs.declared.fault.DirectionFault.{DirectionFault}
 use Rattle.pilot_sets.specs.declared.strengths.Strength.{Strength}
-use Rattle.pilot_sets.specs.declared.thresholds.Thresholds.{Thresholds}
-use Rattle.pilot_sets.specs.declared.standing.Accepted.{Accepted}
-use Rattle.pilot_sets.specs.declared.standing.ActivePilot.{ActivePilot}
-use Rattle.pilot_sets.specs.declared.standing.CandidatePilot.{CandidatePilot}
-use Rattle.pilot_sets.specs.declared.standing.PilotSets.{PilotSets}
 
 pub data Call : Type 0 where
   Parameters : (t : Thresholds) → Call

@@ -1,4 +1,4 @@
--- The modules of definitions of `pilot_sets`.
+pub mod Common
 pub mod Directions
 pub mod Filled
 pub mod Filling

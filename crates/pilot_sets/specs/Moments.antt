@@ -1,5 +1,6 @@
 -- The other things of a moment: timers start, stop and run out, pilots move between the candidates
 -- and the neighbors, and a report may be due.
+use Rattle.pilot_sets.specs.Common.{Thresholds, ActivePilot, CandidatePilot, PilotSets}
 use Rattle.std.specs.Prelude.{ℕ, ◌-◌, ◌*◌, Bool, not, ◌&&◌, ◌||◌, ◌==◌, if◌then◌else◌, List, []}
 use Rattle.std.specs.Prelude.{◌∷◌, ◌++◌, length, map, filter, take, nat_lt}
 use Rattle.std.specs.List.{list_any}
@@ -8,11 +9,7 @@ use Rattle.pilot_sets.specs.Pilots.{has, without}
 use Rattle.pilot_sets.specs.PilotSets.{active_pilots, candidate_pilots, pilots_of_candidates}
 use Rattle.pilot_sets.specs.Timers.{is_strong, is_expired, timer_after}
 use Rattle.pilot_sets.specs.Handoffs.{fresh}
-use Rattle.pilot_sets.specs.declared.thresholds.Thresholds.{Thresholds}
 use Rattle.pilot_sets.specs.declared.strengths.Strength.{Strength}
-use Rattle.pilot_sets.specs.declared.standing.ActivePilot.{ActivePilot}
-use Rattle.pilot_sets.specs.declared.standing.CandidatePilot.{CandidatePilot}
-use Rattle.pilot_sets.specs.declared.standing.PilotSets.{PilotSets}
 
 -- THE STRENGTHS
 -- the energy of a pilot: that of its first strength, or 0 where it has none

@@ -1,14 +1,11 @@
 -- Sets in order: no pilot is in two sets or in one twice, each is an offset below 512, some pilot
 -- is active, and the direction that waits orders such an active set.
+use Rattle.pilot_sets.specs.Common.{ActivePilot, NamedPilot, Accepted, PilotSets}
 use Rattle.std.specs.Prelude.{ℕ, ℤ, ◌+◌, ◌<◌, ◌≤◌, ◌≡◌, cond, List, [], ◌∷◌, length, nat_eq, nat_lt}
 use Rattle.std.specs.Prelude.{Option, Some, None}
 use Rattle.std.specs.List.{All}
 use Rattle.pilot_sets.specs.PilotSets.{active_pilots, candidate_pilots}
 use Rattle.pilot_sets.specs.Handoffs.{pilots_named}
-use Rattle.pilot_sets.specs.declared.standing.ActivePilot.{ActivePilot}
-use Rattle.pilot_sets.specs.declared.standing.NamedPilot.{NamedPilot}
-use Rattle.pilot_sets.specs.declared.standing.Accepted.{Accepted}
-use Rattle.pilot_sets.specs.declared.standing.PilotSets.{PilotSets}
 
 -- how often a pilot stands in a list
 abbrev pub times_listed : ℕ → List ℕ → ℕ

@@ -1,11 +1,8 @@
 -- The pilot sets of a handset (after TIA/EIA-95-B, 6.6.6.2), on whole lists, and how they change
 -- between moments.
+use Rattle.pilot_sets.specs.Common.{Thresholds, ActivePilot, CandidatePilot, PilotSets}
 use Rattle.std.specs.Prelude.{ℕ, List, [], ◌∷◌, ◌++◌, map, take, None}
 use Rattle.pilot_sets.specs.Pilots.{firsts, without}
-use Rattle.pilot_sets.specs.declared.thresholds.Thresholds.{Thresholds}
-use Rattle.pilot_sets.specs.declared.standing.ActivePilot.{ActivePilot}
-use Rattle.pilot_sets.specs.declared.standing.CandidatePilot.{CandidatePilot}
-use Rattle.pilot_sets.specs.declared.standing.PilotSets.{PilotSets}
 
 abbrev pub pilots_of_actives : List ActivePilot → List ℕ
 pilots_of_actives actives = map (λ (a : ActivePilot). a.pilot) actives

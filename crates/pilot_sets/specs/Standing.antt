@@ -1,4 +1,6 @@
 -- What the sets keep, and how each call changes it.
+use Rattle.pilot_sets.specs.Common.{DirectionFields, DirectionFault, Thresholds, SetChange}
+use Rattle.pilot_sets.specs.Common.{Accepted, ActivePilot, PilotSets}
 use Rattle.std.specs.Prelude.{ℕ, ℤ, pos, Bool, not, if◌then◌else◌, ◌&&◌, ◌==◌, List, [], ◌∷◌, map}
 use Rattle.std.specs.Prelude.{nat_eq, replicate, slice_set, Option, Some, None, unwrap_or}
 use Rattle.std.specs.Cmp.Lexicographic.{pointwise}
@@ -8,15 +10,8 @@ use Rattle.pilot_sets.specs.PilotSets.{pilots_of_candidates, candidate_pilots}
 use Rattle.pilot_sets.specs.Directions.{direction_fault, accepted_of}
 use Rattle.pilot_sets.specs.Handoffs.{handed_off}
 use Rattle.pilot_sets.specs.Moments.{energy_in, measured, is_reported}
-use Rattle.traffic_message.specs.declared.fields.DirectionFields.{DirectionFields}
-use Rattle.pilot_sets.specs.declared.fault.DirectionFault.{DirectionFault}
 use Rattle.pilot_sets.specs.declared.lists.Active.{Active}
 use Rattle.pilot_sets.specs.declared.strengths.Strength.{Strength}
-use Rattle.pilot_sets.specs.declared.thresholds.Thresholds.{Thresholds}
-use Rattle.pilot_sets.specs.declared.change.SetChange.{SetChange}
-use Rattle.pilot_sets.specs.declared.standing.Accepted.{Accepted}
-use Rattle.pilot_sets.specs.declared.standing.ActivePilot.{ActivePilot}
-use Rattle.pilot_sets.specs.declared.standing.PilotSets.{PilotSets}
 use Rattle.pilot_sets.specs.declared.standing.Began.{Began}
 
 -- the sets; the lists when the moment began, where a direction took effect since the last step; and

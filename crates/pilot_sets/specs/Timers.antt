@@ -1,8 +1,8 @@
 -- Which pilots are strong, and which timers run out (after TIA/EIA-95-B, 6.6.6.2).
+use Rattle.pilot_sets.specs.Common.{Thresholds}
 use Rattle.std.specs.Prelude.{ℕ, ◌-◌, ◌*◌, Bool, false, cond, ◌&&◌, nat_lt, nat_le, Option, Some}
 use Rattle.std.specs.Prelude.{None, unwrap_or}
 use Rattle.pilot_sets.specs.Tables.{drop_timer_ms, ratio}
-use Rattle.pilot_sets.specs.declared.thresholds.Thresholds.{Thresholds}
 
 -- a pilot of this energy is strong for a threshold, where the samples have this power
 abbrev pub is_strong : ℕ → ℕ → ℕ → Bool

@@ -1,20 +1,16 @@
 -- Worked values of the pilot sets.
+use Rattle.pilot_sets.specs.Common.{DirectionFields, SetChange, TooMany, Unknown, Twice, PilotSets}
+use Rattle.pilot_sets.specs.Common.{ActivePilot, Thresholds}
 use Rattle.std.specs.Prelude.{◌≡◌, refl, ℕ, Bool, true, false, List, [], ◌∷◌, ◌++◌, length, map}
 use Rattle.std.specs.Prelude.{pos, Option, Some, None}
 use Rattle.std.specs.List.{range_with_len}
-use Rattle.traffic_message.specs.declared.fields.DirectionFields.{DirectionFields}
 use Rattle.pilot_sets.specs.PilotSets.{first_thresholds, candidate_pilots}
 use Rattle.pilot_sets.specs.Handoffs.{fresh, left}
 use Rattle.pilot_sets.specs.Directions.{direction_fault, direction_time}
 use Rattle.pilot_sets.specs.Standing.{Standing, new_standing, stepped, change_at}
 use Rattle.pilot_sets.specs.Histories.{Call, after_call, after_all, timers}
 use Rattle.pilot_sets.specs.Histories.Call.{Parameters, Neighbors, Direct, Due, Step}
-use Rattle.pilot_sets.specs.declared.change.SetChange.{SetChange}
-use Rattle.pilot_sets.specs.declared.fault.DirectionFault.TheVariants.{TooMany, Unknown, Twice}
-use Rattle.pilot_sets.specs.declared.standing.ActivePilot.{ActivePilot}
-use Rattle.pilot_sets.specs.declared.standing.PilotSets.{PilotSets}
 use Rattle.pilot_sets.specs.declared.strengths.Strength.{Strength}
-use Rattle.pilot_sets.specs.declared.thresholds.Thresholds.{Thresholds}
 
 strength : ℕ → ℕ → Strength
 strength pilot energy = record { pilot = pilot; energy = energy; delta = pos 0 }

@@ -3,9 +3,9 @@
 ghost use Rattle.std.specs.Prelude.{◌≡◌, ◌<◌, ◌≤◌, ◌^◌, ◌+◌, [], length};
 ghost use Rattle.std.specs.List.{All, find};
 ghost use Rattle.pilot_sets.specs.Directions.{IsDirection, is_unknown_row, first_repeated};
-ghost use Rattle.pilot_sets.specs.Directions.{direction_fault as fault_of_direction};
+ghost use Rattle.pilot_sets.specs.Directions.{direction_fault as fault_of_direction, accepted_of};
 ghost use Rattle.pilot_sets.specs.Directions.{direction_time as time_of_direction};
-ghost use Rattle.pilot_sets.specs.Directions.{named_pilots as pilots_named, accepted_of};
+ghost use Rattle.pilot_sets.specs.Directions.{named_pilots as pilots_named};
 
 use crate::fault::DirectionFault;
 use crate::few::Few;

@@ -1,13 +1,12 @@
 //! The first thing of a moment: a handoff direction takes effect.
 
 ghost use Rattle.std.specs.Prelude.{◌≡◌, ◌<◌, ◌≤◌, ◌^◌, ◌+◌, length};
-ghost use Rattle.pilot_sets.specs.Handoffs.{with_search as with_search_by, pilots_named};
-ghost use Rattle.pilot_sets.specs.Handoffs.{candidates_without as candidates_left};
-ghost use Rattle.pilot_sets.specs.Handoffs.{actives_without as actives_left};
+ghost use Rattle.pilot_sets.specs.Handoffs.{with_search as with_search_by, pilots_named, left};
+ghost use Rattle.pilot_sets.specs.Handoffs.{candidates_without as candidates_left, all_left};
+ghost use Rattle.pilot_sets.specs.Handoffs.{actives_without as actives_left, handed_off};
 ghost use Rattle.pilot_sets.specs.Handoffs.{timer_of as timer_among, active_of as active_by};
 ghost use Rattle.pilot_sets.specs.Handoffs.{subchannel_after as defined_subchannel_after};
 ghost use Rattle.pilot_sets.specs.Handoffs.{actives_after as actives_by, fresh as fresh_candidate};
-ghost use Rattle.pilot_sets.specs.Handoffs.{left, all_left, handed_off};
 
 use crate::few::Few;
 use crate::pilots::{has, without};

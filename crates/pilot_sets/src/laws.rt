@@ -1,10 +1,9 @@
 //! Laws of the definitions: each function does nothing, and its contract is the law.
 
+ghost use Rattle.pilot_sets.specs.Common.{DirectionFault as TheFault, Accepted as TheAccepted};
+ghost use Rattle.pilot_sets.specs.Common.{PilotSets as TheSets};
 ghost use Rattle.std.specs.Prelude.{◌≡◌, ◌≢◌, ◌<◌, ◌+◌, ◌⊎◌, ℕ, List, Some, None, true};
 ghost use Rattle.std.specs.List.{All};
-ghost use Rattle.traffic_message.specs.declared.fields.DirectionFields.{
-  DirectionFields as TheDirection,
-};
 ghost use Rattle.pilot_sets.specs.Pilots.{has};
 ghost use Rattle.pilot_sets.specs.PilotSets.{timed_pilots};
 ghost use Rattle.pilot_sets.specs.Directions.{direction_fault, direction_time, accepted_of};
@@ -12,9 +11,9 @@ ghost use Rattle.pilot_sets.specs.Handoffs.{handed_off};
 ghost use Rattle.pilot_sets.specs.Standing.{Standing, new_standing, directed, due_at, began_in};
 ghost use Rattle.pilot_sets.specs.Histories.{Call, after_call, after_all, IsLawfulCall, AreApart};
 ghost use Rattle.pilot_sets.specs.Histories.{LeavesWaiting, IsNextAt, RunsSince, Starts};
-ghost use Rattle.pilot_sets.specs.declared.fault.DirectionFault.{DirectionFault as TheFault};
-ghost use Rattle.pilot_sets.specs.declared.standing.Accepted.{Accepted as TheAccepted};
-ghost use Rattle.pilot_sets.specs.declared.standing.PilotSets.{PilotSets as TheSets};
+ghost use Rattle.traffic_message.specs.declared.fields.DirectionFields.{
+  DirectionFields as TheDirection,
+};
 
 /// Whatever is called of new sets, in any order and however often: no pilot is in two sets or in
 /// one twice, some pilot is active, and no list is longer than its limit.

@@ -1,13 +1,12 @@
 //! The fourth thing of a moment: whether a report is due.
 
+ghost use Rattle.pilot_sets.specs.Common.{ActivePilot as TheActive};
 ghost use Rattle.std.specs.Prelude.{◌≡◌, ◌<◌, ◌^◌};
 ghost use Rattle.std.specs.List.{list_any};
 ghost use Rattle.pilot_sets.specs.Timers.{is_expired as is_expired_by};
 ghost use Rattle.pilot_sets.specs.Moments.{energy_in, is_above as is_above_by};
-ghost use Rattle.pilot_sets.specs.Moments.{has_above as has_above_by};
+ghost use Rattle.pilot_sets.specs.Moments.{has_above as has_above_by, is_report_due as is_due_by};
 ghost use Rattle.pilot_sets.specs.Moments.{has_expired as has_expired_by};
-ghost use Rattle.pilot_sets.specs.Moments.{is_report_due as is_due_by};
-ghost use Rattle.pilot_sets.specs.declared.standing.ActivePilot.{ActivePilot as TheActive};
 
 use crate::pilots::{active_pilots, candidate_pilots};
 use crate::standing::{ActivePilot, PilotSets};

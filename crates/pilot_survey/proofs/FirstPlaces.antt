@@ -1,12 +1,10 @@
 -- Numbers in falling order of what a function gives: its first places.
-use Rattle.std.proofs.Common.{◌≡◌, ℕ, zero, suc, ◌<◌, ◌≤◌, ◌⊎◌, inl, inr, ⊎_elim, true, false, List, length, get_or, take, sym, ap, ◌∙◌}
-use Rattle.std.proofs.Common.{subst, arith, pos, ◌<ℤ◌, ◌≤ℤ◌, add-one, nat_eq}
-use Rattle.std.specs.List.{list_any, Contains}
+use Rattle.pilot_survey.proofs.Common.{◌≡◌, ℕ, zero, suc, ◌<◌, ◌≤◌, ◌⊎◌, inl, inr, ⊎_elim, true, false, List, length, get_or, take, sym, ap}
+use Rattle.pilot_survey.proofs.Common.{◌∙◌, subst, arith, pos, ◌<ℤ◌, ◌≤ℤ◌, add-one, nat_eq, list_any, Contains, get_or_default, get_or-take}
+use Rattle.pilot_survey.proofs.Common.{length-take-le, take_more, take_all, first_places}
 use Rattle.std.proofs.lemmas.Int.{ints}
 use Rattle.std.proofs.lemmas.Bool.{cases_order, eq-eqb, ne_eqb}
-use Rattle.std.proofs.lemmas.List.{get_or_default, get_or-take, length-take-le, take_more, take_all}
 use Rattle.std.proofs.lemmas.List.Folds.{list_any_none, list_any_at}
-use Rattle.chip_core.specs.Sums.{first_places}
 use Rattle.chip_core.proofs.Unless.{IsGreatestUnless, first_places-none, first_places-more, free_taken}
 
 -- one number comes before another: by greater value, then as the lesser one

@@ -1,4 +1,4 @@
--- The modules of lemmas of `pilot_survey`.
+pub mod Common
 pub mod FirstPlaces
 pub mod Orders
 pub mod Parts

@@ -1,20 +1,13 @@
 -- Ranks in order: a sorted list of all pilots' ranks is a ranking.
-use Rattle.std.proofs.Common.{◌≡◌, ◌≢◌, ℕ, zero, suc, ◌+◌, ◌-◌, ◌<◌, ◌≤◌, ◌⊎◌, inl, inr, ⊎_elim, false, List, length, get_or, map, sym, ap}
-use Rattle.std.proofs.Common.{◌∙◌, arith, nat_eq}
-use Rattle.std.specs.List.{IsDistinct, range_with_len}
-use Rattle.std.specs.List.Sorted.{IsPermutation}
+use Rattle.pilot_survey.proofs.Common.{◌≡◌, ◌≢◌, ℕ, zero, suc, ◌+◌, ◌-◌, ◌<◌, ◌≤◌, ◌⊎◌, inl, inr, ⊎_elim, false, List, length, get_or, map}
+use Rattle.pilot_survey.proofs.Common.{sym, ap, ◌∙◌, arith, nat_eq, IsDistinct, range_with_len, IsPermutation, nat_tests, get_or-map, Rank}
+use Rattle.pilot_survey.proofs.Common.{length-map, Sample, ComesBefore, AreInOrder, IsRanking, surveyed}
 use Rattle.std.specs.Ordering.{is_lt, ordering_then, nat_cmp}
 use Rattle.std.proofs.lemmas.Bool.{ne_eqb, eqb-false}
-use Rattle.std.proofs.lemmas.Bool.Decides.{nat_tests}
-use Rattle.std.proofs.lemmas.List.{get_or-map, length-map}
 use Rattle.std.proofs.lemmas.List.FromFn.{length-map-range_with_len, get_or-map-range_with_len}
 use Rattle.std.proofs.lemmas.List.Sorted.{IsPermutation-map, length_permutation, All-permutation, Contains-permutation}
 use Rattle.std.proofs.lemmas.Map.Keys.{IsDistinct-from_apart, IsDistinct-IsPermutation, apart_from_distinct}
 use Rattle.chip_core.proofs.Finds.{nat_eq-flipped}
-use Rattle.chip_core.specs.declared.sample.Sample.{Sample}
-use Rattle.pilot_survey.specs.Ranking.{ComesBefore, AreInOrder, IsRanking}
-use Rattle.pilot_survey.specs.Survey.{surveyed}
-use Rattle.pilot_survey.specs.declared.rank.Rank.{Rank}
 use Rattle.pilot_survey.proofs.Ranked.{pilot_of, named}
 use Rattle.pilot_survey.proofs.Strength.{surveyed_pilot}
 

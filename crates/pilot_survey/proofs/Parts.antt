@@ -1,10 +1,8 @@
 -- The pilots of a worker, one by one, and those of two workers.
-use Rattle.std.proofs.Common.{◌≡◌, ℕ, zero, suc, ◌+◌, ◌<◌, List, ◌∷◌, ◌++◌, length, get_or, map, take, refl, ap, ap₂, ◌∙◌, sym, arith}
-use Rattle.std.specs.List.{range_with_len}
-use Rattle.std.proofs.lemmas.List.{same_lists, take_at}
+use Rattle.pilot_survey.proofs.Common.{◌≡◌, ℕ, zero, suc, ◌+◌, ◌<◌, List, ◌∷◌, ◌++◌, length, get_or, map, take, refl, ap, ap₂, ◌∙◌, sym}
+use Rattle.pilot_survey.proofs.Common.{arith, range_with_len, same_lists, take_at, survey_start}
 use Rattle.std.proofs.lemmas.List.FromFn.{length-map-range_with_len, get_or-map-range_with_len}
 use Rattle.std.proofs.Math.Nat.{div-le_self, mul-div_cancel}
-use Rattle.pilot_survey.specs.Survey.{survey_start}
 
 -- a list is the one that a function makes, by its entries
 pub filled : {X : Type 0} (f : ℕ → X) (first n : ℕ) (xs : List X) → length xs ≡ n →

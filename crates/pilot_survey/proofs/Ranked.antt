@@ -1,10 +1,6 @@
 -- A ranking is the definition's.
-use Rattle.std.proofs.Common.{◌≡◌, ℕ, ◌<◌, inl, inr, ⊎_elim, List, length, get_or, map, sym, ap, ◌∙◌, subst, arith, pos}
-use Rattle.std.proofs.lemmas.List.{get_or-map, get_or_default, length-map, same_lists}
-use Rattle.chip_core.specs.declared.sample.Sample.{Sample}
-use Rattle.pilot_survey.specs.Ranking.{ComesBefore, IsRanking}
-use Rattle.pilot_survey.specs.Survey.{surveyed, ranking}
-use Rattle.pilot_survey.specs.declared.rank.Rank.{Rank}
+use Rattle.pilot_survey.proofs.Common.{◌≡◌, ℕ, ◌<◌, inl, inr, ⊎_elim, List, length, get_or, map, sym, ap, ◌∙◌, subst, arith, pos, Sample}
+use Rattle.pilot_survey.proofs.Common.{get_or-map, get_or_default, length-map, same_lists, ComesBefore, IsRanking, surveyed, ranking, Rank}
 use Rattle.pilot_survey.proofs.FirstPlaces.{Leads, IsOrdering, ordering_only}
 use Rattle.pilot_survey.proofs.Strength.{surveyed_pilot}
 

@@ -1,15 +1,10 @@
 -- There is a ranking: ranks can be sorted.
-use Rattle.std.proofs.Common.{◌≡◌, ℕ, zero, suc, ◌+◌, ◌<◌, ◌≤◌, ◌⊎◌, Bool, true, false, List, [], ◌∷◌, refl, arith, subst}
+use Rattle.pilot_survey.proofs.Common.{◌≡◌, ℕ, zero, suc, ◌+◌, ◌<◌, ◌≤◌, ◌⊎◌, Bool, true, false, List, [], ◌∷◌, refl, arith, subst, Sample}
+use Rattle.pilot_survey.proofs.Common.{IsPermutation, nat_tests, AreInOrder, IsRanking, ranking, Rank}
 use Rattle.std.specs.Prelude.{if◌then◌else◌, ⊤, All}
-use Rattle.std.specs.List.Sorted.{IsPermutation}
 use Rattle.std.specs.Ordering.{is_lt, ordering_then, nat_cmp}
-use Rattle.std.proofs.lemmas.Bool.Decides.{nat_tests}
 use Rattle.std.proofs.lemmas.List.Elements.{All-nil, All-cons, All-head, All-tail, All-weaker}
 use Rattle.std.proofs.lemmas.List.Sorted.{IsPermutation-refl, IsPermutation-cons, IsPermutation-swap, IsPermutation-trans}
-use Rattle.chip_core.specs.declared.sample.Sample.{Sample}
-use Rattle.pilot_survey.specs.Ranking.{AreInOrder, IsRanking}
-use Rattle.pilot_survey.specs.Survey.{ranking}
-use Rattle.pilot_survey.specs.declared.rank.Rank.{Rank}
 use Rattle.pilot_survey.proofs.Orders.{NotAfter, chained, neighbours, by_number, sorted_ranking}
 use Rattle.pilot_survey.proofs.Ranked.{ranking_only}
 

@@ -1,11 +1,7 @@
 -- How strong a pilot is.
-use Rattle.std.proofs.Common.{◌≡◌, ℕ, ◌+◌, ◌*◌, List, refl, ap, ℤ, pos, ◌-ℤ◌}
-use Rattle.chip_core.specs.Sums.{IsFirstGreatest}
-use Rattle.chip_core.specs.declared.sample.Sample.{Sample}
+use Rattle.pilot_survey.proofs.Common.{◌≡◌, ℕ, ◌+◌, ◌*◌, List, refl, ap, ℤ, pos, ◌-ℤ◌, IsFirstGreatest, Sample, energy, survey_phase, Rank}
+use Rattle.pilot_survey.proofs.Common.{strongest, surveyed}
 use Rattle.chip_core.proofs.Greatest.{only}
-use Rattle.pilot_search.specs.Search.{energy}
-use Rattle.pilot_survey.specs.Survey.{survey_phase, strongest, surveyed}
-use Rattle.pilot_survey.specs.declared.rank.Rank.{Rank}
 
 -- the rank of a pilot whose place of greatest energy is this one
 abbrev ranked : List Sample → ℕ → ℕ → ℕ → ℕ → Rank

@@ -1,4 +1,3 @@
--- The modules of definitions of `pilot_survey`.
 pub mod Ranking
 pub mod Survey
 pub mod Worked

@@ -1,17 +1,10 @@
 -- Capsules decoded as messages, whatever the messages are: what each exit of a decoder says.
-use Rattle.std.proofs.Common.{◌≡◌, ℕ, ◌+◌, ◌-◌, Bool, true, false, List, length, take, drop, refl, sym, ap, subst, ◌∙◌, arith, Option, Some}
-use Rattle.std.proofs.Common.{None, Result, Ok, Err, inl, inr}
-use Rattle.std.specs.Prelude.{IfOk, ok_or, ◌↔◌}
-use Rattle.std.proofs.lemmas.Bool.{cases_Bool}
-use Rattle.chip_core.proofs.BitLists.{same_from, same_refl}
-use Rattle.chip_core.specs.Bits.{are_same}
-use Rattle.chip_core.specs.declared.check_form.CheckForm.{CheckForm}
-use Rattle.quality_bits.specs.declared.kind.Kind.{Kind}
-use Rattle.quality_bits.specs.Kinds.{IsChecked, generator_of}
+use Rattle.quality_bits.proofs.Common.{◌≡◌, ℕ, ◌+◌, ◌-◌, Bool, true, false, List, length, take, drop, refl, sym, ap, subst, ◌∙◌, arith, Ok}
+use Rattle.quality_bits.proofs.Common.{Option, Some, None, Result, Err, inl, inr, IfOk, ok_or, ◌↔◌, cases_Bool, same_from, same_refl, Kind}
+use Rattle.quality_bits.proofs.Common.{are_same, CheckForm, IsChecked, generator_of, FillsCapsule, IsWhole, capsule, if_spelled}
 use Rattle.quality_bits.specs.declared.message_fault.MessageFault.{MessageFault}
 use Rattle.quality_bits.specs.declared.message_fault.MessageFault.TheVariants.{BadBody}
 use Rattle.quality_bits.specs.Faults.{reading_of}
-use Rattle.quality_bits.specs.Capsules.{FillsCapsule, IsWhole, capsule, if_spelled}
 use Rattle.quality_bits.proofs.Wholes.{checked-capsule, inner, inner-capsule, whole-capsule}
 
 -- messages that are spelled as bodies of capsules, and read of bodies and of capsules

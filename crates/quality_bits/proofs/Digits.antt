@@ -1,9 +1,7 @@
 -- Numbers and their digits: the low ones alone, and inversions.
-use Rattle.std.proofs.Common.{◌≡◌, ℕ, zero, suc, ◌+◌, ◌*◌, ◌%◌, ◌^◌, Bool, true, false, not, List, [], ◌∷◌, length, map, replicate, sym, ap}
-use Rattle.std.proofs.Common.{◌∙◌, arith}
-use Rattle.chip_core.specs.Bits.{number, number_from, binary}
+use Rattle.quality_bits.proofs.Common.{◌≡◌, ℕ, zero, suc, ◌+◌, ◌*◌, ◌%◌, ◌^◌, Bool, true, false, not, List, [], ◌∷◌, length, map, replicate}
+use Rattle.quality_bits.proofs.Common.{sym, ap, ◌∙◌, arith, number, number_from, binary, binary-low}
 use Rattle.chip_core.proofs.Numerals.{binary-number_from}
-use Rattle.chip_core.proofs.Digits.{binary-low}
 
 -- only the low w bits count
 pub binary-rest : (w n : ℕ) → binary w (n % 2 ^ w) ≡ binary w n

@@ -1,16 +1,9 @@
 -- Lists that end with their check.
-use Rattle.std.proofs.Common.{◌≡◌, ℕ, ◌<◌, Bool, not, List, [], ◌∷◌, ◌++◌, length, map, refl, sym, ap, ◌∙◌, arith, nat_eq, suc}
-use Rattle.std.proofs.Common.{length-append}
-use Rattle.std.specs.Prelude.{◌↔◌, IsTrue, Option, None, Some}
-use Rattle.std.proofs.lemmas.List.{take_at, drop_at}
-use Rattle.std.proofs.lemmas.Bool.{eqb-true, eq-eqb}
-use Rattle.chip_core.specs.Bits.{number}
-use Rattle.chip_core.specs.declared.check_form.CheckForm.{CheckForm}
+use Rattle.quality_bits.proofs.Common.{quality_indicator, quality_length, length-append, generator_of, body_length, check_bits, sent_check}
+use Rattle.quality_bits.proofs.Common.{CheckForm, IsChecked, eqb-true, take_at, drop_at, length, nat_eq, IsTrue, Option, eq-eqb, number, []}
+use Rattle.quality_bits.proofs.Common.{arith, Bool, List, ◌++◌, refl, None, Some, Kind, ◌≡◌, ◌<◌, not, ◌∷◌, map, sym, ◌∙◌, suc, ◌↔◌, ap, ℕ}
 use Rattle.chip_core.specs.declared.check_form.CheckForm.TheVariants.{Plain, Complemented}
-use Rattle.quality_bits.specs.declared.kind.Kind.{Kind}
 use Rattle.quality_bits.specs.declared.kind.Kind.TheVariants.{Q6, Q8, Q10, Q12, M16, M30}
-use Rattle.quality_bits.specs.Quality.{check_bits}
-use Rattle.quality_bits.specs.Kinds.{generator_of, sent_check, body_length, IsChecked, quality_indicator, quality_length}
 use Rattle.quality_bits.proofs.Digits.{number_injective}
 use Rattle.quality_bits.proofs.Steps.{length-check_bits}
 

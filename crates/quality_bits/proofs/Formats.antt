@@ -1,11 +1,8 @@
 -- How many bits the frames of a format have, and how their codewords are made.
-use Rattle.std.proofs.Common.{◌≡◌, ◌+◌, ◌*◌, ◌/◌, ◌≤◌, ℕ, Bool, false, List, ◌++◌, length, replicate, refl, sym, ap, ◌∙◌, arith, length-append}
+use Rattle.quality_bits.proofs.Common.{◌≡◌, ◌+◌, ◌*◌, ◌/◌, ◌≤◌, ℕ, Bool, false, List, ◌++◌, length, replicate, refl, sym, ap, ◌∙◌, arith}
+use Rattle.quality_bits.proofs.Common.{length-append, length-replicate, binary, quality_indicator, bits_in, format_codeword}
 use Rattle.std.proofs.Math.Nat.{div-eq_of_eq-mul_left}
-use Rattle.std.proofs.lemmas.List.{length-replicate}
-use Rattle.chip_core.specs.Bits.{binary}
-use Rattle.quality_bits.specs.Kinds.{quality_indicator}
 use Rattle.quality_bits.specs.declared.format.FrameFormat.{FrameFormat}
-use Rattle.quality_bits.specs.Formats.{bits_in, format_codeword}
 use Rattle.quality_bits.proofs.Ends.{length-quality_indicator}
 
 -- code symbols that are repeated so often, over the repeats as they were read

@@ -1,4 +1,4 @@
--- The modules of lemmas of `quality_bits`.
+pub mod Common
 pub mod Pushed
 pub mod Decoded
 pub mod Digits

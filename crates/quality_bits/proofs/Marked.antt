@@ -1,6 +1,7 @@
 -- One more piece, its first bit the mark.
-use Rattle.std.proofs.Common.{◌≡◌, Bool, cond, List, [], ◌∷◌, ◌++◌, map, drop, refl, sym, ap, ◌∙◌, Option, Some, slice_get}
-use Rattle.quality_bits.specs.Capsules.{continued, completed}
+use Rattle.quality_bits.proofs.Common.{◌≡◌, Bool, cond, List, [], ◌∷◌, ◌++◌, map, drop, refl, sym, ap, ◌∙◌, Option, Some, continued}
+use Rattle.quality_bits.proofs.Common.{completed}
+use Rattle.std.proofs.Common.{slice_get}
 use Rattle.quality_bits.specs.Pieces.{Piece, piece, under_way, capsule_ending, CapsuleStandsFor}
 use Rattle.quality_bits.proofs.Streams.{under_way-more, ending-more}
 

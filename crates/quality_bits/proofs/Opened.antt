@@ -1,15 +1,10 @@
 -- What a capsule's first bits say, and what more bits change.
-use Rattle.std.proofs.Common.{◌≡◌, ℕ, ◌+◌, ◌*◌, ◌<◌, ◌≤◌, Bool, true, false, not, ◌&&◌, List, [], ◌∷◌, ◌++◌, length, take, drop, ◌-◌, refl}
-use Rattle.std.proofs.Common.{sym, ap, ◌∙◌, arith, length-append, nat_lt, nat_le, ◌⊎◌, inl, inr, Option, Some, None, append_assoc}
-use Rattle.std.proofs.lemmas.Bool.{cases_lt, cases_Bool, lt-ltb, le-ltb, le-leb, lt-leb, leb-true, leb-false, ltb-true, ltb-false}
-use Rattle.std.proofs.lemmas.Bool.{and_parts, and_cases, or_parts, or_cases, not-false, not-true, false_from_ne_true, and_right}
-use Rattle.std.proofs.lemmas.List.{take-append-le, append-nil}
-use Rattle.chip_core.specs.Bits.{number}
-use Rattle.std.specs.Option.{option_or, IfSome}
-use Rattle.std.specs.List.{slice_get}
-use Rattle.chip_core.proofs.FieldLists.{slice_get-drop}
-use Rattle.quality_bits.specs.Capsules.{stated_bits, is_stated, front_capsule, awaits_more, still_open, continued, completed}
-use Rattle.chip_core.proofs.BitLists.{taken_more}
+use Rattle.quality_bits.proofs.Common.{◌≡◌, ℕ, ◌+◌, ◌*◌, ◌<◌, ◌≤◌, Bool, true, false, not, ◌&&◌, List, [], ◌∷◌, ◌++◌, length, take, drop}
+use Rattle.quality_bits.proofs.Common.{◌-◌, refl, sym, ap, ◌∙◌, arith, length-append, nat_lt, nat_le, ◌⊎◌, inl, inr, Option, Some, None}
+use Rattle.quality_bits.proofs.Common.{append_assoc, cases_lt, cases_Bool, lt-ltb, le-ltb, le-leb, lt-leb, leb-true, leb-false, ltb-true}
+use Rattle.quality_bits.proofs.Common.{ltb-false, and_parts, and_cases, or_parts, or_cases, not-false, not-true, false_from_ne_true, number}
+use Rattle.quality_bits.proofs.Common.{and_right, take-append-le, append-nil, option_or, IfSome, slice_get, slice_get-drop, stated_bits}
+use Rattle.quality_bits.proofs.Common.{is_stated, front_capsule, awaits_more, still_open, continued, completed, taken_more}
 
 pub stated_bounds : (bits : List Bool) → is_stated bits ≡ true →
     (8 ≤ length bits) × (40 ≤ stated_bits bits) × (stated_bits bits ≤ 1184)

@@ -1,9 +1,6 @@
 -- A register of coefficients that takes one bit after another, against long division.
-use Rattle.std.proofs.Common.{◌≡◌, suc, ◌-◌, ◌<◌, Bool, true, false, cond, List, [], ◌∷◌, ◌++◌, length, replicate, refl, sym, ap, ◌∙◌}
-use Rattle.std.proofs.Common.{arith, length-append}
-use Rattle.std.proofs.lemmas.List.{length-replicate}
-use Rattle.chip_core.specs.Bits.{xor}
-use Rattle.chip_core.proofs.BitLists.{add, xor_assoc, length_add}
+use Rattle.quality_bits.proofs.Common.{◌≡◌, suc, ◌-◌, ◌<◌, Bool, true, false, cond, List, [], ◌∷◌, ◌++◌, length, replicate, refl, sym, ap}
+use Rattle.quality_bits.proofs.Common.{◌∙◌, arith, length-append, length-replicate, xor, add, xor_assoc, length_add}
 use Rattle.chip_core.proofs.RegisterBits.{xor_false}
 use Rattle.chip_core.specs.Polynomial.{plus_at_front, divided, remainder}
 

@@ -1,18 +1,14 @@
 -- The register's number against the remainder's coefficients.
-use Rattle.std.proofs.Common.{◌≡◌, ℕ, zero, suc, ◌+◌, ◌-◌, ◌*◌, ◌/◌, ◌%◌, ◌^◌, ◌<◌, ◌≤◌, Bool, true, false, cond, not, List, [], ◌∷◌, ◌++◌}
-use Rattle.std.proofs.Common.{length, replicate, refl, sym, ap, ◌∙◌, arith, nat_eq, bit_xor, bit_and}
-use Rattle.std.proofs.lemmas.List.{length-replicate}
+use Rattle.quality_bits.proofs.Common.{◌≡◌, ℕ, zero, suc, ◌+◌, ◌-◌, ◌*◌, ◌/◌, ◌%◌, ◌^◌, ◌<◌, ◌≤◌, Bool, true, false, cond, not, List, []}
+use Rattle.quality_bits.proofs.Common.{◌∷◌, ◌++◌, length, replicate, refl, sym, ap, ◌∙◌, arith, nat_eq, bit_xor, bit_and, length-replicate}
+use Rattle.quality_bits.proofs.Common.{pow_mono, xor, number, binary, bit_of, add, Generator, below_of, check_bits, binary-xor, number_lt}
+use Rattle.quality_bits.proofs.Common.{binary-double, number-binary}
 use Rattle.std.proofs.lemmas.Nat.{xor_lt, and_mask, pow_pos}
-use Rattle.std.proofs.Math.Pow.{pow_mono}
 use mathlib.Core.Bool.{beq}
-use Rattle.chip_core.specs.Bits.{xor, number, binary, bit_of}
-use Rattle.chip_core.proofs.BitLists.{add}
 use Rattle.chip_core.proofs.Numerals.{binary-front}
 use Rattle.chip_core.proofs.Places.{length-map-places}
 use Rattle.chip_core.specs.Polynomial.{plus_at_front, remainder}
-use Rattle.quality_bits.specs.Quality.{Generator, below_of, check_bits}
 use Rattle.quality_bits.proofs.Pushed.{pushed, pushed_all, remainder_pushed, length_pushed_all, pushed_all-push}
-use Rattle.chip_core.proofs.Digits.{binary-xor, binary-double, number-binary, number_lt}
 use Rattle.quality_bits.proofs.Digits.{binary-rest, binary-number, number-ones}
 
 -- one bit into the register's number

@@ -1,10 +1,9 @@
 -- One more piece of a stream: what is under way after it, and the capsule that ends in it.
-use Rattle.std.proofs.Common.{◌≡◌, ◌-◌, Bool, true, false, cond, List, [], ◌∷◌, ◌++◌, length, refl, sym, ap, ◌∙◌, arith, length-append}
-use Rattle.std.proofs.Common.{nat_lt, nat_le, inl, inr, Option, Some, None}
-use Rattle.std.proofs.lemmas.Bool.{cases_lt, cases_Bool, lt-ltb, le-leb, lt-leb, false_from_ne_true}
-use Rattle.std.proofs.lemmas.List.{take_at, append-nil}
+use Rattle.quality_bits.proofs.Common.{◌≡◌, ◌-◌, Bool, true, false, cond, List, [], ◌∷◌, ◌++◌, length, refl, sym, ap, ◌∙◌, arith, nat_lt}
+use Rattle.quality_bits.proofs.Common.{length-append, nat_le, inl, inr, Option, Some, None, cases_lt, cases_Bool, lt-ltb, le-leb, lt-leb}
+use Rattle.quality_bits.proofs.Common.{false_from_ne_true, take_at, append-nil, stated_bits, is_stated, front_capsule, awaits_more}
+use Rattle.quality_bits.proofs.Common.{still_open, continued, completed}
 use Rattle.std.proofs.lemmas.Grind.{flat_map-append}
-use Rattle.quality_bits.specs.Capsules.{stated_bits, is_stated, front_capsule, awaits_more, still_open, continued, completed}
 use Rattle.quality_bits.specs.Pieces.{Piece, bodies, from_last_start, but_last, capsule_ending, under_way}
 use Rattle.quality_bits.proofs.Opened.{stated_bounds, front-none, awaits_says, awaits_not, stated-more, is_stated-more, still_open-awaits}
 use Rattle.quality_bits.proofs.Opened.{still_open-over, over-awaits}

@@ -1,6 +1,5 @@
 -- How many bits the frames of traffic channels have.
-use Rattle.std.proofs.Common.{◌≡◌, ℕ, ◌*◌, Bool, List, length, refl, ap, ◌∙◌}
-use Rattle.quality_bits.specs.Formats.{bits_in}
+use Rattle.quality_bits.proofs.Common.{◌≡◌, ℕ, ◌*◌, Bool, List, length, refl, ap, ◌∙◌, bits_in}
 use Rattle.quality_bits.specs.TrafficCodewords.{format_of, repeats_of, information_of, traffic_codeword}
 use Rattle.quality_bits.specs.declared.rate.Rate.{Rate}
 use Rattle.quality_bits.specs.declared.rate.Rate.TheVariants.{R9600, R4800, R2400, R1200}

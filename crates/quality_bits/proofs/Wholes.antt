@@ -1,16 +1,10 @@
 -- Whole capsules, written and taken apart.
-use Rattle.std.proofs.Common.{◌≡◌, ℕ, ◌+◌, ◌-◌, ◌*◌, ◌/◌, ◌^◌, ◌<◌, ◌≤◌, Bool, List, ◌++◌, length, take, drop, refl, sym, ap, ◌∙◌, arith}
-use Rattle.std.proofs.Common.{append_assoc, length-append}
-use Rattle.std.proofs.lemmas.List.{take_at, drop_at, take-append-drop, length-take-le, length-drop}
+use Rattle.quality_bits.proofs.Common.{◌≡◌, ℕ, ◌+◌, ◌-◌, ◌*◌, ◌/◌, ◌^◌, ◌<◌, ◌≤◌, Bool, List, ◌++◌, length, take, drop, refl, sym, ap, ◌∙◌}
+use Rattle.quality_bits.proofs.Common.{arith, append_assoc, length-append, take_at, drop_at, take-append-drop, length-take-le, length-drop}
+use Rattle.quality_bits.proofs.Common.{number, binary, CheckForm, number-binary, number_lt, length-binary, Kind, generator_of, sent_check}
+use Rattle.quality_bits.proofs.Common.{body_length, IsChecked, octets, FillsCapsule, capsule_front, capsule, stated_bits, IsWhole}
 use Rattle.std.proofs.Math.Seq.{take-add}
-use Rattle.chip_core.specs.Bits.{number, binary}
-use Rattle.chip_core.specs.declared.check_form.CheckForm.{CheckForm}
-use Rattle.chip_core.proofs.Digits.{number-binary, number_lt}
-use Rattle.chip_core.proofs.FieldLists.{length-binary}
-use Rattle.quality_bits.specs.declared.kind.Kind.{Kind}
 use Rattle.quality_bits.specs.declared.kind.Kind.TheVariants.{Q6, Q8, Q10, Q12, M16, M30}
-use Rattle.quality_bits.specs.Kinds.{generator_of, sent_check, body_length, IsChecked}
-use Rattle.quality_bits.specs.Capsules.{octets, FillsCapsule, capsule_front, capsule, stated_bits, IsWhole}
 use Rattle.quality_bits.proofs.Digits.{binary-number}
 use Rattle.quality_bits.proofs.Ends.{length-sent_check, checked-sent}
 

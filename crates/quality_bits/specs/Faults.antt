@@ -1,8 +1,8 @@
 -- The fault of a message whose capsule is at fault, and what is read where there is none.
 use Rattle.std.specs.Prelude.{Option, Some, None, Result, Ok, Err}
 use Rattle.quality_bits.specs.declared.capsule.CapsuleFault.{CapsuleFault}
-use Rattle.quality_bits.specs.declared.capsule.CapsuleFault.TheVariants as capsules
 use Rattle.quality_bits.specs.declared.message_fault.MessageFault.{MessageFault}
+use Rattle.quality_bits.specs.declared.capsule.CapsuleFault.TheVariants as capsules
 use Rattle.quality_bits.specs.declared.message_fault.MessageFault.TheVariants as messages
 
 abbrev pub fault_of : CapsuleFault → MessageFault

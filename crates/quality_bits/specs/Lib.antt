@@ -1,4 +1,3 @@
--- The modules of definitions of `quality_bits`.
 pub mod Capsules
 pub mod Faults
 pub mod Formats

@@ -1,23 +1,11 @@
 -- Adding soft values up, symbol by symbol and finger by finger.
-use Rattle.std.proofs.Common.{◌≡◌, ◌≢◌, ℕ, ◌+◌, ◌*◌, ◌/◌, ◌^◌, ◌<◌, ◌≤◌, List, [], ◌∷◌, ◌++◌, length, get_or, map, take, sym, ap, ◌∙◌}
-use Rattle.std.proofs.Common.{arith, ⊎_elim, inl, inr, ℤ, pos, ◌+ℤ◌, unsigned_abs, Some, sum_by}
-use Rattle.std.proofs.Math.ListN.{set}
-use Rattle.std.specs.List.{slice_get}
-use Rattle.std.proofs.lemmas.Int.{ints}
-use Rattle.std.proofs.lemmas.Bool.{cases_order, cases_lt}
-use Rattle.std.proofs.lemmas.List.{get_or-set_same, get_or-set_other, take_more, map-append}
-use Rattle.std.proofs.lemmas.List.Elements.{All-from_get_or}
+use Rattle.rake_finger.proofs.Common.{◌≡◌, ◌≢◌, ℕ, ◌+◌, ◌*◌, ◌/◌, ◌^◌, ◌<◌, ◌≤◌, List, [], ◌∷◌, ◌++◌, length, get_or, map, take, sym, ap, ℤ}
+use Rattle.rake_finger.proofs.Common.{◌∙◌, arith, ⊎_elim, inl, inr, pos, ◌+ℤ◌, unsigned_abs, Some, sum_by, set, slice_get, ints, cases_lt}
+use Rattle.rake_finger.proofs.Common.{cases_order, get_or-set_same, get_or-set_other, take_more, map-append, All-from_get_or, total, Sample}
+use Rattle.rake_finger.proofs.Common.{get_or_from_slice_get, slice_get_within, AreWithin, IsAdded, Held, HoldsLast, symbol_chips, symbols}
+use Rattle.rake_finger.proofs.Common.{window_chips, windows, window_symbols, soft, softs, soft_bound, Finger, Form, Sync, Data}
 use Rattle.std.proofs.lemmas.List.Sums.{sum_by-le}
-use Rattle.std.proofs.lemmas.Option.{get_or_from_slice_get, slice_get_within}
-use Rattle.chip_core.specs.Sums.{total}
 use Rattle.chip_core.proofs.Places.{map-places-all}
-use Rattle.chip_core.specs.declared.sample.Sample.{Sample}
-use Rattle.rake_finger.specs.Added.{AreWithin, IsAdded}
-use Rattle.rake_finger.specs.Held.{Held, HoldsLast}
-use Rattle.rake_finger.specs.Soft.{symbol_chips, window_chips, symbols, windows, window_symbols, soft, softs, soft_bound}
-use Rattle.rake_finger.specs.declared.finger.Finger.{Finger}
-use Rattle.rake_finger.specs.declared.form.Form.{Form}
-use Rattle.rake_finger.specs.declared.form.Form.TheVariants.{Sync, Data}
 
 -- FORMS
 pub window_of : (form : Form) (window symbol : ℕ) → window_symbols form * window ≤ symbol →

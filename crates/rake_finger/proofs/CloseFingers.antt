@@ -1,6 +1,6 @@
 -- Where the frames of fingers that are close to the reference path begin and end, of either form.
-use Rattle.rake_finger.proofs.Common.{◌≡◌, ℕ, zero, suc, ◌+◌, ◌<◌, ◌≤◌, true, List, [], ◌∷◌, length, refl, arith, ℤ, pos, ◌-ℤ◌, ◌≤ℤ◌}
-use Rattle.rake_finger.proofs.Common.{nat_le, negsuc, All, slice_index_or, unsigned_abs, int_le, ints, and_parts, and_from, nat_tests, Held}
+use Rattle.rake_finger.proofs.Common.{◌≡◌, ℕ, zero, suc, ◌+◌, ◌<◌, ◌≤◌, true, List, [], ◌∷◌, length, refl, arith, ℤ, pos, ◌-ℤ◌, ◌≤ℤ◌, All}
+use Rattle.rake_finger.proofs.Common.{nat_le, negsuc, slice_index_or, unsigned_abs, int_le, ints, and_parts, and_from, nat_tests, Held}
 use Rattle.rake_finger.proofs.Common.{IsInRing, Finger, Data, AreClose, all_close, is_close, AreNear, all_begun, all_near, has_reference}
 use Rattle.rake_finger.proofs.Common.{is_near, frame_end, ◌+ℤ◌, frame_chips, Form, Sync, AreBegun}
 

@@ -1,18 +1,10 @@
 -- Sums of despread and covered samples, sample by sample.
-use Rattle.std.proofs.Common.{◌≡◌, ℕ, suc, ◌+◌, ◌%◌, ◌<◌, Bool, true, false, List, [], ◌∷◌, ◌++◌, length, get_or, take, drop, refl, sym, ap}
-use Rattle.std.proofs.Common.{◌∙◌, arith, ℤ, pos, ◌+ℤ◌}
-use Rattle.std.proofs.lemmas.Int.{ints}
-use Rattle.std.proofs.lemmas.List.{take_more, length-take-le, length-drop, get_or-drop}
+use Rattle.rake_finger.proofs.Common.{◌≡◌, ℕ, suc, ◌+◌, ◌%◌, ◌<◌, Bool, true, false, List, [], ◌∷◌, ◌++◌, length, get_or, take, drop, refl}
+use Rattle.rake_finger.proofs.Common.{sym, ap, ◌∙◌, arith, ℤ, pos, ◌+ℤ◌, ints, take_more, length-take-le, length-drop, get_or-drop, sign}
+use Rattle.rake_finger.proofs.Common.{plus, times, conjugate, point, sum_of, of_sample, sum_of-append, plus-origin, Pair, Sample, despread}
+use Rattle.rake_finger.proofs.Common.{code_point, walsh, covered_from}
 use mathlib.Core.Bool.{not, beq}
-use Rattle.chip_core.specs.Bits.{sign}
-use Rattle.chip_core.specs.Complex.{plus, times, conjugate, point, sum_of, of_sample}
-use Rattle.chip_core.proofs.ComplexSums.{sum_of-append, plus-origin}
-use Rattle.chip_core.specs.declared.sample.Pair.{Pair}
-use Rattle.chip_core.specs.declared.sample.Sample.{Sample}
-use Rattle.short_code.specs.Despread.{code_point, despread}
 use Rattle.short_code.proofs.Despreading.{despread-append}
-use Rattle.walsh.specs.Walsh.{walsh}
-use Rattle.rake_finger.specs.Soft.{covered_from}
 
 length-despread : (phase : ℕ) (xs : List Sample) → length (despread phase xs) ≡ length xs
 length-despread phase [] = refl

@@ -1,9 +1,9 @@
 -- Where the fingers' frames begin and end.
-use Rattle.rake_finger.proofs.Common.{◌≡◌, ℕ, zero, suc, ◌+◌, ◌*◌, ◌≤◌, Bool, true, false, cond, ◌&&◌, List, [], ◌∷◌, refl, sym, ap, ◌∙◌}
-use Rattle.rake_finger.proofs.Common.{arith, inl, inr, ℤ, pos, negsuc, ◌+ℤ◌, ◌-ℤ◌, nat_le, All, int_le, max, int_eq, ints, and_parts}
-use Rattle.rake_finger.proofs.Common.{and_from, or_cases, cases_lt, le-leb, lt-leb, nat_tests, Held, IsInRing, frame_chips, Finger, Form}
-use Rattle.rake_finger.proofs.Common.{Sync, Data, AreClose, all_near, has_reference, AreNear, all_begun, AreBegun, StreamOf, is_within}
-use Rattle.rake_finger.proofs.Common.{frame_end, frame_start, stream_end, IsTimed}
+use Rattle.rake_finger.proofs.Common.{◌≡◌, ℕ, zero, suc, ◌+◌, ◌*◌, ◌≤◌, Bool, true, false, cond, ◌&&◌, List, [], ◌∷◌, refl, sym, ap, ◌∙◌, ℤ}
+use Rattle.rake_finger.proofs.Common.{arith, inl, inr, pos, negsuc, ◌+ℤ◌, ◌-ℤ◌, nat_le, All, int_le, max, int_eq, ints, and_parts, and_from}
+use Rattle.rake_finger.proofs.Common.{or_cases, cases_lt, le-leb, lt-leb, nat_tests, Held, IsInRing, frame_chips, Finger, Form, Sync, Data}
+use Rattle.rake_finger.proofs.Common.{AreClose, all_near, has_reference, AreNear, all_begun, AreBegun, StreamOf, is_within, frame_end}
+use Rattle.rake_finger.proofs.Common.{frame_start, stream_end, IsTimed}
 use Rattle.rake_finger.proofs.CloseFingers.{begun_in_ring, close_begun, end_at, later_by, near_are_close, near_close, near_parts}
 use Rattle.rake_finger.proofs.CloseFingers.{some_chips}
 use Rattle.rake_finger.specs.Near as near

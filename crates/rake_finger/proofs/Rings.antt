@@ -1,16 +1,9 @@
 -- Places in a ring.
-use Rattle.std.proofs.Common.{◌≡◌, ◌≢◌, ℕ, ◌+◌, ◌/◌, ◌%◌, ◌<◌, ◌≤◌, List, [], ◌∷◌, ◌++◌, length, get_or, take, drop, refl, sym, ap, ◌∙◌}
-use Rattle.std.proofs.Common.{arith, length-append, inl, inr, pos, Some}
-use Rattle.std.proofs.Math.ListN.{set}
-use Rattle.std.proofs.lemmas.Bool.{cases_lt, cases_order}
-use Rattle.std.proofs.lemmas.Nat.{div-add-mod', mul-le}
-use Rattle.std.proofs.lemmas.List.{get_or-set_same, get_or-set_other, get_or_append_left, get_or_push, get_or-take, get_or-drop}
-use Rattle.std.proofs.lemmas.List.{length-take-le, length-drop, take_more, take_more_set, take_all, ext_get_or}
-use Rattle.chip_core.specs.declared.sample.Sample.{Sample}
-use Rattle.std.specs.List.{slice_get}
-use Rattle.std.proofs.Math.Nat.{mod-add-mod, mod-eq_of_lt}
-use Rattle.std.proofs.lemmas.Option.{get_or_from_slice_get}
-use Rattle.rake_finger.specs.Held.{Held, HoldsLast}
+use Rattle.rake_finger.proofs.Common.{◌≡◌, ◌≢◌, ℕ, ◌+◌, ◌/◌, ◌%◌, ◌<◌, ◌≤◌, List, [], ◌∷◌, ◌++◌, length, get_or, take, drop, refl, sym, ap}
+use Rattle.rake_finger.proofs.Common.{◌∙◌, arith, length-append, inl, inr, pos, Some, set, cases_lt, cases_order, div-add-mod', mul-le}
+use Rattle.rake_finger.proofs.Common.{get_or-set_same, get_or-set_other, get_or_append_left, get_or_push, get_or-take, get_or-drop, Sample}
+use Rattle.rake_finger.proofs.Common.{length-take-le, length-drop, take_more, take_more_set, take_all, ext_get_or, slice_get, mod-add-mod}
+use Rattle.rake_finger.proofs.Common.{mod-eq_of_lt, get_or_from_slice_get, Held, HoldsLast}
 
 -- two places that share a cell are a whole room apart
 pub apart : (i j room : ℕ) → i < j → j < i + room → ¬ (i % room ≡ j % room)

@@ -1,29 +1,18 @@
 -- Products of chips with the signs of a Walsh row, lane by lane.
-use Rattle.std.proofs.Common.{◌≡◌, ℕ, zero, suc, ◌+◌, ◌*◌, ◌%◌, ◌^◌, ◌<◌, ◌≤◌, Bool, true, false, List, [], ◌∷◌, map, length, get_or, refl}
-use Rattle.std.proofs.Common.{sym, ap, ◌∙◌, subst, arith, ℤ, pos, ◌+ℤ◌, ◌*ℤ◌, unsigned_abs, to_z, of_z, FitsSigned, w32}
+use Rattle.rake_finger.proofs.Common.{◌≡◌, ℕ, zero, suc, ◌+◌, ◌*◌, ◌%◌, ◌^◌, ◌<◌, ◌≤◌, Bool, true, false, List, [], ◌∷◌, map, length, refl}
+use Rattle.rake_finger.proofs.Common.{get_or, sym, ap, ◌∙◌, subst, arith, ℤ, pos, ◌+ℤ◌, ◌*ℤ◌, unsigned_abs, to_z, of_z, FitsSigned, w32}
+use Rattle.rake_finger.proofs.Common.{ints, to_z-of_z, int_wrap_fits, wrapping_mul_onto, unsigned_abs-mul, mul-le, sign, zip_with, times}
+use Rattle.rake_finger.proofs.Common.{real_part, distrib_right, mul_assoc_ℤ, neg_times, Pair, Sample, turned, walsh, no_sample, kept}
+use Rattle.rake_finger.proofs.Common.{kept_lanes, kept_products, no_sign, AreRowSigns, AreUnitSigns, turned_sign, covered_signs, sign_lanes}
+use Rattle.rake_finger.proofs.Common.{covered_from, in_lane}
 use Rattle.std.proofs.Math.IntN.{neg_ℤ}
 use Rattle.std.proofs.Math.Facts.{Fits-of_z}
 use Rattle.std.specs.Int.{int_wrap}
-use Rattle.std.proofs.lemmas.Int.{ints, to_z-of_z, int_wrap_fits, wrapping_mul_onto, unsigned_abs-mul}
-use Rattle.std.proofs.lemmas.Nat.{mul-le}
 use lib.Lanes.{Each1, zip2}
 use Rattle.std.proofs.lemmas.Simd.{Each1-weaker, Each1-zip2, Each2-of}
-use Rattle.chip_core.specs.Bits.{sign, zip_with}
-use Rattle.chip_core.specs.Complex.{times}
-use Rattle.chip_core.proofs.ComplexSums.{real_part}
-use Rattle.chip_core.proofs.Ring.{distrib_right, mul_assoc_ℤ, neg_times}
-use Rattle.chip_core.specs.declared.sample.Pair.{Pair}
-use Rattle.chip_core.specs.declared.sample.Sample.{Sample}
-use Rattle.short_code.specs.Despread.{turned}
-use Rattle.walsh.specs.Walsh.{walsh}
 use Rattle.pilot_search.specs.Lanes.{eight, product_at, real_lanes, imaginary_lanes, AreProducts}
-use Rattle.pilot_search.proofs.CorrelationSums.{no_sample}
-use Rattle.pilot_search.proofs.LaneLemmas.{kept, kept_lanes, kept_products, no_sign}
 use Rattle.pilot_search.proofs.LaneSums.{products_kept}
-use Rattle.rake_finger.specs.RowSigns.{AreRowSigns, AreUnitSigns, turned_sign, covered_signs, sign_lanes}
-use Rattle.rake_finger.specs.Soft.{covered_from}
 use Rattle.rake_finger.proofs.CoveredSums.{row_sign, same_parts}
-use Rattle.rake_finger.proofs.Common.{in_lane}
 
 -- SIGNS
 pub unit_lanes : (signs : List ℤ) (first : ℕ) → first + 8 ≤ 64 → AreUnitSigns signs →

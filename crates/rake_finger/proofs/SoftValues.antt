@@ -1,20 +1,9 @@
 -- Soft values: from sums to the definitions, and their bounds.
-use Rattle.std.proofs.Common.{◌≡◌, ℕ, suc, ◌+◌, ◌*◌, ◌/◌, ◌^◌, ◌≤◌, List, [], ◌∷◌, refl, ap, ◌∙◌, arith, ℤ, pos, ◌+ℤ◌, ◌*ℤ◌}
-use Rattle.std.proofs.Common.{unsigned_abs, FitsSigned, to_z, of_z, w64}
-use Rattle.std.proofs.lemmas.Int.{ints, to_z-of_z, fits_signed_mul, unsigned_abs-mul}
-use Rattle.std.proofs.lemmas.Nat.{mul-le}
-use Rattle.chip_core.specs.Complex.{times, sum_of}
-use Rattle.chip_core.proofs.Ring.{neg_times}
-use Rattle.chip_core.specs.declared.sample.Pair.{Pair}
-use Rattle.chip_core.specs.declared.sample.Sample.{Sample}
-use Rattle.walsh.specs.Walsh.{IsWithin}
-use Rattle.rake_finger.specs.declared.finger.Finger.{Finger}
-use Rattle.rake_finger.specs.declared.form.Form.{Form}
-use Rattle.rake_finger.specs.declared.form.Form.TheVariants.{Sync, Data}
-use Rattle.rake_finger.specs.Soft.{symbol_chips, window_chips, finger_place, covered_from, despread_at, pilot_sum, symbol_sum, turned_part}
-use Rattle.rake_finger.specs.Soft.{soft, soft_bound}
+use Rattle.rake_finger.proofs.Common.{unsigned_abs-mul, fits_signed_mul, unsigned_abs, symbol_chips, window_chips, finger_place, FitsSigned}
+use Rattle.rake_finger.proofs.Common.{covered_from, despread_at, turned_part, walsh-pilot, symbol_sum, soft_bound, to_z-of_z, neg_times, []}
+use Rattle.rake_finger.proofs.Common.{pilot_sum, IsWithin, mul-le, sum_of, Sample, Finger, arith, times, List, refl, ◌+ℤ◌, ◌*ℤ◌, to_z, of_z}
+use Rattle.rake_finger.proofs.Common.{ints, Pair, Form, Sync, Data, soft, ◌≡◌, suc, ◌+◌, ◌*◌, ◌/◌, ◌^◌, ◌≤◌, ◌∷◌, ◌∙◌, pos, w64, ap, ℕ, ℤ}
 use Rattle.rake_finger.proofs.CoveredSums.{same_parts}
-use Rattle.rake_finger.proofs.Common.{walsh-pilot}
 
 one_times : (p : Pair) → times (record { i = pos 1; q = pos 0 }) p ≡ p
 one_times p = same_parts _ _ p.i p.q (omega (arith, ints)) (omega (arith, ints))

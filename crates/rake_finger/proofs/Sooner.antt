@@ -1,10 +1,10 @@
 -- What is read of a frame depends on its fingers' samples alone, and so stays where more samples follow.
 use Rattle.rake_finger.proofs.Common.{◌≡◌, ℕ, ◌+◌, ◌*◌, ◌/◌, ◌<◌, ◌≤◌, true, ◌&&◌, List, [], ◌∷◌, ◌++◌, map, length, take, drop, refl, ap}
-use Rattle.rake_finger.proofs.Common.{arith, ℤ, pos, ◌+ℤ◌, ◌-ℤ◌, length-drop, unsigned_abs, int_le, ints, and_parts, take-append-le}
-use Rattle.rake_finger.proofs.Common.{drop-append-le, sum_of, total, Sample, despread, symbol_chips, window_chips, symbols, frame_chips}
-use Rattle.rake_finger.proofs.Common.{finger_place, despread_at, covered_from, pilot_sum, symbol_sum, soft, softs, Finger, Form, Sync, Data}
-use Rattle.rake_finger.proofs.Common.{is_within, frame_end, map_ext_places, ◌-◌, sym, ◌∙◌, drop-drop, drop-take, take-take, AgreeIn, All}
-use Rattle.std.proofs.lemmas.List.Elements.{All-cons, All-head, All-nil, All-tail}
+use Rattle.rake_finger.proofs.Common.{arith, ℤ, pos, ◌+ℤ◌, ◌-ℤ◌, length-drop, unsigned_abs, int_le, ints, and_parts, take-append-le, sum_of}
+use Rattle.rake_finger.proofs.Common.{drop-append-le, total, Sample, despread, symbol_chips, window_chips, symbols, frame_chips, pilot_sum}
+use Rattle.rake_finger.proofs.Common.{finger_place, despread_at, covered_from, symbol_sum, soft, softs, Finger, Form, Sync, Data, is_within}
+use Rattle.rake_finger.proofs.Common.{frame_end, map_ext_places, ◌-◌, sym, ◌∙◌, drop-drop, drop-take, take-take, AgreeIn, All, All-cons}
+use Rattle.rake_finger.proofs.Common.{All-head, All-nil, All-tail}
 
 -- a part of a part
 part_is : {A : Type 0} (xs : List A) (place off count m : ℕ) → off + count ≤ m →

@@ -1,20 +1,13 @@
 -- The strength of a pilot: the greatest energy of a window of phases.
-use Rattle.std.proofs.Common.{◌≡◌, ℕ, ◌+◌, ◌-◌, ◌*◌, ◌/◌, ◌%◌, ◌<◌, ◌≤◌, List, [], ◌∷◌, ◌++◌, length, take, drop, ap, ◌∙◌, arith}
-use Rattle.std.proofs.Common.{length-drop, ◌^◌, ℤ, pos, ◌-ℤ◌, unsigned_abs}
+use Rattle.rake_finger.proofs.Common.{◌≡◌, ℕ, ◌+◌, ◌-◌, ◌*◌, ◌/◌, ◌%◌, ◌<◌, ◌≤◌, List, [], ◌∷◌, ◌++◌, length, take, drop, ap, ◌∙◌, arith, ℤ}
+use Rattle.rake_finger.proofs.Common.{length-drop, ◌^◌, pos, ◌-ℤ◌, unsigned_abs, mul-le-mul, ints, All-head, All-tail, take-append-le, norm}
+use Rattle.rake_finger.proofs.Common.{drop-append-le, sum_of, Pair, Sample, phase_correlation, energy, samples_before, window_energy}
+use Rattle.rake_finger.proofs.Common.{Strength, strength, IsStrongest, IsNarrow}
 use Rattle.std.specs.List.{All}
-use Rattle.std.proofs.Math.Nat.{mul-le-mul}
-use Rattle.std.proofs.lemmas.Int.{ints}
-use Rattle.std.proofs.lemmas.List.Elements.{All-head, All-tail}
-use Rattle.std.proofs.lemmas.List.{take-append-le, drop-append-le}
-use Rattle.chip_core.specs.Complex.{sum_of, norm}
 use Rattle.chip_core.specs.Sums.{IsFirstGreatest, first_greatest}
-use Rattle.chip_core.specs.declared.sample.Pair.{Pair}
-use Rattle.chip_core.specs.declared.sample.Sample.{Sample}
 use Rattle.chip_core.proofs.Greatest.{takes, keeps, starts, only, first_greatest-is}
 use Rattle.pilot_search.specs.Bounds.{magnitudes, square_of, bound}
-use Rattle.pilot_search.specs.Search.{phase_correlation, energy}
 use Rattle.pilot_search.proofs.BoundLemmas.{bounds, nothing_yet, despread_mod}
-use Rattle.rake_finger.specs.Strengths.{samples_before, window_energy, Strength, strength, IsStrongest, IsNarrow}
 
 -- PHASES
 

@@ -1,15 +1,8 @@
 -- The sums of a symbol's samples on lanes are those of the definitions.
-use Rattle.std.proofs.Common.{◌≡◌, ℕ, ◌+◌, ◌*◌, ◌/◌, ◌%◌, ◌≤◌, List, length, take, drop, sym, ap, ◌∙◌, arith, ℤ}
-use Rattle.chip_core.specs.Bits.{zip_with}
-use Rattle.chip_core.specs.Complex.{sum_of}
-use Rattle.chip_core.specs.declared.sample.Pair.{Pair}
-use Rattle.chip_core.specs.declared.sample.Sample.{Sample}
-use Rattle.short_code.specs.Despread.{despread, turned}
-use Rattle.short_code.specs.ShortCode.{pilot_signs}
+use Rattle.rake_finger.proofs.Common.{◌≡◌, ℕ, ◌+◌, ◌*◌, ◌/◌, ◌%◌, ◌≤◌, List, length, take, drop, sym, ap, ◌∙◌, arith, ℤ, zip_with, sum_of}
+use Rattle.rake_finger.proofs.Common.{Pair, Sample, despread, turned, pilot_signs, despread_from, AreRowSigns, covered_signs, covered_from}
+use Rattle.rake_finger.proofs.Common.{despread_at}
 use Rattle.pilot_search.specs.BySigns.{correlation_with}
-use Rattle.pilot_search.proofs.CorrelationSums.{despread_from}
-use Rattle.rake_finger.specs.RowSigns.{AreRowSigns, covered_signs}
-use Rattle.rake_finger.specs.Soft.{covered_from, despread_at}
 use Rattle.rake_finger.proofs.SignedLanes.{covered_all}
 
 -- samples side by side, times the code's chips, where the code doesn't begin again

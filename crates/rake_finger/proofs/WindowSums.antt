@@ -1,23 +1,11 @@
 -- The sums of a window, symbol by symbol.
-use Rattle.std.proofs.Common.{◌≡◌, ◌≢◌, ℕ, ◌+◌, ◌*◌, ◌<◌, ◌≤◌, ◌^◌, List, length, get_or, take, drop, sym, ap, ◌∙◌, subst, arith, below_more, ℤ}
-use Rattle.std.proofs.Common.{◌+ℤ◌, unsigned_abs, FitsSigned, to_z, of_z, w64}
-use Rattle.std.proofs.Math.ListN.{set}
+use Rattle.rake_finger.proofs.Common.{◌≡◌, ◌≢◌, ℕ, ◌+◌, ◌*◌, ◌<◌, ◌≤◌, ◌^◌, List, length, get_or, take, drop, sym, ap, ◌∙◌, subst, arith, ℤ}
+use Rattle.rake_finger.proofs.Common.{below_more, ◌+ℤ◌, unsigned_abs, FitsSigned, to_z, of_z, w64, set, ints, get_or-set_same, length-drop}
+use Rattle.rake_finger.proofs.Common.{get_or-set_other, length-take-le, drop-drop, plus, sum_of, sum_of-append, Pair, Sample, despread}
+use Rattle.rake_finger.proofs.Common.{kept_sum, kept_sum_back, kept_sum_fits, Held, IsHeldInRing, IsInRing, symbol_chips, window_chips}
+use Rattle.rake_finger.proofs.Common.{windows, window_symbols, finger_place, frame_chips, despread_at, pilot_sum, Finger, Form, Sync, Data}
 use Rattle.std.proofs.Math.Seq.{take-add}
-use Rattle.std.proofs.lemmas.Int.{ints}
-use Rattle.std.proofs.lemmas.List.{get_or-set_same, get_or-set_other, length-take-le, length-drop, drop-drop}
-use Rattle.chip_core.specs.Complex.{plus, sum_of}
-use Rattle.chip_core.proofs.ComplexSums.{sum_of-append}
-use Rattle.chip_core.specs.declared.sample.Pair.{Pair}
-use Rattle.chip_core.specs.declared.sample.Sample.{Sample}
-use Rattle.short_code.specs.Despread.{despread}
 use Rattle.short_code.proofs.Despreading.{despread-append}
-use Rattle.pilot_search.proofs.KeptSums.{kept_sum, kept_sum_back, kept_sum_fits}
-use Rattle.rake_finger.specs.Held.{Held}
-use Rattle.rake_finger.specs.InRing.{IsHeldInRing, IsInRing}
-use Rattle.rake_finger.specs.Soft.{symbol_chips, window_chips, windows, window_symbols, finger_place, frame_chips, despread_at, pilot_sum}
-use Rattle.rake_finger.specs.declared.finger.Finger.{Finger}
-use Rattle.rake_finger.specs.declared.form.Form.{Form}
-use Rattle.rake_finger.specs.declared.form.Form.TheVariants.{Sync, Data}
 use Rattle.rake_finger.proofs.CoveredSums.{same_parts}
 
 -- PLACES

@@ -1,10 +1,9 @@
 -- What is known while soft values are added up.
+use Rattle.rake_finger.specs.Common.{Sample, Form}
 use Rattle.std.specs.Prelude.{◌≡◌, ℕ, ◌+◌, ◌<◌, ◌≤◌, List, get_or, ℤ, pos, ◌+ℤ◌, unsigned_abs}
-use Rattle.chip_core.specs.declared.sample.Sample.{Sample}
 use Rattle.rake_finger.specs.Held.{Held, HoldsLast}
 use Rattle.rake_finger.specs.Soft.{soft, soft_bound}
 use Rattle.rake_finger.specs.declared.finger.Finger.{Finger}
-use Rattle.rake_finger.specs.declared.form.Form.{Form}
 
 -- the new entries are the old ones, and the finger's soft values are added to the first so many
 pub record IsAdded (ring : Held) (finger : Finger) (form : Form) (start done : ℕ)

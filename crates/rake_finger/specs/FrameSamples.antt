@@ -1,9 +1,8 @@
 -- The samples that a frame depends on.
+use Rattle.rake_finger.specs.Common.{Sample, Form}
 use Rattle.std.specs.Prelude.{◌≡◌, ℕ, List, [], ◌∷◌, take, drop}
-use Rattle.chip_core.specs.declared.sample.Sample.{Sample}
 use Rattle.rake_finger.specs.Soft.{finger_place, frame_chips}
 use Rattle.rake_finger.specs.declared.finger.Finger.{Finger}
-use Rattle.rake_finger.specs.declared.form.Form.{Form}
 
 -- two files agree in each finger's samples of the frame that begins at reference sample u
 abbrev pub AgreeIn : List Sample → List Sample → Form → ℕ → List Finger → Type 0

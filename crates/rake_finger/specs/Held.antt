@@ -1,6 +1,6 @@
 -- What a ring of samples holds.
+use Rattle.rake_finger.specs.Common.{Sample}
 use Rattle.std.specs.Prelude.{◌≡◌, ℕ, ◌+◌, ◌%◌, ◌<◌, ◌≤◌, List, length, get_or}
-use Rattle.chip_core.specs.declared.sample.Sample.{Sample}
 
 -- A ring with room for so many samples, which has taken so many. Sample i stands in cell i modulo
 -- the room.

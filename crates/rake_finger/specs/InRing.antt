@@ -1,9 +1,9 @@
 -- Which samples a finger needs, and which a pilot's strength.
+use Rattle.rake_finger.specs.Common.{Form}
 use Rattle.std.specs.Prelude.{ℕ, ◌+◌, ◌-◌, ◌≤◌, pos, ◌≤ℤ◌}
 use Rattle.rake_finger.specs.Held.{Held}
 use Rattle.rake_finger.specs.Soft.{frame_chips, finger_place}
 use Rattle.rake_finger.specs.declared.finger.Finger.{Finger}
-use Rattle.rake_finger.specs.declared.form.Form.{Form}
 
 -- the ring still holds the samples from a place on, so many, and has taken them all
 pub record IsHeldInRing (ring : Held) (place count : ℕ) : Type 0 where

@@ -1,9 +1,8 @@
 -- The signs of a Walsh row's chips, and signs of the code that the row's have turned.
+use Rattle.rake_finger.specs.Common.{sign, walsh}
 use Rattle.std.specs.Prelude.{◌≡◌, ℕ, suc, ◌%◌, ◌<◌, ◌≤◌, List, [], ◌∷◌, get_or, ℤ, pos, ◌*ℤ◌}
 use Rattle.std.specs.Prelude.{unsigned_abs}
-use Rattle.chip_core.specs.Bits.{sign}
 use Rattle.pilot_search.specs.Lanes.{eight}
-use Rattle.walsh.specs.Walsh.{walsh}
 
 -- the signs of the 64 chips of a row
 abbrev pub AreRowSigns : ℕ → List ℤ → Type 0

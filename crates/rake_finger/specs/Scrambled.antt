@@ -1,6 +1,6 @@
 -- Soft values descrambled by the scrambling bits of a frame (TIA/EIA-95-B, 7.1.3.1.6).
+use Rattle.rake_finger.specs.Common.{sign, zip_with}
 use Rattle.std.specs.Prelude.{◌≡◌, ℕ, Bool, List, [], ◌∷◌, length, ℤ, ◌*ℤ◌, ◌⊎◌}
-use Rattle.chip_core.specs.Bits.{sign, zip_with}
 
 -- turned in sign where the scrambling bit is 1
 abbrev pub descrambled : List Bool → List ℤ → List ℤ

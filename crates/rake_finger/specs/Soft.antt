@@ -1,15 +1,11 @@
 -- Soft values of fingers: what a symbol's chips add up to, turned by the pilot.
+use Rattle.rake_finger.specs.Common.{sign, places, times, conjugate, sum_of, total, Sample, walsh}
+use Rattle.rake_finger.specs.Common.{Form}
 use Rattle.std.specs.Prelude.{ℕ, suc, ◌+◌, ◌*◌, ◌/◌, ◌%◌, ◌^◌, List, [], ◌∷◌, map, take, drop, ℤ}
 use Rattle.std.specs.Prelude.{pos, ◌-ℤ◌, unsigned_abs}
-use Rattle.chip_core.specs.Bits.{sign, places}
-use Rattle.chip_core.specs.Complex.{times, conjugate, sum_of}
-use Rattle.chip_core.specs.Sums.{total}
 use Rattle.chip_core.specs.declared.sample.Pair.{Pair}
-use Rattle.chip_core.specs.declared.sample.Sample.{Sample}
 use Rattle.short_code.specs.Despread.{despread}
-use Rattle.walsh.specs.Walsh.{walsh}
 use Rattle.rake_finger.specs.declared.finger.Finger.{Finger}
-use Rattle.rake_finger.specs.declared.form.Form.{Form}
 use Rattle.rake_finger.specs.declared.form.Form.TheVariants.{Sync, Data}
 
 -- how a frame is cut: chips a symbol, chips in the aligned window whose pilot turns a symbol, and

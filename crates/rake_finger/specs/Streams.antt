@@ -1,13 +1,10 @@
 -- Where the frames of a channel lie in a file, and what they are decoded from.
-use Rattle.std.specs.Prelude.{ℕ, zero, suc, ◌+◌, ◌-◌, ◌*◌, Bool, if◌then◌else◌, ◌==◌, ◌&&◌, List}
-use Rattle.std.specs.Prelude.{[], ◌∷◌, filter, max, ℤ, pos, ◌+ℤ◌, ◌-ℤ◌, unsigned_abs, nat_le}
-use Rattle.std.specs.Prelude.{int_le}
+use Rattle.rake_finger.specs.Common.{places, Sample, Form}
+use Rattle.std.specs.Prelude.{ℕ, zero, suc, ◌+◌, ◌-◌, ◌*◌, Bool, if◌then◌else◌, ◌==◌, ◌&&◌, List, ℤ}
+use Rattle.std.specs.Prelude.{[], ◌∷◌, filter, max, pos, ◌+ℤ◌, ◌-ℤ◌, unsigned_abs, nat_le, int_le}
 use Rattle.std.specs.List.{flat_map, list_all}
-use Rattle.chip_core.specs.Bits.{places}
-use Rattle.chip_core.specs.declared.sample.Sample.{Sample}
 use Rattle.rake_finger.specs.Soft.{frame_chips, softs}
 use Rattle.rake_finger.specs.declared.finger.Finger.{Finger}
-use Rattle.rake_finger.specs.declared.form.Form.{Form}
 use Rattle.rake_finger.specs.Scrambled.{unscrambled}
 
 -- the number of samples taken when the finger's last sample of the frame that begins at reference

@@ -1,9 +1,7 @@
 -- The strength of a pilot, and the power of the samples, before a moment.
+use Rattle.rake_finger.specs.Common.{norm, of_sample, IsFirstGreatest, first_greatest, Sample}
 use Rattle.std.specs.Prelude.{ℕ, ◌+◌, ◌-◌, ◌/◌, ◌≤◌, ◌≡◌, List, take, drop, sum_by, ℤ, pos, ◌-ℤ◌}
 use Rattle.std.specs.Prelude.{unsigned_abs}
-use Rattle.chip_core.specs.Complex.{norm, of_sample}
-use Rattle.chip_core.specs.Sums.{IsFirstGreatest, first_greatest}
-use Rattle.chip_core.specs.declared.sample.Sample.{Sample}
 use Rattle.pilot_search.specs.Search.{energy}
 
 -- the 512 samples before a place, counted from sample 0

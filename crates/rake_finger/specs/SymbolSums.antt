@@ -1,8 +1,6 @@
 -- The sums of a symbol's samples, despread.
+use Rattle.rake_finger.specs.Common.{sum_of, Sample, IsWithin}
 use Rattle.std.specs.Prelude.{◌≡◌, ℕ, ◌*◌, List}
-use Rattle.chip_core.specs.Complex.{sum_of}
-use Rattle.chip_core.specs.declared.sample.Sample.{Sample}
-use Rattle.walsh.specs.Walsh.{IsWithin}
 use Rattle.rake_finger.specs.Soft.{covered_from, despread_at}
 use Rattle.rake_finger.specs.declared.lanes.Sums.{Sums}
 

@@ -1,12 +1,8 @@
 -- Two samples on the first chips of the codes, and small values, which the checker computes.
+use Rattle.rake_finger.specs.Common.{binary, sum_of, first_greatest, Sample, walsh}
 use Rattle.std.specs.Prelude.{◌≡◌, refl, true, false, List, [], ◌∷◌, pos, negsuc, map, replicate}
-use Rattle.chip_core.specs.Bits.{binary}
-use Rattle.chip_core.specs.Complex.{sum_of}
-use Rattle.chip_core.specs.Sums.{first_greatest}
-use Rattle.chip_core.specs.declared.sample.Sample.{Sample}
 use Rattle.pilot_search.specs.Search.{phase_correlation, energy}
 use Rattle.short_code.specs.ShortCode.{chips_to}
-use Rattle.walsh.specs.Walsh.{walsh}
 use Rattle.rake_finger.specs.Paths.{modulo_code}
 use Rattle.rake_finger.specs.Scrambled.{unscrambled}
 use Rattle.rake_finger.specs.Soft.{finger_place, covered_from, despread_at, turned_part}

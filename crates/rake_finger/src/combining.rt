@@ -1,14 +1,14 @@
 //! The soft values of a frame, added up over the fingers.
 
+ghost use Rattle.rake_finger.specs.Common.{Sample};
 ghost use Rattle.std.specs.Prelude.{◌≡◌, ◌<◌, ◌≤◌, ◌+◌, ◌*◌, ◌^◌, List, ℤ, All, length, sum_by};
 ghost use Rattle.std.specs.Prelude.{unsigned_abs, slice_get};
-ghost use Rattle.chip_core.specs.declared.sample.Sample.{Sample};
 ghost use Rattle.rake_finger.specs.Added.{AreWithin, IsAdded};
 ghost use Rattle.rake_finger.specs.Held.{HoldsLast};
 ghost use Rattle.rake_finger.specs.InRing.{IsInRing};
 ghost use Rattle.rake_finger.specs.RowSigns.{AreRowSigns};
-ghost use Rattle.rake_finger.specs.Soft.{symbols, window_chips, windows, window_symbols};
-ghost use Rattle.rake_finger.specs.Soft.{frame_chips, soft_bound, softs};
+ghost use Rattle.rake_finger.specs.Soft.{symbols, window_chips, windows, window_symbols, softs};
+ghost use Rattle.rake_finger.specs.Soft.{frame_chips, soft_bound};
 ghost use Rattle.rake_finger.specs.declared.finger.Finger.{Finger as FingerValue};
 
 use crate::finger::{Finger, Fingers};

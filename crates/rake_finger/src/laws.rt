@@ -1,12 +1,11 @@
 //! Laws of the definitions: each function does nothing, and its contract is the law.
 
+ghost use Rattle.rake_finger.specs.Common.{Sample, Form};
 ghost use Rattle.std.specs.Prelude.{◌≡◌, ◌≤◌, ◌+◌, ◌*◌, ◌%◌, ◌^◌, ℕ, List, length, ◌++◌};
-ghost use Rattle.chip_core.specs.declared.sample.Sample.{Sample};
 ghost use Rattle.rake_finger.specs.Held.{Held, HoldsLast};
 ghost use Rattle.rake_finger.specs.InRing.{HoldsBefore};
 ghost use Rattle.rake_finger.specs.Soft.{symbols, soft_bound};
 ghost use Rattle.rake_finger.specs.Strengths.{samples_before, strength};
-ghost use Rattle.rake_finger.specs.declared.form.Form.{Form};
 
 /// The absolute values of the entries of a frame, over eight fingers, and of three frames, over
 /// three fingers, add up to at most 2^62.

@@ -1,8 +1,7 @@
 //! The samples before an evaluation of the pilot sets, and their power.
 
+ghost use Rattle.rake_finger.specs.Common.{square, Sample};
 ghost use Rattle.std.specs.Prelude.{◌≡◌, ◌≤◌, ◌*◌, ◌^◌, List, length, All};
-ghost use Rattle.chip_core.specs.Sums.{square};
-ghost use Rattle.chip_core.specs.declared.sample.Sample.{Sample};
 ghost use Rattle.rake_finger.specs.Held.{HoldsLast};
 ghost use Rattle.rake_finger.specs.InRing.{HoldsBefore};
 ghost use Rattle.rake_finger.specs.Strengths.{samples_before as samples_before_of, sample_power};

@@ -1,8 +1,8 @@
 //! The last samples.
 
+ghost use Rattle.rake_finger.specs.Common.{Sample};
 ghost use Rattle.std.specs.Prelude.{◌≡◌, ◌<◌, ◌≤◌, ◌+◌, ◌-◌, ◌%◌, ◌^◌, List, [], ◌∷◌, ◌++◌, length};
 ghost use Rattle.std.specs.Prelude.{take, drop, slice_get, Some, IfOk};
-ghost use Rattle.chip_core.specs.declared.sample.Sample.{Sample};
 ghost use Rattle.rake_finger.specs.Held.{HoldsLast};
 
 use chip_core::{OutOfMemory, Sample};

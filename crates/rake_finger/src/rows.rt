@@ -1,7 +1,7 @@
 //! The signs of a Walsh row's chips.
 
+ghost use Rattle.rake_finger.specs.Common.{sign};
 ghost use Rattle.std.specs.Prelude.{◌≡◌, ◌<◌, length};
-ghost use Rattle.chip_core.specs.Bits.{sign};
 ghost use Rattle.rake_finger.specs.RowSigns.{AreRowSigns};
 
 /// The signs of a row's 64 chips: +1 for a 0 and -1 for a 1.

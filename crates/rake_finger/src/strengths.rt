@@ -1,7 +1,7 @@
 //! The strength of a pilot.
 
+ghost use Rattle.rake_finger.specs.Common.{Sample};
 ghost use Rattle.std.specs.Prelude.{◌≡◌, ◌≤◌, ◌+◌, ◌/◌, ◌%◌, ◌^◌, List, length, unsigned_abs};
-ghost use Rattle.chip_core.specs.declared.sample.Sample.{Sample};
 ghost use Rattle.rake_finger.specs.Held.{HoldsLast};
 ghost use Rattle.rake_finger.specs.InRing.{HoldsBefore};
 ghost use Rattle.rake_finger.specs.Strengths.{strength_before, IsStrongest};

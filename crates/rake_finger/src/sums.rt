@@ -1,10 +1,9 @@
 //! Sums of despread samples.
 
+ghost use Rattle.rake_finger.specs.Common.{sign, times, conjugate, point, sum_of, of_sample};
+ghost use Rattle.rake_finger.specs.Common.{Sample};
 ghost use Rattle.std.specs.Prelude.{◌≡◌, ◌<◌, ◌≤◌, ◌+◌, ◌*◌, ◌%◌, ◌^◌, ℕ, List, pos, ◌*ℤ◌};
 ghost use Rattle.std.specs.Prelude.{unsigned_abs};
-ghost use Rattle.chip_core.specs.Bits.{sign};
-ghost use Rattle.chip_core.specs.Complex.{times, conjugate, point, sum_of, of_sample};
-ghost use Rattle.chip_core.specs.declared.sample.Sample.{Sample};
 ghost use Rattle.rake_finger.specs.Held.{HoldsLast};
 ghost use Rattle.rake_finger.specs.InRing.{IsHeldInRing};
 ghost use Rattle.rake_finger.specs.RowSigns.{AreRowSigns, AreUnitSigns};

@@ -1,8 +1,8 @@
 //! The soft value of one symbol on one finger.
 
+ghost use Rattle.rake_finger.specs.Common.{Sample};
 ghost use Rattle.std.specs.Prelude.{◌≡◌, ◌<◌, ◌≤◌, ◌+◌, ◌*◌, ◌^◌, List, pos, ◌≤ℤ◌, ◌*ℤ◌};
 ghost use Rattle.std.specs.Prelude.{unsigned_abs};
-ghost use Rattle.chip_core.specs.declared.sample.Sample.{Sample};
 ghost use Rattle.rake_finger.specs.Held.{HoldsLast};
 ghost use Rattle.rake_finger.specs.InRing.{IsInRing};
 ghost use Rattle.rake_finger.specs.Soft.{symbols, finger_place, turned_part, soft_bound};

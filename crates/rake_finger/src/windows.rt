@@ -1,9 +1,7 @@
 //! The sums of a window of the frame on one finger.
 
+ghost use Rattle.rake_finger.specs.Common.{origin, Sample, IsWithin};
 ghost use Rattle.std.specs.Prelude.{◌≡◌, ◌<◌, ◌≤◌, ◌+◌, ◌*◌, ℕ, List, get_or, unsigned_abs};
-ghost use Rattle.chip_core.specs.Complex.{origin};
-ghost use Rattle.chip_core.specs.declared.sample.Sample.{Sample};
-ghost use Rattle.walsh.specs.Walsh.{IsWithin};
 ghost use Rattle.rake_finger.specs.Held.{HoldsLast};
 ghost use Rattle.rake_finger.specs.InRing.{IsInRing};
 ghost use Rattle.rake_finger.specs.RowSigns.{AreRowSigns};

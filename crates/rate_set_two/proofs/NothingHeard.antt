@@ -1,9 +1,5 @@
 -- Soft values of 0 give no good frame.
-use Rattle.std.proofs.Common.{map}
-use Rattle.symbol_path.specs.declared.rate_two.Rate2.TheVariants.{R14400}
-use Rattle.frame_decoder.proofs.SentFormats.{nothing_decoded}
-use Rattle.rate_set_two.specs.TrafficFrames.{format_of2, as_decoded2, lower_rates2, decoded2}
-use Rattle.rate_set_two.specs.Laws.{IsNothingGood2}
+use Rattle.rate_set_two.proofs.Common.{map, R14400, nothing_decoded, format_of2, as_decoded2, lower_rates2, decoded2, IsNothingGood2}
 
 pub nothing_good : IsNothingGood2
 unfolding decoded2

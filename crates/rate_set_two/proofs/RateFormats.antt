@@ -1,9 +1,7 @@
 -- The rates of rate set 2 among one another.
-use Rattle.std.proofs.Common.{[], ◌∷◌, ◌++◌, refl}
+use Rattle.rate_set_two.proofs.Common.{[], ◌∷◌, ◌++◌, refl, R14400, R7200, R3600, R1800, lower_rates2}
 use Rattle.symbol_path.specs.declared.rate_two.Rate2.{Rate2}
-use Rattle.symbol_path.specs.declared.rate_two.Rate2.TheVariants.{R14400, R7200, R3600, R1800}
 use Rattle.frame_decoder.proofs.FormatChoice.{IsAmong}
-use Rattle.rate_set_two.specs.TrafficFrames.{lower_rates2}
 
 pub among : (rate : Rate2) → IsAmong rate (lower_rates2 ++ R14400 ∷ [])
 among R14400 = record { before = R1800 ∷ R3600 ∷ R7200 ∷ []; after = []; parted = refl }

@@ -1,9 +1,6 @@
 -- A sent frame is decoded.
-use Rattle.std.proofs.Common.{refl}
-use Rattle.symbol_path.specs.declared.rate_two.Rate2.TheVariants.{R14400}
-use Rattle.frame_decoder.proofs.SentFormats.{shown_decoded, signs_decoded}
-use Rattle.rate_set_two.specs.TrafficFrames.{format_of2, as_decoded2, lower_rates2, decoded2}
-use Rattle.rate_set_two.specs.Laws.{IsDecodedBySigns2, IsSentFrameDecoded2}
+use Rattle.rate_set_two.proofs.Common.{refl, R14400, shown_decoded, signs_decoded, format_of2, as_decoded2, lower_rates2, decoded2}
+use Rattle.rate_set_two.proofs.Common.{IsDecodedBySigns2, IsSentFrameDecoded2}
 use Rattle.rate_set_two.proofs.RateFormats.{among}
 
 pub signs_frame : IsDecodedBySigns2

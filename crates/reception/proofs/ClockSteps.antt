@@ -1,10 +1,9 @@
 -- What the clock of a channel's frames stands for, step by step, over any stream.
-use Rattle.reception.proofs.Common.{◌≡◌, ℕ, ◌+◌, ◌-◌, ◌*◌, ◌<◌, ◌≤◌, true, refl, sym, ap, ◌∙◌, arith, ◌⊎◌, inl, inr, nat_lt, false}
-use Rattle.reception.proofs.Common.{cases_Bool, cases_lt, lt-ltb, le-ltb, frame_chips, Form, Sync, Data, IsAt, IsDueAt, clock_from}
-use Rattle.reception.proofs.Common.{first_frame, frame_come, clock_after_frame, span_from, AreNear, StreamOf, frame_start, is_in_file}
-use Rattle.reception.proofs.Common.{known_at, span_first, span_frames, stream_end, FrameClock, Bool, List, if◌then◌else◌, Finger, all_begun}
-use Rattle.reception.proofs.Common.{frame_end}
-use Rattle.rake_finger.proofs.FingerTimes.{start_step, timed_in, ends_bounds, times_one}
+use Rattle.reception.proofs.Common.{◌≡◌, ℕ, ◌+◌, ◌-◌, ◌*◌, ◌<◌, ◌≤◌, true, refl, sym, ap, ◌∙◌, arith, ◌⊎◌, inl, inr, nat_lt, false, lt-ltb}
+use Rattle.reception.proofs.Common.{cases_Bool, cases_lt, le-ltb, frame_chips, Form, Sync, Data, IsAt, IsDueAt, clock_from, first_frame}
+use Rattle.reception.proofs.Common.{frame_come, clock_after_frame, span_from, AreNear, StreamOf, frame_start, is_in_file, known_at, Bool}
+use Rattle.reception.proofs.Common.{span_first, span_frames, stream_end, FrameClock, List, if◌then◌else◌, Finger, all_begun, frame_end}
+use Rattle.reception.proofs.Common.{start_step, timed_in, ends_bounds, times_one}
 use Rattle.rake_finger.proofs.FrameTimes.{ends_le, ends_lt, inside_from, inside_to, known_between, known_le, known_more, known_parts}
 use Rattle.rake_finger.proofs.Spans as spans
 

@@ -1,7 +1,7 @@
 -- Lists of fingers with one finger more.
-use Rattle.reception.proofs.Common.{◌≡◌, ℕ, ◌+◌, ◌<◌, true, List, [], ◌∷◌, ◌++◌, length, take, refl, ap, ◌∙◌, ℤ, nat_lt, get_or}
-use Rattle.reception.proofs.Common.{lt-ltb, take_more, map-append, list_all-append, list_any-append, Finger, is_near, all_near}
-use Rattle.reception.proofs.Common.{has_reference, have_rows, finger_of, fingers_of}
+use Rattle.reception.proofs.Common.{◌≡◌, ℕ, ◌+◌, ◌<◌, true, List, [], ◌∷◌, ◌++◌, length, take, refl, ap, ◌∙◌, ℤ, nat_lt, get_or, lt-ltb}
+use Rattle.reception.proofs.Common.{take_more, map-append, list_all-append, list_any-append, Finger, is_near, all_near, has_reference}
+use Rattle.reception.proofs.Common.{have_rows, finger_of, fingers_of}
 
 pub near_more : (fingers : List Finger) (f : Finger) → all_near fingers ≡ true →
     is_near f.delta ≡ true → all_near (fingers ++ f ∷ []) ≡ true

@@ -1,4 +1,3 @@
--- The modules of lemmas of `reception`.
 pub mod Common
 pub mod SoftSums
 pub mod Descrambled

@@ -1,11 +1,10 @@
 -- What a continued channel stands for, step by step, over any stream.
 use Rattle.reception.proofs.Common.{◌≡◌, ℕ, zero, suc, ◌+◌, ◌-◌, ◌*◌, ◌≤◌, List, [], ◌++◌, length, length-append, take, drop, refl, sym, ap}
 use Rattle.reception.proofs.Common.{◌∙◌, arith, true, ℤ, flat_map, drop_all, take_all, places-none, places, Sample, own_bits, symbols}
-use Rattle.reception.proofs.Common.{IsDueAt, clock_from, first_frame, frame_come, clock_after_frame, span_from, AreNear, Receives}
-use Rattle.reception.proofs.Common.{last_softs, flat_map-next}
-use Rattle.reception.proofs.Common.{StreamOf, Channel, frame_softs, span_first, span_frames, Continued, flat_map_ext_places}
+use Rattle.reception.proofs.Common.{IsDueAt, clock_from, first_frame, frame_come, clock_after_frame, span_from, AreNear, Receives, StreamOf}
+use Rattle.reception.proofs.Common.{last_softs, flat_map-next, Channel, frame_softs, span_first, span_frames, Continued, length-drop}
+use Rattle.reception.proofs.Common.{flat_map_ext_places}
 use Rattle.rake_finger.specs.Streams.{span_softs}
-use Rattle.std.proofs.lemmas.List.{length-drop}
 use Rattle.reception.proofs.ClockSteps.{clock_new, clock_more, clock_come, clock_heard, span_bounds, span_is}
 use Rattle.rake_finger.proofs.FrameTimes.{inside_from}
 use Rattle.rake_finger.proofs.Spans.{frame_softs_sooner}

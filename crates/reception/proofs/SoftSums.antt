@@ -1,8 +1,7 @@
 -- The soft values of the last frames, and what their absolute values add up to.
 use Rattle.reception.proofs.Common.{◌≡◌, ℕ, zero, suc, ◌+◌, ◌-◌, ◌*◌, ◌≤◌, List, [], ◌∷◌, ◌++◌, length, drop, refl, ap, ◌∙◌, arith, ℤ, pos}
-use Rattle.reception.proofs.Common.{replicate, length-drop, sum_by, unsigned_abs, drop-append-le, drop-drop, drop-replicate}
-use Rattle.reception.proofs.Common.{sum_by-replicate, sum_by-append, symbols, soft_bound, Form, Sync, Data, AreSmall, frame_most}
-use Rattle.reception.proofs.Common.{last_softs}
+use Rattle.reception.proofs.Common.{replicate, length-drop, sum_by, unsigned_abs, drop-append-le, drop-drop, drop-replicate, sum_by-append}
+use Rattle.reception.proofs.Common.{sum_by-replicate, symbols, soft_bound, Form, Sync, Data, AreSmall, frame_most, last_softs}
 
 -- a frame over three fingers
 pub frame_small : (form : Form) (fingers : ℕ) → fingers ≤ 3 →

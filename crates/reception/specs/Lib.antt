@@ -1,4 +1,3 @@
--- The modules of definitions of `reception`.
 pub mod Progress
 pub mod Softs
 pub mod Clocks

@@ -1,7 +1,7 @@
 //! The fingers that receive a channel of the reference base station, and where their frames lie.
 
-ghost use Rattle.std.specs.Prelude.{◌≡◌, ◌<◌, ◌≤◌, ◌^◌, true, pos, int_le, slice_get, Some};
-ghost use Rattle.std.specs.Prelude.{length, take};
+ghost use Rattle.std.specs.Prelude.{◌≡◌, ◌<◌, ◌≤◌, ◌^◌, true, pos, int_le, slice_get, Some, length};
+ghost use Rattle.std.specs.Prelude.{take};
 ghost use Rattle.rake_finger.specs.Near.{AreNear, all_begun, all_close, have_rows, is_close};
 ghost use Rattle.rake_finger.specs.Paths.{fingers_of};
 ghost use Rattle.rake_finger.specs.Soft.{frame_chips, symbols};

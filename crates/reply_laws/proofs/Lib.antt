@@ -1,4 +1,3 @@
--- The modules of lemmas of `reply_laws`.
 pub mod Common
 pub mod MadeLinks
 pub mod NoisyReplies

@@ -1,15 +1,14 @@
 -- The file that is made of a script can be read and is a clean link where the search finds the cell's path;
 -- what it is owed if the cell's pilot is louder than all of its other channels together.
 use Rattle.reply_laws.proofs.Common.{clean_sent, clean_signs, ◌≡◌, ℕ, ◌+◌, ◌-◌, ◌*◌, ◌<◌, ◌≤◌, List, ◌++◌, get_or, take, All, refl, sym, ap}
-use Rattle.reply_laws.proofs.Common.{◌∙◌, subst, arith, unsigned_abs, Option, Ok, flat_map, All-from_get_or, Sample, HasBits}
-use Rattle.reply_laws.proofs.Common.{IsLawfulHeader, IsSampleFile, header_spelling, most_samples, sample_spelling, width_of, Width, Sixteen}
-use Rattle.reply_laws.proofs.Common.{Eight, best_phase, CellPlan, IsLawfulPlan, loudness, most_part, header_of, phase_at, version_of}
-use Rattle.reply_laws.proofs.Common.{named_plan, no_sample, events, Traffic, IsOnPath, tuning_to, cell_energy, no_event_directed}
-use Rattle.reply_laws.proofs.Common.{made_samples, made_file, named_receivable, length-made, made_at, length, kept_by, run_text, clean_end}
-use Rattle.reply_laws.proofs.Common.{settings_for, tuning_for, energy, event_line, Job, Status, TrafficPlan, SendsSetOne, SendsSetTwo}
-use Rattle.reply_laws.proofs.Common.{IsLineOfSetOne, IsLineOfSetTwo, RepliesComeBack, found_alone, Event, Pilot, cell_borne, end_is}
-use Rattle.reply_laws.proofs.Common.{one_reply, IsCellFile, Done, list_job, rate2_job, HasLouderPilot, IsSmall, sample_small, part_fits}
-use Rattle.reply_laws.proofs.Common.{clean_events-are, plan_named, Header}
+use Rattle.reply_laws.proofs.Common.{◌∙◌, subst, arith, unsigned_abs, Option, Ok, flat_map, All-from_get_or, Sample, HasBits, IsSampleFile}
+use Rattle.reply_laws.proofs.Common.{IsLawfulHeader, header_spelling, most_samples, sample_spelling, width_of, Width, Sixteen, Eight, Job}
+use Rattle.reply_laws.proofs.Common.{best_phase, CellPlan, IsLawfulPlan, loudness, most_part, header_of, phase_at, version_of, named_plan}
+use Rattle.reply_laws.proofs.Common.{no_sample, events, Traffic, IsOnPath, tuning_to, cell_energy, no_event_directed, made_samples, made_at}
+use Rattle.reply_laws.proofs.Common.{made_file, named_receivable, length-made, length, kept_by, run_text, clean_end, settings_for, energy}
+use Rattle.reply_laws.proofs.Common.{tuning_for, event_line, Status, TrafficPlan, SendsSetOne, SendsSetTwo, IsLineOfSetOne, IsLineOfSetTwo}
+use Rattle.reply_laws.proofs.Common.{RepliesComeBack, found_alone, Event, Pilot, cell_borne, end_is, one_reply, IsCellFile, Done, list_job}
+use Rattle.reply_laws.proofs.Common.{rate2_job, HasLouderPilot, IsSmall, sample_small, part_fits, clean_events-are, plan_named, Header}
 use Rattle.reply_laws.proofs.Owed.{find_owes, follow_owes}
 use Rattle.reply_laws.proofs.NoisyReplies.{list_replies, rate2_replies, idle_replies}
 use Rattle.command_line.specs.declared.job.Job.TheVariants as jobs

@@ -1,11 +1,11 @@
 -- Each input is owed a reply, the number of workers changes none, and what each command owes.
-use Rattle.reply_laws.proofs.Common.{◌≡◌, ℕ, zero, suc, ◌*◌, ◌+◌, ◌≤◌, ◌++◌, inl, inr, List, [], ◌∷◌, length, take, drop, refl, sym, ap}
-use Rattle.reply_laws.proofs.Common.{◌∙◌, arith, All, append-nil, length-drop, length-take-le, take-append-drop, Ok, Err, cases_lt}
-use Rattle.reply_laws.proofs.Common.{All-cons, flat_map, read_sfits, Sample, Width, Eight, Sixteen, HasBits, integer_width_of}
-use Rattle.reply_laws.proofs.Common.{header_spelling, sample_spelling, width_of, Header, AreBytes, AreBytes-drop, AreBytes-from_all}
-use Rattle.reply_laws.proofs.Common.{AreBytes-take, opening-ok, sample_bytes, sample_in, plan_named, CellPlan, KeptTap, best_pilot}
-use Rattle.reply_laws.proofs.Common.{file_end_of, file_text, told, made_file, IsFileReply, Reply, Reception, Status, Task, Make, Receive}
-use Rattle.reply_laws.proofs.Common.{Trial, nil_from_length, none_within, whole_file}
+use Rattle.reply_laws.proofs.Common.{◌≡◌, ℕ, zero, suc, ◌*◌, ◌+◌, ◌≤◌, ◌++◌, inl, inr, List, [], ◌∷◌, length, take, drop, refl, sym, ap, Ok}
+use Rattle.reply_laws.proofs.Common.{◌∙◌, arith, All, append-nil, length-drop, length-take-le, take-append-drop, Err, cases_lt, All-cons}
+use Rattle.reply_laws.proofs.Common.{flat_map, read_sfits, Sample, Width, Eight, Sixteen, HasBits, integer_width_of, header_spelling, told}
+use Rattle.reply_laws.proofs.Common.{sample_spelling, width_of, Header, AreBytes, AreBytes-drop, AreBytes-from_all, AreBytes-take, CellPlan}
+use Rattle.reply_laws.proofs.Common.{opening-ok, sample_bytes, sample_in, plan_named, KeptTap, best_pilot, file_end_of, file_text, Reply}
+use Rattle.reply_laws.proofs.Common.{made_file, IsFileReply, Reception, Status, Task, Make, Receive, Trial, nil_from_length, none_within}
+use Rattle.reply_laws.proofs.Common.{whole_file}
 use Rattle.owed_replies.proofs.Common.{Result, opening, sample_len, FileFault, Extra, Short, TooFew, ScriptFault, IsFaultIn, file_end}
 use Rattle.owed_replies.proofs.Common.{IsScriptReply, IsTaskReply, IsWholeFile, taps_by, task_of, trial_line}
 use Rattle.reply_laws.specs.ReplyLaws.{EachInputIsOwed, FindOwesThePilot, FollowOwesTheEvents, IdleOwesTheSlots, ListOwesTheFrames}

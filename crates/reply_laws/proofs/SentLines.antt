@@ -1,19 +1,19 @@
 -- The lines of a traffic channel's frames come back.
-use Rattle.reply_laws.proofs.Common.{◌≡◌, ◌≤◌, ℕ, ◌*◌, refl, sym, ap, ◌∙◌, subst, arith, List, [], ◌∷◌, length, Option, ℤ, None, Some}
-use Rattle.reply_laws.proofs.Common.{Contains, flat_map, Sample, Width, decoded2, sent_frame_state, Header, CellPlan, TrafficPlan}
-use Rattle.reply_laws.proofs.Common.{event_line, frame2_line, traffic_channel, mark, Tuning, Mark, Traffic, IsReceivable, HoldsAfterMark}
-use Rattle.reply_laws.proofs.Common.{MarkIsAt, TrafficFrameHasSigns, frames_after_mark, near_frame, set_two_after_mark, SendsSetOne}
-use Rattle.reply_laws.proofs.Common.{SendsSetTwo, power_pairs, one_taken, one_there, lawful_traffic, set_one_sends, listed_texts}
-use Rattle.reply_laws.proofs.Common.{rate2_texts, decoded_line, frames_text, listed_text, rate2_text, text_if_marked, tuned_text, TunedText}
-use Rattle.reply_laws.proofs.Common.{Listed, RateSetTwo, IsLineOfSetOne, IsLineOfSetTwo, LinesComeBack, Bears, Decoded2, signs_frame_listed}
-use Rattle.reply_laws.proofs.Common.{good_frame2, traffic_sent, listed, IsBorneFile, long, nat_le, places, decoded_by_one_codeword}
-use Rattle.reply_laws.proofs.Common.{channel_stream, reference_alone, decoded_alone, power_alone, text_from}
-use Rattle.clean_link.proofs.Common.{◌%◌, Bool, flat_map-map, CheckForm, traffic_mask, IsTrafficFrame, SetOne, planned, one_in_turn}
+use Rattle.reply_laws.proofs.Common.{◌≡◌, ◌≤◌, ℕ, ◌*◌, refl, sym, ap, ◌∙◌, subst, arith, List, [], ◌∷◌, length, Option, ℤ, None, Some, mark}
+use Rattle.reply_laws.proofs.Common.{Contains, flat_map, Sample, Width, decoded2, sent_frame_state, Header, CellPlan, TrafficPlan, Tuning}
+use Rattle.reply_laws.proofs.Common.{event_line, frame2_line, traffic_channel, Mark, Traffic, IsReceivable, HoldsAfterMark, MarkIsAt, Bears}
+use Rattle.reply_laws.proofs.Common.{TrafficFrameHasSigns, frames_after_mark, near_frame, set_two_after_mark, SendsSetOne, SendsSetTwo}
+use Rattle.reply_laws.proofs.Common.{power_pairs, one_taken, one_there, lawful_traffic, set_one_sends, listed_texts, rate2_texts, TunedText}
+use Rattle.reply_laws.proofs.Common.{decoded_line, frames_text, listed_text, rate2_text, text_if_marked, tuned_text, Listed, RateSetTwo}
+use Rattle.reply_laws.proofs.Common.{IsLineOfSetOne, IsLineOfSetTwo, LinesComeBack, Decoded2, signs_frame_listed, good_frame2, traffic_sent}
+use Rattle.reply_laws.proofs.Common.{listed, IsBorneFile, long, nat_le, places, decoded_by_one_codeword, channel_stream, reference_alone}
+use Rattle.reply_laws.proofs.Common.{decoded_alone, power_alone, text_from}
+use Rattle.clean_link.proofs.Common.{◌%◌, Bool, flat_map-map, CheckForm, traffic_mask, IsTrafficFrame, SetOne, planned, one_in_turn, Data}
 use Rattle.clean_link.proofs.Common.{frames_of, cycled_frame, set_one, IsSetOneFrame, SetOneFrame, SetTwoFrame, soft_frames, frame_event}
 use Rattle.clean_link.proofs.Common.{SoftFrame, frame_ends, received_frames, replaced_of, sent_bits, sent_power_bits, codeword_symbols}
-use Rattle.clean_link.proofs.Common.{AreReceivedFrom, traffic_carrier, SendsSymbols, cycled_frame2, Decoded, IsReceivedBySigns}
-use Rattle.clean_link.proofs.Common.{IsSentFrame2BySigns, Data, ◌&&◌, flat_map_ext_filter, paging_bound, frames_within, soft_frame}
-use Rattle.clean_link.proofs.Common.{is_in_file, known_at, known_by, power_bits_at, decoded_at, replaced_in}
+use Rattle.clean_link.proofs.Common.{AreReceivedFrom, traffic_carrier, SendsSymbols, cycled_frame2, Decoded, IsReceivedBySigns, ◌&&◌}
+use Rattle.clean_link.proofs.Common.{IsSentFrame2BySigns, flat_map_ext_filter, paging_bound, frames_within, soft_frame, is_in_file}
+use Rattle.clean_link.proofs.Common.{known_at, known_by, power_bits_at, decoded_at, replaced_in}
 use Rattle.reply_laws.specs.SentLines.{AreSentLines, IsSentLine, IsSentLine2, IsSentText, ListedLinesComeBack, SetTwoLinesComeBack}
 use Rattle.reply_laws.specs.SentLines.{followed_frame_line, OneCodewordFollows, OneCodewordFollowsFrame}
 

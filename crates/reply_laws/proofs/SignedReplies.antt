@@ -1,14 +1,14 @@
 -- What is owed of a file of any origin comes back by the signs of its soft values.
 use Rattle.reply_laws.proofs.Common.{◌≤◌, ◌≡◌, ℕ, List, [], ◌∷◌, length, take, map, refl, sym, ap, ◌∙◌, subst, Option, None, Some, Ok, Err}
-use Rattle.reply_laws.proofs.Common.{Contains, Sample, Width, Header, CellPlan, TrafficPlan, Traffic, IsOnPath, Tuning, Mark, mark}
-use Rattle.reply_laws.proofs.Common.{SendsSetOne, SendsSetTwo, TunedText, Listed, RateSetTwo, traffic_channel, Job, IsSampleFile, Status}
-use Rattle.reply_laws.proofs.Common.{IsReply, Reply, IsLineOfSetOne, IsLineOfSetTwo, IsSentReply, OwesTheFrames, told_with_sync, MarkIsAt}
+use Rattle.reply_laws.proofs.Common.{Contains, Sample, Width, Header, CellPlan, TrafficPlan, Traffic, IsOnPath, Tuning, Mark, mark, Listed}
+use Rattle.reply_laws.proofs.Common.{SendsSetOne, SendsSetTwo, TunedText, RateSetTwo, traffic_channel, Job, IsSampleFile, Status, IsReply}
+use Rattle.reply_laws.proofs.Common.{Reply, IsLineOfSetOne, IsLineOfSetTwo, IsSentReply, OwesTheFrames, told_with_sync, MarkIsAt, kept_by}
 use Rattle.reply_laws.proofs.Common.{MarksAreAt, TrafficFrameHasSigns, IsFileOnPath, IsReplyFrom, SignedRepliesComeBack, channels_by_signs}
-use Rattle.reply_laws.proofs.Common.{no_event_directed, all_by_signs, tells_the_mark, kept_by, run_text, events, settings_for, tuning_for}
-use Rattle.reply_laws.proofs.Common.{end_when, clean_end, slot_texts_back, energy, best_phase, near_deltas, one_near, written_of_slots}
-use Rattle.reply_laws.proofs.Common.{arith, suc, Bears, FileSlotsComeBack, IsAssigned, is_some, nat_lt, lt-ltb, SyncPlan, told_by_first}
-use Rattle.reply_laws.proofs.Common.{whole_sendings, events_of_channel, sending_event, sync_sent, sent_events, IsBorneFile, signs}
-use Rattle.reply_laws.proofs.Common.{one_reply, near_long, own_delta, LinesComeBack, list_job, rate2_job, ap₂}
+use Rattle.reply_laws.proofs.Common.{no_event_directed, all_by_signs, tells_the_mark, run_text, events, settings_for, tuning_for, end_when}
+use Rattle.reply_laws.proofs.Common.{clean_end, slot_texts_back, energy, best_phase, near_deltas, one_near, written_of_slots, arith, suc}
+use Rattle.reply_laws.proofs.Common.{Bears, FileSlotsComeBack, IsAssigned, is_some, nat_lt, lt-ltb, SyncPlan, told_by_first, whole_sendings}
+use Rattle.reply_laws.proofs.Common.{events_of_channel, sending_event, sync_sent, sent_events, IsBorneFile, signs, one_reply, near_long}
+use Rattle.reply_laws.proofs.Common.{own_delta, LinesComeBack, list_job, rate2_job, ap₂}
 use Rattle.reply_laws.proofs.Owed.{follow_owes, idle_owes, list_owes, rate2_owes}
 use Rattle.reply_laws.proofs.SentLines.{all_lines, borne_signs, listed_lines, set_two_lines}
 use Rattle.reply_laws.specs.SignedReplies as laws

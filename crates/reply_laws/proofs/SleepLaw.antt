@@ -1,15 +1,15 @@
 -- What is owed of a file whose slots a sleeping handset hears doesn't depend on what it sleeps through: the
 -- paths that the search hands on are near enough for it to follow.
-use Rattle.reply_laws.proofs.Common.{◌≡◌, ℕ, ◌≤◌, ◌++◌, List, [], length, take, sym, ap, ◌∙◌, subst, arith, Option, Some, Ok, is_some}
-use Rattle.reply_laws.proofs.Common.{Sample, Header, KeptTap, mark, Tuning, Channel, Paging, Mark, timed_of, mark_set, tuned_text}
-use Rattle.reply_laws.proofs.Common.{TunedText, Slots, same_mark, sleeps, mark_is_late, end_when, file_end_of, file_text, first_text}
-use Rattle.reply_laws.proofs.Common.{is_told, listening, told, tuning_for, waiting, IsFileReply, Reply, SleepChangesNoReply, Purpose, Tuned}
-use Rattle.reply_laws.proofs.Common.{Reception, one_file_reply, whole_file, refl, IsBestIn, ◌≢◌, zero, suc, ◌<◌, ◌∷◌, get_or, inl, inr, ℤ}
-use Rattle.reply_laws.proofs.Common.{All, nat_eq, int_le, unsigned_abs, cases_lt, nat_tests, All-cons, All-head, All-nil, All-tail}
-use Rattle.reply_laws.proofs.Common.{best_phase, energy, best_phase-is, near_deltas, one_delta, all_near, is_near, IsFingers, near_phase_at}
-use Rattle.reply_laws.proofs.Common.{free_taken, scanned, first_places, greatest_unless, place_back, near_place, near_value}
-use Rattle.clean_link.proofs.Common.{take-take, AreNear, sync_stream, known_between, true, false, pos, negsuc, ◌-ℤ◌, and_from, le-leb}
-use Rattle.clean_link.proofs.Common.{lt-leb, ints, fingers_of, list_any}
+use Rattle.reply_laws.proofs.Common.{◌≡◌, ℕ, ◌≤◌, ◌++◌, List, [], length, take, sym, ap, ◌∙◌, subst, arith, Option, Some, Ok, is_some, mark}
+use Rattle.reply_laws.proofs.Common.{Sample, Header, KeptTap, Tuning, Channel, Paging, Mark, timed_of, mark_set, tuned_text, TunedText, ◌≢◌}
+use Rattle.reply_laws.proofs.Common.{Slots, same_mark, sleeps, mark_is_late, end_when, file_end_of, file_text, first_text, is_told, told, ℤ}
+use Rattle.reply_laws.proofs.Common.{listening, tuning_for, waiting, IsFileReply, Reply, SleepChangesNoReply, Purpose, Tuned, Reception}
+use Rattle.reply_laws.proofs.Common.{one_file_reply, whole_file, refl, IsBestIn, zero, suc, ◌<◌, ◌∷◌, get_or, inl, inr, All, nat_eq, int_le}
+use Rattle.reply_laws.proofs.Common.{unsigned_abs, cases_lt, nat_tests, All-cons, All-head, All-nil, All-tail, best_phase, energy, all_near}
+use Rattle.reply_laws.proofs.Common.{best_phase-is, near_deltas, one_delta, is_near, IsFingers, near_phase_at, free_taken, scanned}
+use Rattle.reply_laws.proofs.Common.{first_places, greatest_unless, place_back, near_place, near_value}
+use Rattle.clean_link.proofs.Common.{take-take, AreNear, sync_stream, known_between, true, false, pos, negsuc, ◌-ℤ◌, and_from, le-leb, ints}
+use Rattle.clean_link.proofs.Common.{lt-leb, fingers_of, list_any}
 
 -- ---- the phase that comes next
 

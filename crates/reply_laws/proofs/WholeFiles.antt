@@ -1,21 +1,21 @@
 -- Whole files meet every premise of the laws.
 use Rattle.reply_laws.proofs.Common.{◌≡◌, ◌≤◌, ℕ, List, [], ◌∷◌, ◌-◌, ◌≢◌, length, map, take, refl, sym, ap, ◌∙◌, subst, arith, Some, None}
-use Rattle.reply_laws.proofs.Common.{Ok, All, All-nil, IsReceivable, Sample, Sixteen, IsSampleFile, IsNoisyFile, Status, TrafficPlan}
-use Rattle.reply_laws.proofs.Common.{clean_end, end_when, is_some, mark, events, kept_by, run_text, settings_for, tuning_for, header_of}
+use Rattle.reply_laws.proofs.Common.{Ok, All, All-nil, IsReceivable, Sample, Sixteen, IsSampleFile, IsNoisyFile, Status, TrafficPlan, mark}
+use Rattle.reply_laws.proofs.Common.{clean_end, end_when, is_some, events, kept_by, run_text, settings_for, tuning_for, header_of, places}
 use Rattle.reply_laws.proofs.Common.{length-made, made_samples, named_receivable, plan_named, digits_from, decode_pairs, whole_sendings}
-use Rattle.reply_laws.proofs.Common.{pages_told, sync_told, meets_premises, sending_event, sync_sent, places, some_message, some_sync}
-use Rattle.reply_laws.proofs.Common.{spelling, phase_at, sent_events, energy, cell, cell_beside, file, noisy_paging_plan, sync_with}
-use Rattle.reply_laws.proofs.Common.{less_borne, pilots_bear, plan_files, Job, IsReply, Reply, Done, HasLouderPilot, Bears, IsMargin}
-use Rattle.reply_laws.proofs.Common.{IsHeardThrough, All-cons, All-head, All-tail, codes}
-use Rattle.reply_laws.proofs.MadeLinks.{clean_links, enough, louder_follow, readable, lawful_readable}
-use Rattle.reply_laws.proofs.NoisyReplies.{noisy_whole, comes_back}
-use Rattle.reply_laws.proofs.Owed.{follow_owes}
+use Rattle.reply_laws.proofs.Common.{pages_told, sync_told, meets_premises, sending_event, sync_sent, some_message, some_sync, spelling}
+use Rattle.reply_laws.proofs.Common.{phase_at, sent_events, energy, cell, cell_beside, file, noisy_paging_plan, sync_with, less_borne, Job}
+use Rattle.reply_laws.proofs.Common.{pilots_bear, plan_files, IsReply, Reply, Done, HasLouderPilot, Bears, IsMargin, IsHeardThrough, codes}
+use Rattle.reply_laws.proofs.Common.{All-cons, All-head, All-tail}
 use Rattle.clean_link.proofs.Common.{IsNotDirected, IsFreeOf, heard_after, sending_ends, capsule, check_bits, sync_body, sync_capsule}
 use Rattle.clean_link.proofs.Common.{signaling_sent}
 use Rattle.cell_script.proofs.Common.{admits, binary, bits_in_text, bits_left, cell_in, draft_after, fill, freq_in, hex_bits, hex_from}
 use Rattle.cell_script.proofs.Common.{is_body, is_line, length_before, lines, link_in, number_up_to, numbers_in, page_stage, paging_in}
 use Rattle.cell_script.proofs.Common.{past, past_freq, past_numbers, pilot_in, script_field, signed_in, state_in, stated, stated_page_in}
 use Rattle.cell_script.proofs.Common.{stated_plan, statement_in, sync_after, sync_in, with_line, with_next}
+use Rattle.reply_laws.proofs.MadeLinks.{clean_links, enough, louder_follow, readable, lawful_readable}
+use Rattle.reply_laws.proofs.NoisyReplies.{noisy_whole, comes_back}
+use Rattle.reply_laws.proofs.Owed.{follow_owes}
 use Rattle.reply_laws.specs.WholeFiles.{ComesBackThroughAnyNoise, loud_cell, script_with_pilot, second_messages, second_paging, second_with}
 use Rattle.reply_laws.specs.WholeFiles.{MeetsEachPremise, MeetsEachNoisePremise, margin_bytes, second_cell, second_file, second_header}
 use Rattle.reply_laws.specs.WholeFiles.{second_script, second_text}

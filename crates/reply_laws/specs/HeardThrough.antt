@@ -1,12 +1,11 @@
 -- What each command owes of a file with noise, if the script alone shows that its cell is heard
 -- through noise of that size. The only premise on the file is that it is near.
-use Rattle.reply_laws.specs.Common.{◌≡◌, ◌≤◌, ℕ, List, take, All, Option, None, Some, Ok, Contains}
-use Rattle.reply_laws.specs.Common.{Traffic, Sample, Width, IsSampleFile, Header, made_samples}
-use Rattle.reply_laws.specs.Common.{phase_at, CellPlan, PagingPlan, TrafficPlan, IsAssigned}
-use Rattle.reply_laws.specs.Common.{SendsSetOne, SendsSetTwo, IsNotDirected, HearsBearing}
-use Rattle.reply_laws.specs.Common.{FollowsSent, signaling_sent, Bears, IsNear, Job, event_line}
-use Rattle.reply_laws.specs.Common.{kept_by, run_text, Event, Pilot, clean_end, IsReply, Reply}
-use Rattle.reply_laws.specs.Common.{Done, energy, slots_sent}
+use Rattle.reply_laws.specs.Common.{signaling_sent, IsNotDirected, IsSampleFile, made_samples, List}
+use Rattle.reply_laws.specs.Common.{HearsBearing, TrafficPlan, SendsSetOne, SendsSetTwo, PagingPlan}
+use Rattle.reply_laws.specs.Common.{FollowsSent, IsAssigned, event_line, slots_sent, clean_end, ◌≡◌}
+use Rattle.reply_laws.specs.Common.{Contains, phase_at, CellPlan, run_text, Traffic, kept_by, Width}
+use Rattle.reply_laws.specs.Common.{IsReply, Option, Sample, Header, IsNear, energy, Bears, Event}
+use Rattle.reply_laws.specs.Common.{Pilot, Reply, take, None, Some, Done, ◌≤◌, All, Job, Ok, ℕ}
 use Rattle.reply_laws.specs.SignedReplies.{list_job, rate2_job, IsWholeReply}
 use Rattle.reply_laws.specs.NoisyReplies.{IsBearingTraffic, IsHeardThrough}
 use Rattle.reply_laws.specs.SentLines.{IsLineOfSetOne, IsLineOfSetTwo}

@@ -1,4 +1,3 @@
--- The modules of definitions of `reply_laws`.
 pub mod Common
 pub mod HeardThrough
 pub mod MadeLinks

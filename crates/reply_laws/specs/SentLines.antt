@@ -1,13 +1,12 @@
 -- The lines of a traffic channel's frames, and of a paging channel's slots, in a file of any origin.
 use Rattle.reply_laws.specs.Common.{◌≡◌, ◌≤◌, ℕ, ◌*◌, true, List, [], ◌∷◌, length, Option, None}
 use Rattle.reply_laws.specs.Common.{Some, Contains, flat_map, Sample, Width, CellPlan, TrafficPlan}
-use Rattle.reply_laws.specs.Common.{event_line, frame2_line, Traffic, IsAssigned, SendsSetOne}
+use Rattle.reply_laws.specs.Common.{event_line, frame2_line, Traffic, IsAssigned, SendsSetOne, mark}
 use Rattle.reply_laws.specs.Common.{SendsSetTwo, sent_frame_event, cycled_frame2, sent_decoded2}
-use Rattle.reply_laws.specs.Common.{IsDistinctFrame2, IsReceivable, IsOnPath, MarkIsAt}
-use Rattle.reply_laws.specs.Common.{TrafficFrameHasSigns, mark, Tuning, tuned_text, TunedText}
-use Rattle.reply_laws.specs.Common.{Listed, RateSetTwo, reference_alone, Mark, tuned_frame_text}
-use Rattle.reply_laws.specs.Common.{PagingPlan, Paging, FromMark, PagingFrameHasSigns, slots_after}
-use Rattle.reply_laws.specs.Common.{Slots}
+use Rattle.reply_laws.specs.Common.{IsDistinctFrame2, IsReceivable, IsOnPath, MarkIsAt, Tuning}
+use Rattle.reply_laws.specs.Common.{TrafficFrameHasSigns, tuned_text, TunedText, Listed, RateSetTwo}
+use Rattle.reply_laws.specs.Common.{reference_alone, Mark, tuned_frame_text, PagingPlan, Paging}
+use Rattle.reply_laws.specs.Common.{FromMark, PagingFrameHasSigns, slots_after, Slots}
 use Rattle.clean_link.specs.Common.{superframe_chips, Decoded, Decoded2, frames_of, SetOneFrame}
 use Rattle.clean_link.specs.Common.{SetTwoFrame, cycled_frame, traffic_channel, frame_event}
 use Rattle.clean_link.specs.Common.{soft_frame, soft_frames, frame_heard, SoftFrame}

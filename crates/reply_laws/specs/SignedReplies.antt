@@ -2,13 +2,13 @@
 -- signs that a cell sends, exactly what the cell sends.
 use Rattle.reply_laws.specs.Common.{◌≡◌, ◌≤◌, ℕ, List, length, take, All, Option, None, Ok, Err}
 use Rattle.reply_laws.specs.Common.{is_some, Contains, Traffic, Sample, Width, IsSampleFile, Header}
-use Rattle.reply_laws.specs.Common.{best_phase, energy, IsReceivable, phase_at, CellPlan}
-use Rattle.reply_laws.specs.Common.{PagingPlan, TrafficPlan, events, kept_by, run_text, IsAssigned}
-use Rattle.reply_laws.specs.Common.{SendsSetOne, SendsSetTwo, told_with_sync, HearsBySigns}
+use Rattle.reply_laws.specs.Common.{best_phase, energy, IsReceivable, phase_at, CellPlan, events}
+use Rattle.reply_laws.specs.Common.{PagingPlan, TrafficPlan, kept_by, run_text, IsAssigned, Job}
+use Rattle.reply_laws.specs.Common.{SendsSetOne, SendsSetTwo, told_with_sync, HearsBySigns, IsReply}
 use Rattle.reply_laws.specs.Common.{IsNotDirected, sent_events, FollowedHaveSigns, FollowsSent}
-use Rattle.reply_laws.specs.Common.{signaling_sent, FromMark, HasSyncSigns, MarksAreAt}
-use Rattle.reply_laws.specs.Common.{PagingFrameHasSigns, TrafficFrameHasSigns, slots_after, Job}
-use Rattle.reply_laws.specs.Common.{clean_end, end_when, settings_for, tuning_for, IsReply, Reply}
+use Rattle.reply_laws.specs.Common.{signaling_sent, FromMark, HasSyncSigns, MarksAreAt, slots_after}
+use Rattle.reply_laws.specs.Common.{PagingFrameHasSigns, TrafficFrameHasSigns, clean_end, end_when}
+use Rattle.reply_laws.specs.Common.{settings_for, tuning_for, Reply}
 use Rattle.reply_laws.specs.SentLines.{IsLineOfSetOne, IsLineOfSetTwo, IsSentText}
 use Rattle.command_line.specs.declared.job.Job.TheVariants as jobs
 

@@ -2,17 +2,17 @@
 -- the size of its margin, and all files of a cell with noise up to its margin.
 use Rattle.reply_laws.specs.Common.{◌≡◌, ◌≤◌, ◌↔◌, ◌⊎◌, ◌++◌, ◌/◌, ℕ, List, [], ◌∷◌, codes, false}
 use Rattle.reply_laws.specs.Common.{replicate, take, None, Option, Some, Ok, IsSampleFile, Header}
-use Rattle.reply_laws.specs.Common.{IsFreeOf, made_samples, header_of, phase_at, CellPlan}
-use Rattle.reply_laws.specs.Common.{PagingPlan, plan_named, sync_sent, cell, cell_beside, file}
-use Rattle.reply_laws.specs.Common.{last_page, sync_event, sync_with, FollowsSent, paging_sent}
-use Rattle.reply_laws.specs.Common.{sent_events, IsMargin, cell_with, kept_by, run_text, Event}
-use Rattle.reply_laws.specs.Common.{IsCleanLink, clean_events, made_file, AnswersAfter, IsReply}
-use Rattle.reply_laws.specs.Common.{Reply, Status, Done, NoMemory, energy}
+use Rattle.reply_laws.specs.Common.{IsFreeOf, made_samples, header_of, phase_at, CellPlan, cell}
+use Rattle.reply_laws.specs.Common.{PagingPlan, plan_named, sync_sent, cell_beside, file, last_page}
+use Rattle.reply_laws.specs.Common.{sync_event, sync_with, FollowsSent, paging_sent, sent_events}
+use Rattle.reply_laws.specs.Common.{IsMargin, cell_with, kept_by, run_text, Event, IsCleanLink}
+use Rattle.reply_laws.specs.Common.{clean_events, made_file, AnswersAfter, IsReply, Reply, Status}
+use Rattle.reply_laws.specs.Common.{Done, NoMemory, energy}
+use Rattle.clean_link.specs.Common.{binary, Plain, Sixteen, Sync, message_of, some_message}
+use Rattle.clean_link.specs.Common.{some_sync, sync_capsule}
 use Rattle.reply_laws.specs.HeardThrough.{ComesBackThrough, HoldsOfNearReplies}
 use Rattle.reply_laws.specs.MadeLinks.{HasLouderPilot}
 use Rattle.reply_laws.specs.NoisyReplies.{IsHeardThrough, IsNoisyFile}
-use Rattle.clean_link.specs.Common.{binary, Plain, Sixteen, Sync, message_of, some_message}
-use Rattle.clean_link.specs.Common.{some_sync, sync_capsule}
 use Rattle.command_line.specs.declared.job.Job.TheVariants as jobs
 
 -- ---- without noise

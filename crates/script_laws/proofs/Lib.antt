@@ -1,2 +1,1 @@
--- The modules of lemmas of `script_laws`.
 pub mod LineFaults

@@ -1,4 +1,3 @@
--- The modules of definitions of `short_code`.
 pub mod Despread
 pub mod ShortCode
 pub mod Worked

@@ -1,7 +1,7 @@
 -- The pilot's two codes: maximal sequences of period 32,767 with one chip inserted (TIA/EIA-95-B,
 -- 7.1.3.1.9).
-use Rattle.std.specs.Prelude.{ℕ, zero, suc, ◌-◌, Bool, true, false, cond, List, [], ◌∷◌, get_or}
-use Rattle.std.specs.Prelude.{◌==◌, map, ℤ}
+use Rattle.std.specs.Prelude.{ℕ, zero, suc, ◌-◌, Bool, true, false, cond, List, [], ◌∷◌, get_or, ℤ}
+use Rattle.std.specs.Prelude.{◌==◌, map}
 use Rattle.chip_core.specs.Bits.{parity, places, sign}
 
 -- I(n) is the sum of the chips that lie so many places back, and Q(n) likewise

@@ -1,22 +1,22 @@
 -- What is written of a file, slot by slot.
-use Rattle.std.proofs.Common.{nat_le, nat_lt}
-use Rattle.std.proofs.Math.Bool.{and-false, and-true}
-use Rattle.std.proofs.lemmas.Bool.{and_parts}
 use Rattle.clean_frames.proofs.Common.{take_at, flat_map-add, size_large, is_between}
 use Rattle.clean_link.proofs.Common.{◌≡◌, ℕ, ◌+◌, ◌-◌, ◌*◌, ◌<◌, ◌≤◌, ◌&&◌, Bool, true, false, List, [], length, filter, refl, sym, ap, ◌∙◌}
 use Rattle.clean_link.proofs.Common.{arith, inl, inr, Option, None, Some, subst, zero, suc, ◌++◌, take, drop, ℤ, ◌∷◌, map, if◌then◌else◌}
-use Rattle.clean_link.proofs.Common.{Contains, flat_map, and_from, cases_Bool, false_from_ne_true, le-leb, places, filter_enough}
-use Rattle.clean_link.proofs.Common.{filter_ext_places, filter_none_places, flat_map_ext_filter_places, flat_map_ext_places, Sample, Width}
-use Rattle.clean_link.proofs.Common.{sent_paging_rate, page_cycle, CellPlan, PagingPlan, SyncPlan, mark, is_in_file, frame_softs, Stream}
-use Rattle.clean_link.proofs.Common.{Tuning, Mark, IsOnPath, IsTrueMark, FromMark, MarkIsAt, PagingFrameHasSigns, IsReceivable}
-use Rattle.clean_link.proofs.Common.{IsStatedPaging, All-contains, CheckForm, Rate, HasSign, cycle_frame_bits, cycled, paging_frame_size}
-use Rattle.clean_link.proofs.Common.{cycle_of, drop_at, flat_map-next, flat_map-zero, data_shape, sent, repeats_of, length-sent, IsAllowed}
-use Rattle.clean_link.proofs.Common.{continued_symbols, option_to_list, flat_map-map, capsule, M30, half_frame_body}
-use Rattle.clean_link.proofs.Common.{half_frame_capsule_ending, paging_reading, PagingMessage, as_spelled_page, ReadPage}
-use Rattle.clean_link.proofs.Common.{capsules_with_frames, cycle_half_frames, frame_capsules, placed, sending_of, Placed}
+use Rattle.clean_link.proofs.Common.{Contains, flat_map, and_from, cases_Bool, false_from_ne_true, le-leb, places, filter_enough, Sample}
+use Rattle.clean_link.proofs.Common.{filter_ext_places, filter_none_places, flat_map_ext_filter_places, flat_map_ext_places, Width, mark}
+use Rattle.clean_link.proofs.Common.{sent_paging_rate, page_cycle, CellPlan, PagingPlan, SyncPlan, is_in_file, frame_softs, Stream, Tuning}
+use Rattle.clean_link.proofs.Common.{Mark, IsOnPath, IsTrueMark, FromMark, MarkIsAt, PagingFrameHasSigns, IsReceivable, IsStatedPaging, M30}
+use Rattle.clean_link.proofs.Common.{All-contains, CheckForm, Rate, HasSign, cycle_frame_bits, cycled, paging_frame_size, cycle_of, drop_at}
+use Rattle.clean_link.proofs.Common.{flat_map-next, flat_map-zero, data_shape, sent, repeats_of, length-sent, IsAllowed, continued_symbols}
+use Rattle.clean_link.proofs.Common.{option_to_list, flat_map-map, capsule, half_frame_body, half_frame_capsule_ending, paging_reading}
+use Rattle.clean_link.proofs.Common.{PagingMessage, as_spelled_page, ReadPage, capsules_with_frames, cycle_half_frames, frame_capsules}
+use Rattle.clean_link.proofs.Common.{placed, sending_of, Placed}
 use Rattle.clean_signal.proofs.Common.{HaveSigns, Free, own_bits, Channel, length-frames, span_codeword, mul-le-mul_right}
 use Rattle.heard_events.proofs.Common.{channel_stream}
 use Rattle.paging_message.proofs.Common.{capsules_in}
+use Rattle.std.proofs.Common.{nat_le, nat_lt}
+use Rattle.std.proofs.Math.Bool.{and-false, and-true}
+use Rattle.std.proofs.lemmas.Bool.{and_parts}
 use Rattle.paging_message.proofs.Scans.{ended_by-append}
 use Rattle.clean_frames.proofs.pages.CyclesBack.{stated_pages, cycle_some, page_sendings_back}
 use Rattle.clean_link.proofs.frames.ChannelFrames.{paging_frame_shown, read_after}

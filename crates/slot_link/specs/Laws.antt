@@ -1,13 +1,13 @@
 -- The laws of slots, by the signs of a paging channel's soft values.
-use Rattle.std.specs.List.{Contains, flat_map}
-use Rattle.std.specs.Prelude.{ℕ, ◌+◌, ◌*◌, ◌<◌, ◌≡◌, Bool, List, length, ℤ, Some, ◌-◌, ◌/◌}
-use Rattle.std.specs.Prelude.{if◌then◌else◌, nat_lt, [], filter, Option, None, map}
 use Rattle.clean_frames.specs.Common.{CheckForm, cycled, paging_frame_size, half_frame_body}
 use Rattle.clean_frames.specs.Common.{PagingMessage}
 use Rattle.clean_link.specs.Common.{superframe_chips, places, Sample, Width, sent, Rate, page_cycle}
 use Rattle.clean_link.specs.Common.{sent_paging_rate, continued_symbols, CellPlan, Page, PagingPlan}
 use Rattle.clean_link.specs.Common.{SyncPlan, mark, Tuning, Mark, IsReceivable}
 use Rattle.clean_signal.specs.Common.{HaveSigns}
+use Rattle.std.specs.List.{Contains, flat_map}
+use Rattle.std.specs.Prelude.{ℕ, ◌+◌, ◌*◌, ◌<◌, ◌≡◌, Bool, List, length, ℤ, Some, ◌-◌, ◌/◌, nat_lt}
+use Rattle.std.specs.Prelude.{if◌then◌else◌, [], filter, Option, None, map}
 use Rattle.clean_frames.specs.WholePages.{AreWholePages, end_chip, message_in, cycle_half_frames}
 use Rattle.clean_frames.specs.WholePages.{is_between, placed, Placed}
 use Rattle.clean_frames.specs.WholeSendings.{told_with_sync}

@@ -1,3 +1,2 @@
--- The modules of definitions of `slot_link`.
 pub mod Laws
 mod Worked

@@ -1,8 +1,8 @@
 -- Worked values of the pages in a slot, which the checker computes.
-use Rattle.std.specs.Prelude.{◌≡◌, refl, true, false, List, [], ◌∷◌, ◌++◌, replicate}
 use Rattle.clean_frames.specs.Common.{PagingMessage}
 use Rattle.clean_link.specs.Common.{binary, places, Plain, capsule, check_bits, R9600, fill, framed}
 use Rattle.clean_link.specs.Common.{half_frames_of, laid_on, page_cycle, Page}
+use Rattle.std.specs.Prelude.{◌≡◌, refl, true, false, List, [], ◌∷◌, ◌++◌, replicate}
 use Rattle.paging_message.specs.Reading.{message_at}
 use Rattle.paging_message.specs.declared.message.PagingMessage.TheVariants.{Other}
 use Rattle.slot_link.specs.Laws.{pages_in_slot}

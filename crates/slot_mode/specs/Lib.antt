@@ -1,4 +1,3 @@
--- The modules of definitions of `slot_mode`.
 pub mod Frames
 pub mod Laws
 pub mod Slots

@@ -4,8 +4,8 @@ ghost use Rattle.std.specs.Prelude.{◌≡◌, ◌<◌, ◌≤◌, ◌+◌, ◌*
 ghost use Rattle.std.specs.Prelude.{unsigned_abs};
 ghost use Rattle.paging_message.specs.HalfFrames.{half_frame_body};
 ghost use Rattle.frame_decoder.specs.Spans.{paging_channel};
-ghost use Rattle.slot_mode.specs.Frames.{slot_span_first, span_end, slot_span_softs};
-ghost use Rattle.slot_mode.specs.Frames.{slot_frame_bits, slot_bits};
+ghost use Rattle.slot_mode.specs.Frames.{slot_span_first, span_end, slot_span_softs, slot_bits};
+ghost use Rattle.slot_mode.specs.Frames.{slot_frame_bits};
 
 use crate::wake::Wake;
 use chip_core::Bits;

@@ -1,8 +1,8 @@
 -- Soft values agree with what is sent as their sums agree with the code symbols.
-use Rattle.symbol_path.proofs.Common.{◌≡◌, ℕ, zero, suc, ◌+◌, ◌*◌, ◌/◌, ◌<◌, Bool, true, false, List, [], ◌∷◌, length, get_or, refl, sym}
-use Rattle.symbol_path.proofs.Common.{ap, ◌∙◌, arith, add-one, ℤ, pos, ◌+ℤ◌, ◌*ℤ◌, sign, sum_below, sum_same, sum_front, sum_none}
-use Rattle.symbol_path.proofs.Common.{sum_changed, length-map-places, get_or-map-places, distrib_right, Kind, agreement, Shape, shape_of}
-use Rattle.symbol_path.proofs.Common.{size, address, code_symbol, sent, gathered, sent_by, gathered_by}
+use Rattle.symbol_path.proofs.Common.{◌≡◌, ℕ, zero, suc, ◌+◌, ◌*◌, ◌/◌, ◌<◌, Bool, true, false, List, [], ◌∷◌, length, get_or, refl, sym, ℤ}
+use Rattle.symbol_path.proofs.Common.{ap, ◌∙◌, arith, add-one, pos, ◌+ℤ◌, ◌*ℤ◌, sign, sum_below, sum_same, sum_front, sum_none, sum_changed}
+use Rattle.symbol_path.proofs.Common.{length-map-places, get_or-map-places, distrib_right, Kind, agreement, Shape, shape_of, size, address}
+use Rattle.symbol_path.proofs.Common.{code_symbol, sent, gathered, sent_by, gathered_by}
 use Rattle.symbol_path.proofs.Permutation.{address_lt}
 use Rattle.symbol_path.proofs.Interleaving.{size_some, symbol_lt, count_is}
 use Rattle.symbol_path.proofs.Gathering.{part, part-none, part_here, part_other}

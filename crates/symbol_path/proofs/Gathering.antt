@@ -1,10 +1,9 @@
 -- Sums of the soft values of a code symbol.
-use Rattle.symbol_path.proofs.Common.{◌≡◌, ◌≢◌, ℕ, suc, ◌+◌, ◌^◌, ◌<◌, ◌≤◌, Bool, cond, List, [], ◌∷◌, ◌++◌, length, get_or, set, map}
-use Rattle.symbol_path.proofs.Common.{take, refl, sym, ap, ◌∙◌, arith, ⊎_elim, ℤ, pos, ◌+ℤ◌, filter, ◌==◌, sum_by, unsigned_abs, ints}
-use Rattle.symbol_path.proofs.Common.{fits_signed_from_abs, to_z-of_z, cases_eq, eq-eqb, ne_eqb, map-append, get_or-set_same, abs_sum}
-use Rattle.symbol_path.proofs.Common.{get_or-set_other, filter-append, sum_by-cons, sum_by-set, sum_by_more, sum_by_more_le}
-use Rattle.symbol_path.proofs.Common.{get_or-le-sum_by, w64, SFits, to_z, of_z, places, total, gathered_by, places-none}
-use Rattle.symbol_path.proofs.Common.{places-more, map-places-all}
+use Rattle.symbol_path.proofs.Common.{◌≡◌, ◌≢◌, ℕ, suc, ◌+◌, ◌^◌, ◌<◌, ◌≤◌, Bool, cond, List, [], ◌∷◌, ◌++◌, length, get_or, set, map, take}
+use Rattle.symbol_path.proofs.Common.{refl, sym, ap, ◌∙◌, arith, ⊎_elim, ℤ, pos, ◌+ℤ◌, filter, ◌==◌, sum_by, unsigned_abs, ints, to_z-of_z}
+use Rattle.symbol_path.proofs.Common.{fits_signed_from_abs, cases_eq, eq-eqb, ne_eqb, map-append, get_or-set_same, abs_sum, filter-append}
+use Rattle.symbol_path.proofs.Common.{get_or-set_other, sum_by-cons, sum_by-set, sum_by_more, sum_by_more_le, get_or-le-sum_by, w64, SFits}
+use Rattle.symbol_path.proofs.Common.{to_z, of_z, places, total, gathered_by, places-none, places-more, map-places-all}
 
 -- the sum of f over the numbers below n whose key is c
 abbrev pub part : (ℕ → ℤ) → (ℕ → ℕ) → ℕ → ℕ → ℤ

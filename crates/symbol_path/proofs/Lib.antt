@@ -1,4 +1,3 @@
--- The modules of lemmas of `symbol_path`.
 pub mod Agreement
 pub mod Common
 pub mod Interleaving

@@ -1,7 +1,7 @@
 -- The order in which the symbols are sent is a permutation.
-use Rattle.symbol_path.proofs.Common.{◌≡◌, ℕ, ◌<◌, ◌&&◌, Bool, true, refl, sym, ap, ◌∙◌, nat_eq, nat_lt, agree_below, agree_below_at}
-use Rattle.symbol_path.proofs.Common.{and_parts, eqb-true, ltb-true, binary, Kind, Sync, Data, Shape, sync_shape, data_shape, shape_of}
-use Rattle.symbol_path.proofs.Common.{size, address, place}
+use Rattle.symbol_path.proofs.Common.{◌≡◌, ℕ, ◌<◌, ◌&&◌, Bool, true, refl, sym, ap, ◌∙◌, nat_eq, nat_lt, agree_below, agree_below_at, Kind}
+use Rattle.symbol_path.proofs.Common.{and_parts, eqb-true, ltb-true, binary, Sync, Data, Shape, sync_shape, data_shape, shape_of, size}
+use Rattle.symbol_path.proofs.Common.{address, place}
 
 -- there and back, from a place and to it
 abbrev is_back : Shape → ℕ → Bool

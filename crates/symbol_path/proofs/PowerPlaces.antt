@@ -1,8 +1,8 @@
 -- The 32 places of the power control bits, two to a group.
 use Rattle.symbol_path.proofs.Common.{◌≡◌, ◌≢◌, ℕ, zero, suc, ◌+◌, ◌*◌, ◌/◌, ◌%◌, ◌<◌, ◌≤◌, Bool, false, List, [], ◌∷◌, length, get_or, set}
 use Rattle.symbol_path.proofs.Common.{refl, sym, ap, ◌∙◌, arith, below_more, ⊎_elim, ◌⊎◌, inl, inr, flat_map, range_with_len, digit_le}
-use Rattle.symbol_path.proofs.Common.{get_or-set_same, get_or-set_other, length-set, nil_from_length, places_is, after, before}
-use Rattle.symbol_path.proofs.Common.{group_scrambling, power_start, power_place, power_places}
+use Rattle.symbol_path.proofs.Common.{get_or-set_same, get_or-set_other, length-set, nil_from_length, places_is, after, before, power_start}
+use Rattle.symbol_path.proofs.Common.{group_scrambling, power_place, power_places}
 
 pub power_start_lt : (bits : List Bool) → power_start bits < 16
 power_start_lt bits =

@@ -1,8 +1,8 @@
 -- The repeated symbols that are sent.
 use Rattle.symbol_path.proofs.Common.{◌≡◌, ℕ, ◌+◌, ◌*◌, ◌/◌, ◌%◌, ◌<◌, ◌&&◌, ◌||◌, Bool, true, false, [], ◌∷◌, get_or, refl, sym, ap, ◌∙◌}
-use Rattle.symbol_path.proofs.Common.{nat_eq, nat_lt, not, agree_below, agree_below_at, and_parts, eqb-true, ltb-true, repeats_of2}
-use Rattle.symbol_path.proofs.Common.{data_shape, address, place, Data, Rate2, R14400, R7200, R3600, R1800, symbols_of, kept_symbol}
-use Rattle.symbol_path.proofs.Common.{repeated_symbol, place2, is_dropped, IsKeptOnce, IsDropped, not-true}
+use Rattle.symbol_path.proofs.Common.{nat_eq, nat_lt, not, agree_below, agree_below_at, and_parts, eqb-true, ltb-true, repeats_of2, address}
+use Rattle.symbol_path.proofs.Common.{data_shape, place, Data, Rate2, R14400, R7200, R3600, R1800, symbols_of, kept_symbol, repeated_symbol}
+use Rattle.symbol_path.proofs.Common.{place2, is_dropped, IsKeptOnce, IsDropped, not-true}
 use Rattle.symbol_path.proofs.Interleaving.{symbol_lt}
 use Rattle.symbol_path.proofs.Permutation.{address_lt, place_lt, address-place, address-injective}
 

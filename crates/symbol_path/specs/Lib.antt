@@ -1,4 +1,3 @@
--- The modules of definitions of `symbol_path`.
 pub mod Scrambling
 pub mod SentOrder
 pub mod RatesTwo

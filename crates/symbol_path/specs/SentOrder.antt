@@ -1,6 +1,6 @@
 -- Symbol repetition and block interleaving (TIA/EIA-95-B, 7.1.3.1.4 and 7.1.3.1.5).
-use Rattle.std.specs.Prelude.{ℕ, ◌+◌, ◌*◌, ◌/◌, ◌%◌, ◌^◌, ◌==◌, Bool, false, List, map, filter}
-use Rattle.std.specs.Prelude.{get_or, reverse, ℤ, pos}
+use Rattle.std.specs.Prelude.{ℕ, ◌+◌, ◌*◌, ◌/◌, ◌%◌, ◌^◌, ◌==◌, Bool, false, List, map, filter, ℤ}
+use Rattle.std.specs.Prelude.{get_or, reverse, pos}
 use Rattle.chip_core.specs.Bits.{number, binary, places}
 use Rattle.chip_core.specs.Sums.{total}
 use Rattle.symbol_path.specs.declared.kinds.Kind.{Kind}

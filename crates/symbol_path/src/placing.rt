@@ -4,8 +4,8 @@
 //! TIA/EIA-95-B, 7.1.3.1.4: each code symbol is repeated, so that a frame always has the same
 //! number of symbols.
 
-ghost use Rattle.std.specs.Prelude.{◌≡◌, ◌*◌, ◌/◌, ◌<◌, ◌≤◌, ◌^◌, ℕ, length, get_or, pos};
-ghost use Rattle.std.specs.Prelude.{sum_by, unsigned_abs};
+ghost use Rattle.std.specs.Prelude.{◌≡◌, ◌*◌, ◌/◌, ◌<◌, ◌≤◌, ◌^◌, ℕ, length, get_or, pos, sum_by};
+ghost use Rattle.std.specs.Prelude.{unsigned_abs};
 ghost use Rattle.symbol_path.specs.SentOrder.{shape_of, size, sent, gathered, sent_by, gathered_by};
 ghost use Rattle.symbol_path.specs.FormatSymbols.{sent_count, repeated_count, repeated_as};
 

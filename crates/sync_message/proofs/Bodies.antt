@@ -1,19 +1,10 @@
 -- The fields of a message, and how many bits its body has.
-use Rattle.std.proofs.Common.{◌≡◌, ℕ, ◌+◌, ◌*◌, ◌/◌, ◌≤◌, Bool, List, [], ◌∷◌, ◌++◌, length, refl, arith, length-append, Option, Some, None}
-use Rattle.std.proofs.Common.{IsNone, IsSome, ◌⊎◌, inl, inr}
-use Rattle.chip_core.specs.Bits.{binary}
-use Rattle.chip_core.specs.Fields.{spelled, in_widths, FieldsFit}
-use Rattle.chip_core.proofs.FieldLists.{length-binary}
+use Rattle.sync_message.proofs.Common.{◌≡◌, ℕ, ◌+◌, ◌*◌, ◌/◌, ◌≤◌, Bool, List, [], ◌∷◌, ◌++◌, length, refl, arith, length-append, Option}
+use Rattle.sync_message.proofs.Common.{Some, None, IsNone, IsSome, ◌⊎◌, inl, inr, binary, spelled, in_widths, FieldsFit, length-binary, M30}
+use Rattle.sync_message.proofs.Common.{group_fields, spelling, IsGroup, UnlessLeft, octets, FillsCapsule, freq_group, sync_values}
+use Rattle.sync_message.proofs.Common.{sync_widths, fixed_fields, sync_body, IsSyncMessage, SyncFields}
 use Rattle.chip_core.proofs.ValueLists.{length-in_widths}
-use Rattle.message_layout.specs.Spelling.{group_fields, spelling, IsGroup}
-use Rattle.message_layout.specs.declared.layout.Presence.TheVariants.{UnlessLeft}
-use Rattle.quality_bits.specs.Capsules.{octets, FillsCapsule}
-use Rattle.quality_bits.specs.declared.kind.Kind.TheVariants.{M30}
-use Rattle.sync_message.specs.Layouts.{freq_group}
-use Rattle.sync_message.specs.Rows.{sync_values, sync_widths}
-use Rattle.sync_message.specs.SyncMessage.{fixed_fields, sync_body, IsSyncMessage}
 use Rattle.sync_message.specs.Tails.{IsTail}
-use Rattle.sync_message.specs.declared.fields.SyncFields.{SyncFields}
 
 -- what stands after the fields that each message has
 abbrev pub tail : Option ℕ → List Bool → List Bool

@@ -1,25 +1,16 @@
 -- What stands after the message type, by its layout.
-use Rattle.std.proofs.Common.{◌≡◌, ℕ, ◌+◌, ◌<◌, ◌≤◌, ◌^◌, ◌==◌, Bool, true, cond, List, [], ◌∷◌, ◌++◌, length, get_or, refl, sym, ap}
-use Rattle.std.proofs.Common.{subst, ◌∙◌, arith, length-append, Option, Some, None}
-use Rattle.std.proofs.lemmas.Bool.{eqb-true}
+use Rattle.sync_message.proofs.Common.{◌≡◌, ℕ, ◌+◌, ◌<◌, ◌≤◌, ◌^◌, ◌==◌, Bool, true, cond, List, [], ◌∷◌, ◌++◌, length, get_or, refl, sym}
+use Rattle.sync_message.proofs.Common.{ap, subst, ◌∙◌, arith, length-append, Option, Some, None, eqb-true, binary, places, in_widths, IsOf}
+use Rattle.sync_message.proofs.Common.{FieldsFit, length-binary, after_group, spelling, IsGroup, UnlessLeft, FillsCapsule, M30, freq_from}
+use Rattle.sync_message.proofs.Common.{sync_body_reading, freq_group, sync_contents, sync_from, sync_of, sync_message_shape, sync_values}
+use Rattle.sync_message.proofs.Common.{sync_widths, sync_body, IsSyncMessage, SyncFields}
 use Rattle.std.specs.Prelude.{IfSome}
-use Rattle.chip_core.specs.Bits.{binary, places}
-use Rattle.chip_core.specs.Fields.{in_widths, FieldsFit}
-use Rattle.chip_core.proofs.FieldLists.{length-binary}
 use Rattle.chip_core.proofs.Places.{map-places-all}
 use Rattle.message_layout.specs.Reading.{mapped, number_part, reading}
 use Rattle.message_layout.specs.Shapes.{is_lawful}
-use Rattle.message_layout.specs.Spelling.{after_group, spelling, IsGroup, IsOf}
 use Rattle.message_layout.specs.declared.contents.Contents.{Contents}
-use Rattle.message_layout.specs.declared.layout.Presence.TheVariants.{UnlessLeft}
 use Rattle.message_layout.proofs.Messages.{ByLayout, contents_in, no_columns, no_octets, one_value, read_again, read_there}
 use Rattle.message_layout.proofs.Parts.{bind_some, guard_some, number_again, number_there}
-use Rattle.quality_bits.specs.Capsules.{FillsCapsule}
-use Rattle.quality_bits.specs.declared.kind.Kind.TheVariants.{M30}
-use Rattle.sync_message.specs.Layouts.{sync_body_reading, freq_from, freq_group, sync_contents, sync_from, sync_of, sync_message_shape}
-use Rattle.sync_message.specs.Rows.{sync_values, sync_widths}
-use Rattle.sync_message.specs.SyncMessage.{sync_body, IsSyncMessage}
-use Rattle.sync_message.specs.declared.fields.SyncFields.{SyncFields}
 
 pub sync_lawful : is_lawful sync_message_shape ≡ true
 unfolding is_lawful

@@ -1,4 +1,4 @@
--- The modules of lemmas of `sync_message`.
 pub mod Bodies
 pub mod ByLayout
+pub mod Common
 pub mod Readings

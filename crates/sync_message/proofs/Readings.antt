@@ -1,16 +1,12 @@
 -- Capsules read as messages.
-use Rattle.std.proofs.Common.{◌≡◌, ◌-◌, ◌/◌, ◌%◌, ◌==◌, List, Bool, length, take, drop, refl, ap, ◌∙◌, arith, Some, nat_le}
-use Rattle.std.proofs.lemmas.Bool.{and_parts, eq-eqb, eqb-true, le-leb, leb-true}
+use Rattle.sync_message.proofs.Common.{◌≡◌, ◌-◌, ◌/◌, ◌%◌, ◌==◌, List, Bool, length, take, drop, refl, ap, ◌∙◌, arith, Some, nat_le, eq-eqb}
+use Rattle.sync_message.proofs.Common.{and_parts, eqb-true, le-leb, leb-true, if_spelled, M30, sync_body_reading, sync_body, sync_capsule}
+use Rattle.sync_message.proofs.Common.{IsSyncMessage, SyncFields}
 use Rattle.chip_core.specs.declared.check_form.CheckForm.{CheckForm}
 use Rattle.message_layout.proofs.Parts.{guard_some}
-use Rattle.quality_bits.specs.Capsules.{if_spelled}
-use Rattle.quality_bits.specs.declared.kind.Kind.TheVariants.{M30}
 use Rattle.quality_bits.proofs.Decoded.{if_spelled-again, if_spelled-there, AreRead}
 use Rattle.quality_bits.proofs.Wholes.{length-capsule}
-use Rattle.sync_message.specs.Layouts.{sync_body_reading}
 use Rattle.sync_message.specs.Reading.{is_whole_capsule, sync_reading}
-use Rattle.sync_message.specs.SyncMessage.{sync_body, sync_capsule, IsSyncMessage}
-use Rattle.sync_message.specs.declared.fields.SyncFields.{SyncFields}
 use Rattle.sync_message.proofs.Bodies.{fills_from, length-body}
 use Rattle.sync_message.proofs.ByLayout.{body_again, body_is, body_there}
 

@@ -1,4 +1,5 @@
 -- The layout of what stands after the message type, and what the message says as contents of it.
+use Rattle.sync_message.specs.Common.{SyncFields}
 use Rattle.std.specs.Prelude.{ℕ, ◌==◌, if◌then◌else◌, Bool, List, [], ◌∷◌, get_or, Option, None}
 use Rattle.std.specs.Prelude.{Some}
 use Rattle.message_layout.specs.Reading.{◌>>=◌, mapped, number_part, reading}
@@ -6,7 +7,6 @@ use Rattle.message_layout.specs.Shapes.{MessageShape}
 use Rattle.message_layout.specs.declared.contents.Contents.{Contents}
 use Rattle.message_layout.specs.declared.layout.Presence.TheVariants.{UnlessLeft}
 use Rattle.sync_message.specs.Rows.{freq_row, sync_values, sync_widths}
-use Rattle.sync_message.specs.declared.fields.SyncFields.{SyncFields}
 
 -- the frequency is there unless 3 bits are left
 abbrev pub sync_message_shape : MessageShape

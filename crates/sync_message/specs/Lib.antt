@@ -1,4 +1,4 @@
--- The modules of definitions of `sync_message`.
+pub mod Common
 pub mod Framing
 pub mod Layouts
 pub mod Reading

@@ -1,13 +1,12 @@
 -- The message that a capsule spells, as a function of its bits: each field is the number that
 -- stands at its place.
+use Rattle.sync_message.specs.Common.{if_spelled, SyncFields}
 use Rattle.std.specs.Prelude.{◌-◌, ◌%◌, ◌==◌, ◌&&◌, Bool, if◌then◌else◌, List, length, take, drop}
 use Rattle.std.specs.Prelude.{nat_le, Option, None}
 use Rattle.chip_core.specs.declared.check_form.CheckForm.{CheckForm}
-use Rattle.quality_bits.specs.Capsules.{if_spelled}
 pub use Rattle.quality_bits.specs.Faults.{reading_of}
 use Rattle.sync_message.specs.Layouts.{sync_body_reading}
 use Rattle.sync_message.specs.SyncMessage.{sync_capsule}
-use Rattle.sync_message.specs.declared.fields.SyncFields.{SyncFields}
 
 -- whether a list has whole octets, at most 148
 abbrev pub is_whole_capsule : List Bool → Bool

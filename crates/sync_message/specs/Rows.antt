@@ -1,7 +1,7 @@
 -- The fields that each Sync Channel Message has (TIA/EIA-95-B, 7.7.1.3), by name and width.
+use Rattle.sync_message.specs.Common.{SyncFields}
 use Rattle.std.specs.Prelude.{ℕ, List, [], ◌∷◌, codes, map}
 pub use Rattle.chip_core.specs.Fields.{in_widths}
-use Rattle.sync_message.specs.declared.fields.SyncFields.{SyncFields}
 
 -- a field: its name in lines of text, and in how many bits it is sent
 pub record Row : Type 0 where

@@ -1,16 +1,12 @@
 -- The Sync Channel Message (TIA/EIA-95-B, 7.7.1.3).
+use Rattle.sync_message.specs.Common.{field, IsOf, FillsCapsule, capsule, M30, SyncFields}
 use Rattle.std.specs.Prelude.{Bool, List, ◌∷◌, ◌++◌}
 use Rattle.chip_core.specs.Bits.{binary}
-use Rattle.chip_core.specs.Fields.{field}
 use Rattle.chip_core.specs.declared.field.Field.{Field}
 use Rattle.chip_core.specs.declared.check_form.CheckForm.{CheckForm}
-use Rattle.message_layout.specs.Spelling.{IsOf}
 unfoldable pub use Rattle.message_layout.specs.Spelling.{spelling}
-use Rattle.quality_bits.specs.Capsules.{FillsCapsule, capsule}
-use Rattle.quality_bits.specs.declared.kind.Kind.TheVariants.{M30}
 use Rattle.sync_message.specs.Layouts.{sync_contents, sync_message_shape}
 use Rattle.sync_message.specs.Rows.{in_widths, sync_values, sync_widths}
-use Rattle.sync_message.specs.declared.fields.SyncFields.{SyncFields}
 
 -- the message type, 1, and the fields that each message has
 abbrev pub fixed_fields : SyncFields → List Field

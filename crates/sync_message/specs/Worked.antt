@@ -1,16 +1,14 @@
 -- Worked values.
+use Rattle.sync_message.specs.Common.{spelling, capsule, SyncFields}
 use Rattle.std.specs.Prelude.{◌≡◌, refl, ◌^◌, false, [], ◌∷◌, length, take, Some, None}
 use Rattle.chip_core.specs.Bits.{number, binary, places}
 use Rattle.chip_core.specs.declared.check_form.CheckForm.TheVariants.{Plain, Complemented}
 use Rattle.message_layout.specs.Reading.{fields_at, group_at, number_part, octets_at, part_at}
 use Rattle.message_layout.specs.Reading.{presence_at, reading, records_at}
-use Rattle.message_layout.specs.Spelling.{spelling}
-use Rattle.quality_bits.specs.Capsules.{capsule}
 use Rattle.quality_bits.specs.Quality.{check_bits}
 use Rattle.sync_message.specs.Layouts.{sync_body_reading, sync_of}
 use Rattle.sync_message.specs.Reading.{sync_reading}
 use Rattle.sync_message.specs.SyncMessage.{sync_body, sync_capsule}
-use Rattle.sync_message.specs.declared.fields.SyncFields.{SyncFields}
 
 shortest : SyncFields
 shortest =

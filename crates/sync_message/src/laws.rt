@@ -1,13 +1,11 @@
 //! Laws of the definitions: each function does nothing, and its contract is the law.
 
+ghost use Rattle.sync_message.specs.Common.{octets, M30, SyncFields as TheFields};
 ghost use Rattle.std.specs.Prelude.{◌≡◌, ◌↔◌, Bool, List, Some, ◌≤◌, ◌*◌, ◌-◌, ◌+◌, length, IsNone};
 ghost use Rattle.std.specs.Prelude.{IsSome};
-ghost use Rattle.quality_bits.specs.Capsules.{octets};
-ghost use Rattle.quality_bits.specs.declared.kind.Kind.TheVariants.{M30};
 ghost use Rattle.chip_core.specs.declared.check_form.CheckForm.{CheckForm as TheForm};
 ghost use Rattle.sync_message.specs.Reading.{sync_reading};
 ghost use Rattle.sync_message.specs.SyncMessage.{IsSyncMessage, sync_body, sync_capsule};
-ghost use Rattle.sync_message.specs.declared.fields.SyncFields.{SyncFields as TheFields};
 
 /// Two messages with one spelling are the same.
 pub fn spelling_has_one_message()

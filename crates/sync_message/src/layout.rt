@@ -1,11 +1,10 @@
 //! The layout of what stands after the message type, and the message as contents of it.
 
+ghost use Rattle.sync_message.specs.Common.{in_widths, FieldsFit, IsOf};
 ghost use Rattle.std.specs.Prelude.{◌≡◌, ◌<◌, ◌≤◌, ◌^◌, drop, length, IfSome};
-ghost use Rattle.chip_core.specs.Fields.{in_widths, FieldsFit};
 ghost use Rattle.message_layout.specs.Reading.{reading};
-ghost use Rattle.message_layout.specs.Spelling.{IsOf};
-ghost use Rattle.sync_message.specs.Layouts.{sync_body_reading, freq_from, freq_group};
-ghost use Rattle.sync_message.specs.Layouts.{sync_contents, sync_from, sync_message_shape};
+ghost use Rattle.sync_message.specs.Layouts.{sync_body_reading, freq_from, freq_group, sync_from};
+ghost use Rattle.sync_message.specs.Layouts.{sync_contents, sync_message_shape};
 ghost use Rattle.sync_message.specs.Rows.{sync_values, sync_widths};
 
 use crate::fields::SyncFields;

@@ -1,14 +1,12 @@
 //! The message, to and from its capsule.
 
+ghost use Rattle.sync_message.specs.Common.{FillsCapsule, IsWhole, M30, SyncFields as TheFields};
 ghost use Rattle.std.specs.Prelude.{◌≡◌, ◌↔◌, IfOk, IsTrue, SomeIff};
-ghost use Rattle.quality_bits.specs.Capsules.{FillsCapsule, IsWhole};
 ghost use Rattle.quality_bits.specs.Kinds.{IsChecked};
-ghost use Rattle.quality_bits.specs.declared.kind.Kind.TheVariants.{M30};
 ghost use Rattle.sync_message.specs.Reading.{sync_reading, reading_of};
 ghost use Rattle.sync_message.specs.Rows.{sync_values};
 ghost use Rattle.sync_message.specs.SyncMessage.{IsSyncMessage, sync_body, sync_capsule};
 ghost use Rattle.sync_message.specs.Tails.{IsTail};
-ghost use Rattle.sync_message.specs.declared.fields.SyncFields.{SyncFields as TheFields};
 
 use crate::fields::SyncFields;
 use crate::layout::{SYNC_CHANNEL, contents_of, read_body, values_of};

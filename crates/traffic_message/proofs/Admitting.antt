@@ -1,7 +1,7 @@
 -- Which bodies are those of messages.
 use Rattle.traffic_message.proofs.Common.{◌≡◌, Bool, List, Option, ap, drop, length, nat_le, refl, true, ◌∙◌, and_from, and_parts, le-leb}
-use Rattle.traffic_message.proofs.Common.{leb-true, number_at, is_some, FillsCapsule, M16, HasTrafficMessage, traffic_admits, head_at}
-use Rattle.traffic_message.proofs.Common.{part_reading, None, Some, Message, traffic_body_reading}
+use Rattle.traffic_message.proofs.Common.{leb-true, number_at, is_some, FillsCapsule, M16, HasTrafficMessage, traffic_admits, head_at, None}
+use Rattle.traffic_message.proofs.Common.{part_reading, Some, Message, traffic_body_reading}
 use Rattle.traffic_message.proofs.Bodies.{body_parts_read, body_read, is_body_from, is_body_parts, message_again, message_there}
 
 there : {A : Type 0} (o : Option A) → is_some o ≡ true → (x : A) × (o ≡ Some x)

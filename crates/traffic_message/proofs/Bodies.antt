@@ -1,16 +1,15 @@
 -- Bodies of messages, spelled and read again.
 use Rattle.traffic_message.proofs.Common.{◌≡◌, ◌≢◌, ◌⊎◌, ℕ, ◌+◌, ◌%◌, ◌^◌, ◌<◌, ◌≤◌, ◌==◌, ◌&&◌, Bool, true, false, List, ◌∷◌, ◌++◌, length}
-use Rattle.traffic_message.proofs.Common.{drop, refl, sym, ap, subst, ◌∙◌, arith, append_assoc, length-append, nat_le, inl, inr, Option}
-use Rattle.traffic_message.proofs.Common.{Some, None, and_from, and_parts, cases_Bool, eq-eqb, eqb-false, eqb-true, le-leb, leb-true}
-use Rattle.traffic_message.proofs.Common.{drop_at, binary, digit, spelled, in_widths, FieldsFit, number_at, values_at, digit_again}
-use Rattle.traffic_message.proofs.Common.{length-in_widths, values_again, values_there, FillsCapsule, M16, is_hard, head_widths}
-use Rattle.traffic_message.proofs.Common.{TrafficBody, Head, Form, HasFields, body_from, traffic_contents_of, form_at, form_in}
-use Rattle.traffic_message.proofs.Common.{traffic_shape_of, Contents, mapped, fields_at, mapped_some, some_is, reading_again, reading_there}
-use Rattle.traffic_message.proofs.Common.{not_both, get_or, head_contents, head_in, head_shape, typed_widths, spelling, plain_spelled}
-use Rattle.traffic_message.proofs.Common.{plain_contents, plain_shape, []}
-use Rattle.message_layout.specs.Reading as layouts
+use Rattle.traffic_message.proofs.Common.{drop, refl, sym, ap, subst, ◌∙◌, arith, append_assoc, length-append, nat_le, inl, inr, Option, []}
+use Rattle.traffic_message.proofs.Common.{Some, None, and_from, and_parts, cases_Bool, eq-eqb, eqb-false, eqb-true, le-leb, leb-true, digit}
+use Rattle.traffic_message.proofs.Common.{drop_at, binary, spelled, in_widths, FieldsFit, number_at, values_at, digit_again, values_again}
+use Rattle.traffic_message.proofs.Common.{length-in_widths, values_there, FillsCapsule, M16, is_hard, head_widths, TrafficBody, Head, Form}
+use Rattle.traffic_message.proofs.Common.{HasFields, body_from, traffic_contents_of, form_at, form_in, traffic_shape_of, Contents, mapped}
+use Rattle.traffic_message.proofs.Common.{fields_at, mapped_some, some_is, reading_again, reading_there, not_both, get_or, head_contents}
+use Rattle.traffic_message.proofs.Common.{head_in, head_shape, typed_widths, spelling, plain_spelled, plain_contents, plain_shape}
 use Rattle.traffic_message.proofs.ByLayout.{head_written, laid, lawful, made_again, made_of, spelled_as}
 use Rattle.traffic_message.proofs.Directions.{soft_bits}
+use Rattle.message_layout.specs.Reading as layouts
 use Rattle.traffic_message.specs.Messages as messages
 use Rattle.traffic_message.specs.Reading as reading
 use Rattle.traffic_message.specs.declared.body.TrafficBody.TheVariants as bodies

@@ -1,10 +1,10 @@
 -- What stands after the head, by its layouts.
-use Rattle.traffic_message.proofs.Common.{◌≡◌, Bool, Option, ap, arith, length, refl, subst, sym, true, ◌<◌, ◌^◌, ◌∙◌, ◌∷◌, append-nil}
-use Rattle.traffic_message.proofs.Common.{map-places-all, places, FieldsFit, in_widths, spelled, all_columns, first_column, no_columns}
+use Rattle.traffic_message.proofs.Common.{◌≡◌, Bool, Option, ap, arith, length, refl, subst, sym, true, ◌<◌, ◌^◌, ◌∙◌, ◌∷◌, append-nil, []}
+use Rattle.traffic_message.proofs.Common.{map-places-all, places, FieldsFit, in_widths, spelled, all_columns, first_column, no_columns, ℕ}
 use Rattle.traffic_message.proofs.Common.{one_value, record_fit, plain_back, plain_of, plain_spelled, rest_back, mapped, reading, is_lawful}
-use Rattle.traffic_message.proofs.Common.{IsGroup, IsOf, after_group, spelling, Contents, Flagged, bits_of, head_fields, head_values}
-use Rattle.traffic_message.proofs.Common.{kind_of, part_reading, in_traffic_widths, search_widths, TrafficBody, DirectionFields, Head}
-use Rattle.traffic_message.proofs.Common.{Search, UpdateFields, List, None, Some, [], get_or, ℕ, MessageShape, Form}
+use Rattle.traffic_message.proofs.Common.{IsGroup, IsOf, after_group, spelling, Contents, Flagged, bits_of, head_fields, head_values, Head}
+use Rattle.traffic_message.proofs.Common.{kind_of, part_reading, in_traffic_widths, search_widths, TrafficBody, DirectionFields, Search}
+use Rattle.traffic_message.proofs.Common.{UpdateFields, List, None, Some, get_or, MessageShape, Form}
 use Rattle.traffic_message.specs.Handoff as handoff
 use Rattle.traffic_message.specs.InTraffic as parameters
 use Rattle.traffic_message.specs.Layouts as layouts

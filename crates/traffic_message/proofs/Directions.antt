@@ -1,9 +1,9 @@
 -- Handoff directions: where HARD_INCLUDED stands, and how many records there is room for.
-use Rattle.traffic_message.proofs.Common.{◌≡◌, Option, ap, append_assoc, arith, false, inl, inr, length, length-append, refl, sym, take}
+use Rattle.traffic_message.proofs.Common.{◌≡◌, Option, ap, append_assoc, arith, false, inl, inr, length, length-append, refl, sym, take, []}
 use Rattle.traffic_message.proofs.Common.{true, ◌*◌, ◌++◌, ◌+◌, ◌/◌, ◌==◌, ◌∙◌, ◌∷◌, ◌≤◌, append-nil, drop_at, length-drop, length-binary}
 use Rattle.traffic_message.proofs.Common.{after_front, dropped, length-in_widths, number_front, number, in_widths, spelled, length-records}
-use Rattle.traffic_message.proofs.Common.{record_fields, group_fields, spelling, Flagged, search_widths, time_widths, DirectionFields}
-use Rattle.traffic_message.proofs.Common.{Search, Bool, List, None, Some, [], drop, ℕ, cases_Bool, binary, number_at}
+use Rattle.traffic_message.proofs.Common.{record_fields, group_fields, spelling, Flagged, search_widths, time_widths, DirectionFields, Bool}
+use Rattle.traffic_message.proofs.Common.{Search, List, None, Some, drop, ℕ, cases_Bool, binary, number_at}
 use Rattle.traffic_message.specs.Handoff as handoff
 
 -- with search parameters, and without

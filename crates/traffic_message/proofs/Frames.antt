@@ -1,8 +1,8 @@
 -- The parts of frames.
 use Rattle.traffic_message.proofs.Common.{◌≡◌, ℕ, ◌+◌, ◌-◌, ◌==◌, Bool, true, false, cond, List, [], ◌∷◌, ◌++◌, length, get_or, take, drop}
-use Rattle.traffic_message.proofs.Common.{refl, sym, ap, ◌∙◌, arith, slice_get, Some, None, append-nil, length-drop, take_all}
-use Rattle.traffic_message.proofs.Common.{take-append-drop, get_or_from_slice_get, number, number_at, slice_get-drop, dropped, joined}
-use Rattle.traffic_message.proofs.Common.{primary_bits, split_9600, Mux}
+use Rattle.traffic_message.proofs.Common.{refl, sym, ap, ◌∙◌, arith, slice_get, Some, None, append-nil, length-drop, take_all, number, Mux}
+use Rattle.traffic_message.proofs.Common.{take-append-drop, get_or_from_slice_get, number_at, slice_get-drop, dropped, joined, primary_bits}
+use Rattle.traffic_message.proofs.Common.{split_9600}
 
 abbrev parts_of : ℕ → Bool → List Bool → Mux
 parts_of size tt bits = record {

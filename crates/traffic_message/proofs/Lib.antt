@@ -1,4 +1,3 @@
--- The modules of lemmas of `traffic_message`.
 pub mod Admitting
 pub mod Bodies
 pub mod Common

@@ -1,6 +1,6 @@
 -- Bodies and capsules read as messages.
-use Rattle.traffic_message.proofs.Common.{◌≡◌, Bool, List, refl, sym, ap, ◌∙◌, Option, Some, None, IfSome, CheckForm, M16, Message}
-use Rattle.traffic_message.proofs.Common.{traffic_message_body, traffic_capsule, IsTrafficMessage, AreRead, read_by_spelling}
+use Rattle.traffic_message.proofs.Common.{◌≡◌, Bool, List, refl, sym, ap, ◌∙◌, Option, Some, None, IfSome, CheckForm, M16, Message, AreRead}
+use Rattle.traffic_message.proofs.Common.{traffic_message_body, traffic_capsule, IsTrafficMessage, read_by_spelling}
 use Rattle.traffic_message.proofs.Bodies.{message_again, message_there}
 use Rattle.traffic_message.specs.Reading as reading
 

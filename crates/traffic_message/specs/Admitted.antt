@@ -1,6 +1,6 @@
 -- Which bodies are those of messages.
+use Rattle.traffic_message.specs.Common.{number_at}
 use Rattle.std.specs.Prelude.{◌≡◌, ◌&&◌, Bool, List, length, drop, nat_le, is_some}
-use Rattle.chip_core.specs.Readings.{number_at}
 use Rattle.traffic_message.specs.Messages.{Message, traffic_message_body, IsTrafficMessage}
 use Rattle.traffic_message.specs.Reading.{head_at, part_reading}
 

@@ -1,11 +1,8 @@
 -- The Extended Handoff Direction Message (TIA/EIA-95-B, 7.7.3.3.2.17).
+use Rattle.traffic_message.specs.Common.{in_widths, FieldsFit, number_at, MessageShape, IsOf}
+use Rattle.traffic_message.specs.Common.{Contents}
 use Rattle.std.specs.Prelude.{ℕ, ◌==◌, if◌then◌else◌, Bool, List, [], ◌∷◌, get_or, Option, Some}
 use Rattle.std.specs.Prelude.{None}
-use Rattle.chip_core.specs.Fields.{in_widths, FieldsFit}
-use Rattle.chip_core.specs.Readings.{number_at}
-use Rattle.message_layout.specs.Shapes.{MessageShape}
-use Rattle.message_layout.specs.Spelling.{IsOf}
-use Rattle.message_layout.specs.declared.contents.Contents.{Contents}
 use Rattle.message_layout.specs.declared.layout.Presence.TheVariants.{Flagged}
 use Rattle.traffic_message.specs.Widths.{search_widths, time_widths}
 use Rattle.traffic_message.specs.declared.fields.DirectionFields.{DirectionFields}

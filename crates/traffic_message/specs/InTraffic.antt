@@ -1,9 +1,6 @@
 -- The In-Traffic System Parameters Message (TIA/EIA-95-B, 7.7.3.3.2.7).
+use Rattle.traffic_message.specs.Common.{plain_contents, plain_shape, MessageShape, IsOf, Contents}
 use Rattle.std.specs.Prelude.{ℕ, Bool, List, [], ◌∷◌, get_or, None}
-use Rattle.message_layout.specs.Plain.{plain_contents, plain_shape}
-use Rattle.message_layout.specs.Shapes.{MessageShape}
-use Rattle.message_layout.specs.Spelling.{IsOf}
-use Rattle.message_layout.specs.declared.contents.Contents.{Contents}
 use Rattle.traffic_message.specs.Widths.{in_traffic_widths}
 use Rattle.traffic_message.specs.declared.fields.InTrafficFields.{InTrafficFields}
 

@@ -1,13 +1,9 @@
 -- The layouts of what stands after the head, and what the messages say as contents of these.
-use Rattle.std.specs.Prelude.{ℕ, ◌==◌, ◌&&◌, if◌then◌else◌, not, Bool, List, [], ◌∷◌, get_or}
-use Rattle.std.specs.Prelude.{codes, None}
-use Rattle.chip_core.specs.Bits.{digit}
-use Rattle.chip_core.specs.Fields.{in_widths}
+use Rattle.traffic_message.specs.Common.{digit, in_widths, plain_contents, plain_shape, LineNames}
+use Rattle.traffic_message.specs.Common.{MessageShape, spelling, Contents, Head}
+use Rattle.std.specs.Prelude.{ℕ, ◌==◌, ◌&&◌, if◌then◌else◌, not, Bool, List, [], ◌∷◌, get_or, codes}
+use Rattle.std.specs.Prelude.{None}
 use Rattle.chip_core.specs.declared.field.Field.{Field}
-use Rattle.message_layout.specs.Plain.{plain_contents, plain_shape}
-use Rattle.message_layout.specs.Shapes.{LineNames, MessageShape}
-use Rattle.message_layout.specs.Spelling.{spelling}
-use Rattle.message_layout.specs.declared.contents.Contents.{Contents}
 use Rattle.traffic_message.specs.Handoff.{direction_contents, direction_from, direction_shape}
 use Rattle.traffic_message.specs.Handoff.{is_hard, IsHandoffDirection}
 use Rattle.traffic_message.specs.InTraffic.{in_traffic_contents, in_traffic_from, in_traffic_shape}
@@ -16,9 +12,8 @@ use Rattle.traffic_message.specs.Neighbors.{update_contents, update_from, update
 use Rattle.traffic_message.specs.Neighbors.{IsNeighborUpdate}
 use Rattle.traffic_message.specs.Widths.{head_widths, in_traffic_names, time_names, update_names}
 use Rattle.traffic_message.specs.declared.body.TrafficBody.{TrafficBody}
-use Rattle.traffic_message.specs.declared.body.TrafficBody.TheVariants as bodies
-use Rattle.traffic_message.specs.declared.fields.Head.{Head}
 use Rattle.traffic_message.specs.declared.layouts.Form.{Form}
+use Rattle.traffic_message.specs.declared.body.TrafficBody.TheVariants as bodies
 use Rattle.traffic_message.specs.declared.layouts.Form.TheVariants as forms
 
 -- THE TYPE AND THE HEAD

@@ -1,5 +1,5 @@
--- The modules of definitions of `traffic_message`.
 pub mod Admitted
+pub mod Common
 pub mod Handoff
 pub mod InTraffic
 pub mod Layouts

@@ -1,17 +1,13 @@
 -- The signaling messages of the traffic channel (TIA/EIA-95-B, 7.7.3).
+use Rattle.traffic_message.specs.Common.{binary, field, spelled, FieldsFit, CheckForm, FillsCapsule}
+use Rattle.traffic_message.specs.Common.{capsule, M16, Head}
 use Rattle.std.specs.Prelude.{ℕ, ◌≡◌, ◌≢◌, ◌⊎◌, Bool, true, List, [], ◌∷◌, ◌++◌}
-use Rattle.chip_core.specs.Bits.{binary}
-use Rattle.chip_core.specs.Fields.{field, spelled, FieldsFit}
-use Rattle.chip_core.specs.declared.check_form.CheckForm.{CheckForm}
-use Rattle.quality_bits.specs.Capsules.{FillsCapsule, capsule}
-use Rattle.quality_bits.specs.declared.kind.Kind.TheVariants.{M16}
 use Rattle.traffic_message.specs.Handoff.{is_hard, IsHandoffDirection}
 use Rattle.traffic_message.specs.InTraffic.{IsInTraffic}
 pub use Rattle.traffic_message.specs.Layouts.{bits_of, head_fields, head_values}
 use Rattle.traffic_message.specs.Neighbors.{IsNeighborUpdate}
 use Rattle.traffic_message.specs.declared.body.TrafficBody.{TrafficBody}
 use Rattle.traffic_message.specs.declared.body.TrafficBody.TheVariants as bodies
-use Rattle.traffic_message.specs.declared.fields.Head.{Head}
 
 -- a message: what stands after its type, and what it says
 pub record Message : Type 0 where

@@ -1,6 +1,6 @@
 -- The parts of a frame's information bits under multiplex option 1 (TIA/EIA-95-B, 7.1.3.5.11).
-use Rattle.std.specs.Prelude.{ℕ, Bool, false, cond, if◌then◌else◌, List, [], ◌++◌, take, drop}
-use Rattle.std.specs.Prelude.{get_or, Option, Some, None}
+use Rattle.std.specs.Prelude.{ℕ, Bool, false, cond, if◌then◌else◌, List, [], ◌++◌, take, drop, Some}
+use Rattle.std.specs.Prelude.{get_or, Option, None}
 use Rattle.quality_bits.specs.declared.rate.Rate.{Rate}
 use Rattle.quality_bits.specs.declared.rate.Rate.TheVariants.{R9600, R4800, R2400, R1200}
 use Rattle.traffic_message.specs.declared.multiplex.Mux.{Mux}

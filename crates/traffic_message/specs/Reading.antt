@@ -1,17 +1,14 @@
 -- The message that a body or a capsule spells, as a function of its bits: each field is the number
 -- that stands at its place, after the head by the layout of the type.
+use Rattle.traffic_message.specs.Common.{number_at, values_at, CheckForm, if_spelled, Head}
 use Rattle.std.specs.Prelude.{ℕ, ◌-◌, ◌%◌, ◌==◌, ◌&&◌, if◌then◌else◌, Bool, List, length, take}
 use Rattle.std.specs.Prelude.{drop, get_or, nat_le, Option, None}
-use Rattle.chip_core.specs.Readings.{number_at, values_at}
-use Rattle.chip_core.specs.declared.check_form.CheckForm.{CheckForm}
 use Rattle.message_layout.specs.Reading.{mapped, reading}
-use Rattle.quality_bits.specs.Capsules.{if_spelled}
 pub use Rattle.quality_bits.specs.Faults.{reading_of}
 use Rattle.traffic_message.specs.Layouts.{body_from, form_at, traffic_shape_of}
 use Rattle.traffic_message.specs.Messages.{Message, traffic_capsule}
 use Rattle.traffic_message.specs.Widths.{head_widths}
 use Rattle.traffic_message.specs.declared.body.TrafficBody.{TrafficBody}
-use Rattle.traffic_message.specs.declared.fields.Head.{Head}
 
 -- the head of these values
 unfoldable pub head_of : List ℕ → Head

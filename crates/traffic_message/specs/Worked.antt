@@ -1,12 +1,11 @@
 -- Worked values.
+use Rattle.traffic_message.specs.Common.{binary, places, spelling, capsule, front_capsule, Head}
+use Rattle.traffic_message.specs.Common.{is_stated}
 use Rattle.std.specs.Prelude.{◌≡◌, refl, Bool, true, false, List, [], ◌∷◌, ◌++◌, replicate, length}
 use Rattle.std.specs.Prelude.{take, drop, map, Some, None}
-use Rattle.chip_core.specs.Bits.{binary, places}
 use Rattle.chip_core.specs.declared.check_form.CheckForm.TheVariants.{Plain, Complemented}
 use Rattle.message_layout.specs.Reading.{fields_at, group_at, number_part, octets_at, part_at}
 use Rattle.message_layout.specs.Reading.{presence_at, reading, records_at}
-use Rattle.message_layout.specs.Spelling.{spelling}
-use Rattle.quality_bits.specs.Capsules.{capsule, front_capsule, is_stated}
 use Rattle.quality_bits.specs.Pieces.{piece, capsule_ending}
 use Rattle.quality_bits.specs.Quality.{check_bits}
 use Rattle.quality_bits.specs.declared.rate.Rate.TheVariants.{R9600, R4800}
@@ -18,7 +17,6 @@ use Rattle.traffic_message.specs.Reading.{traffic_body_reading, head_at, head_of
 use Rattle.traffic_message.specs.Reading.{part_reading, traffic_reading}
 use Rattle.traffic_message.specs.declared.body.TrafficBody.TheVariants.{Handoff, Neighbors, Other}
 use Rattle.traffic_message.specs.declared.body.TrafficBody.TheVariants.{System}
-use Rattle.traffic_message.specs.declared.fields.Head.{Head}
 use Rattle.traffic_message.specs.declared.multiplex.Mux.{Mux}
 
 -- FRAMES

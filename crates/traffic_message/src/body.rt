@@ -1,7 +1,7 @@
 //! What a message says after its head.
 
+ghost use Rattle.traffic_message.specs.Common.{line_names, shape};
 ghost use Rattle.std.specs.Prelude.{◌≡◌, ◌+◌, ◌≤◌, ◌++◌, drop, length};
-ghost use Rattle.message_layout.specs.Shapes.{line_names, shape};
 ghost use Rattle.traffic_message.specs.Layouts.{bits_of, body_from, traffic_contents_of, form_in};
 ghost use Rattle.traffic_message.specs.Layouts.{traffic_names_of, traffic_shape_of, HasFields};
 ghost use Rattle.traffic_message.specs.Messages.{kind_of as type_of};

@@ -1,9 +1,8 @@
 //! The Extended Handoff Direction Message.
 
+ghost use Rattle.traffic_message.specs.Common.{in_widths, FieldsFit, number_at};
 ghost use Rattle.std.specs.Prelude.{◌≡◌, ◌<◌, ◌≤◌, ◌==◌, drop, length};
 ghost use Rattle.std.specs.List.{All};
-ghost use Rattle.chip_core.specs.Fields.{in_widths, FieldsFit};
-ghost use Rattle.chip_core.specs.Readings.{number_at};
 ghost use Rattle.traffic_message.specs.Handoff.{direction_contents, direction_from, hard_place};
 ghost use Rattle.traffic_message.specs.Handoff.{is_hard, search_from, search_group, search_of};
 ghost use Rattle.traffic_message.specs.Handoff.{search_values, time_values, IsHandoffDirection};

@@ -1,7 +1,7 @@
 //! The In-Traffic System Parameters Message.
 
+ghost use Rattle.traffic_message.specs.Common.{in_widths, FieldsFit};
 ghost use Rattle.std.specs.Prelude.{◌≡◌};
-ghost use Rattle.chip_core.specs.Fields.{in_widths, FieldsFit};
 ghost use Rattle.traffic_message.specs.InTraffic.{in_traffic_contents, in_traffic_from};
 ghost use Rattle.traffic_message.specs.InTraffic.{in_traffic_of, in_traffic_values, IsInTraffic};
 ghost use Rattle.traffic_message.specs.Widths.{in_traffic_widths};

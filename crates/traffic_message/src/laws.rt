@@ -1,13 +1,11 @@
 //! Laws of the definitions: each function does nothing, and its contract is the law.
 
+ghost use Rattle.traffic_message.specs.Common.{CheckForm as TheForm, FillsCapsule, M16};
 ghost use Rattle.std.specs.Prelude.{◌≡◌, ◌↔◌, ◌++◌, Bool, true, false, List, Some, drop, get_or};
 ghost use Rattle.std.specs.Prelude.{length};
-ghost use Rattle.chip_core.specs.declared.check_form.CheckForm.{CheckForm as TheForm};
-ghost use Rattle.quality_bits.specs.Capsules.{FillsCapsule};
-ghost use Rattle.quality_bits.specs.declared.kind.Kind.TheVariants.{M16};
 ghost use Rattle.traffic_message.specs.Admitted.{traffic_admits, HasTrafficMessage};
-ghost use Rattle.traffic_message.specs.Messages.{traffic_message_body, traffic_capsule};
-ghost use Rattle.traffic_message.specs.Messages.{IsTrafficMessage, Message};
+ghost use Rattle.traffic_message.specs.Messages.{traffic_message_body, traffic_capsule, Message};
+ghost use Rattle.traffic_message.specs.Messages.{IsTrafficMessage};
 ghost use Rattle.traffic_message.specs.Multiplex.{joined, split_9600};
 ghost use Rattle.traffic_message.specs.Reading.{traffic_body_reading, traffic_reading};
 

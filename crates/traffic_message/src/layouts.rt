@@ -1,7 +1,7 @@
 //! The layouts of the type with the head, and of what stands after them.
 
+ghost use Rattle.traffic_message.specs.Common.{line_names, shape};
 ghost use Rattle.std.specs.Prelude.{◌≡◌, ◌≤◌, drop, length};
-ghost use Rattle.message_layout.specs.Shapes.{line_names, shape};
 ghost use Rattle.traffic_message.specs.Layouts.{form_at, traffic_names_of, traffic_shape_of};
 
 use crate::handoff::is_hard_handoff;

@@ -1,10 +1,8 @@
 //! The messages, to and from their bodies and capsules.
 
+ghost use Rattle.traffic_message.specs.Common.{FieldsFit, FillsCapsule, IsWhole, M16};
 ghost use Rattle.std.specs.Prelude.{◌≡◌, ◌↔◌, IfOk, IfSome, Some};
-ghost use Rattle.chip_core.specs.Fields.{FieldsFit};
-ghost use Rattle.quality_bits.specs.Capsules.{FillsCapsule, IsWhole};
 ghost use Rattle.quality_bits.specs.Kinds.{IsChecked};
-ghost use Rattle.quality_bits.specs.declared.kind.Kind.TheVariants.{M16};
 ghost use Rattle.traffic_message.specs.Layouts.{head_contents, head_in};
 ghost use Rattle.traffic_message.specs.Messages.{head_fields, head_values, traffic_message_body};
 ghost use Rattle.traffic_message.specs.Messages.{traffic_capsule, IsTrafficMessage, Message};

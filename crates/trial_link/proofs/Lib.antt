@@ -1,4 +1,3 @@
--- The modules of lemmas of `trial_link`.
 pub mod Common
 pub mod TrialDraws
 pub mod TrialFrames

@@ -1,7 +1,7 @@
 -- Lemmas on the draws of a trial, one after another.
-use Rattle.trial_link.proofs.Common.{◌≡◌, ℕ, suc, ◌+◌, ◌%◌, ◌==◌, [], ◌∷◌, ◌++◌, length, map, refl, ap, arith, length-map-places}
-use Rattle.trial_link.proofs.Common.{map-places-more, places-none, past_draw, past_draws, past_frame, past_frames, bits_drawn}
-use Rattle.trial_link.proofs.Common.{drawn, frame_drawn, frames_drawn, trial_serial_number}
+use Rattle.trial_link.proofs.Common.{◌≡◌, ℕ, suc, ◌+◌, ◌%◌, ◌==◌, [], ◌∷◌, ◌++◌, length, map, refl, ap, arith, length-map-places, past_draw}
+use Rattle.trial_link.proofs.Common.{map-places-more, places-none, past_draws, past_frame, past_frames, bits_drawn, drawn, frame_drawn}
+use Rattle.trial_link.proofs.Common.{frames_drawn, trial_serial_number}
 
 -- ---- none yet
 

@@ -1,16 +1,14 @@
 -- The lines of a traffic channel with its frames, and the draft that they lead to.
 use Rattle.trial_link.proofs.Common.{◌≡◌, ℕ, ◌+◌, ◌*◌, ◌<◌, ◌≤◌, List, [], ◌∷◌, ◌++◌, length, map, refl, sym, ap, ◌∙◌, arith, subst, Some}
-use Rattle.trial_link.proofs.Common.{append_assoc, append-nil, length-append, option_map, length-map-range_with_len, places, CellPlan}
-use Rattle.trial_link.proofs.Common.{TrafficPlan, Stage, FirstFrame, Frames, TrafficLine, TrafficFrame, Draft, draft_at, Statement}
-use Rattle.trial_link.proofs.Common.{with_frame, with_next, one_frame_more, rate_set, One, SetOne, SetTwo, FrameRate, RateSet, frames_stage}
-use Rattle.trial_link.proofs.Common.{IsTrafficFrame, after_frame, after_traffic, lines_of, statement_line, statement_text, past_draw}
-use Rattle.trial_link.proofs.Common.{past_draws, past_frames, bits_of_frame, traffic_plan_of, frame_drawn, frames_drawn, on_last-last}
+use Rattle.trial_link.proofs.Common.{append_assoc, append-nil, length-append, option_map, length-map-range_with_len, places, CellPlan, One}
+use Rattle.trial_link.proofs.Common.{TrafficPlan, Stage, FirstFrame, Frames, TrafficLine, TrafficFrame, Draft, draft_at, Statement, SetOne}
+use Rattle.trial_link.proofs.Common.{with_frame, with_next, one_frame_more, rate_set, SetTwo, FrameRate, RateSet, frames_stage, after_frame}
+use Rattle.trial_link.proofs.Common.{IsTrafficFrame, after_traffic, lines_of, statement_line, statement_text, past_draw, past_draws, Leads}
+use Rattle.trial_link.proofs.Common.{past_frames, bits_of_frame, traffic_plan_of, frame_drawn, frames_drawn, on_last-last, first_leads}
 use Rattle.trial_link.proofs.TrialLengths.{written_frame_short, written_traffic_short}
 use Rattle.cell_script.proofs.SpelledLines.{IsWritableTraffic, frame_writable}
-use Rattle.cell_script.proofs.StatedLines.{Leads}
-use Rattle.cell_script.proofs.WrittenPlans.{first_leads}
-use Rattle.cell_script.specs.declared.statements.Statement.TheVariants as statements
 use Rattle.trial_link.proofs.TrialDraws.{length-bits_drawn}
+use Rattle.cell_script.specs.declared.statements.Statement.TheVariants as statements
 
 -- frames of rate set 1 that lines can tell
 abbrev pub AreToldFrames : List TrafficFrame → Type 0

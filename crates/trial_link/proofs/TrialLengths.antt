@@ -3,8 +3,7 @@ use Rattle.trial_link.proofs.Common.{◌≡◌, ◌+◌, ◌≤◌, true, length
 use Rattle.trial_link.proofs.Common.{IsStatedCell, IsTrafficFrame, written_cell, written_frame, written_page, written_traffic}
 use Rattle.cell_script.proofs.LineForms.{fields_short}
 use Rattle.cell_script.proofs.SpelledLines.{IsWritableTraffic, body_short, cell_writable, frame_law, frame_writable, information_few}
-use Rattle.cell_script.proofs.SpelledLines.{page_law}
-use Rattle.cell_script.proofs.SpelledLines.{page_writable}
+use Rattle.cell_script.proofs.SpelledLines.{page_law, page_writable}
 use Rattle.cell_script.specs.ScriptLines.{cell_statement, frame_statement, page_statement, traffic_statement}
 
 -- a line is short: that of a cell, of a traffic channel, of a page, of a frame

@@ -1,22 +1,20 @@
 -- The plan that the script of a trial names.
-use Rattle.trial_link.proofs.Common.{◌≡◌, ℕ, ◌+◌, ◌*◌, ◌%◌, ◌^◌, ◌<◌, ◌≤◌, ◌==◌, Bool, true, false, List, [], ◌∷◌, ◌++◌, length, map, refl}
-use Rattle.trial_link.proofs.Common.{ap, ◌∙◌, arith, Some, None, Ok, codes, option_map, cond-false, cond-true, eqb-false, le-ltb, Sixteen}
-use Rattle.trial_link.proofs.Common.{binary, digits_from, decode_pairs, IsState, admits, bits_left, fill, is_body, R9600, CellIdentity}
-use Rattle.trial_link.proofs.Common.{CellPlan, Stage, Link, Pilot, Sync, Paging, FirstPage, Pages, Frames, One, Draft, PagingLine}
-use Rattle.trial_link.proofs.Common.{Statement, named, plan_fault, plan_named, stated_plan, unless, draft_at, empty_draft, empty_plan}
-use Rattle.trial_link.proofs.Common.{opened_paging, with_next, script_field, numbers_in, past, past_numbers, freq_in, link_in, past_freq}
-use Rattle.trial_link.proofs.Common.{statement_in, sync_after, sync_in, IsStatedCell, count_after, page_stage, bits_in_text, hex_bits}
-use Rattle.trial_link.proofs.Common.{length_before, number_up_to, signed_in, lines_of, script_of, statements_of, written_link}
-use Rattle.trial_link.proofs.Common.{written_paging, written_pilot, written_sync, bit_text, padded, packed_octets, encode_with, digits}
-use Rattle.trial_link.proofs.Common.{drawn, past_draws, followed_line, other_frame, second_line, state_of_draws, third_line, trial_cell}
-use Rattle.trial_link.proofs.Common.{trial_frames, trial_link, trial_page, trial_plan, trial_serial_number, trial_sync, trial_text}
+use Rattle.trial_link.proofs.Common.{trial_serial_number, written_paging, state_of_draws, opened_paging, length_before, statements_of, ◌==◌}
+use Rattle.trial_link.proofs.Common.{written_pilot, packed_octets, followed_line, leads_to_plan, decode_pairs, CellIdentity, script_field}
+use Rattle.trial_link.proofs.Common.{past_numbers, statement_in, IsStatedCell, bits_in_text, number_up_to, written_link, written_sync, Bool}
+use Rattle.trial_link.proofs.Common.{trial_frames, digits_from, stated_plan, empty_draft, count_after, encode_with, other_frame, option_map}
+use Rattle.trial_link.proofs.Common.{second_line, first_leads, cond-false, PagingLine, plan_fault, plan_named, empty_plan, numbers_in, true}
+use Rattle.trial_link.proofs.Common.{sync_after, page_stage, past_draws, third_line, trial_cell, trial_link, trial_page, trial_plan, length}
+use Rattle.trial_link.proofs.Common.{trial_sync, trial_text, none_leads, cond-true, eqb-false, bits_left, FirstPage, Statement, with_next}
+use Rattle.trial_link.proofs.Common.{past_freq, signed_in, script_of, CellPlan, draft_at, hex_bits, lines_of, bit_text, Sixteen, IsState, ℕ}
+use Rattle.trial_link.proofs.Common.{is_body, freq_in, link_in, sync_in, le-ltb, binary, admits, Paging, Frames, unless, padded, digits, []}
+use Rattle.trial_link.proofs.Common.{false, arith, codes, R9600, Stage, Pilot, Pages, Draft, named, drawn, Leads, List, ◌++◌, refl, Some}
+use Rattle.trial_link.proofs.Common.{None, fill, Link, Sync, past, ◌≡◌, ◌+◌, ◌*◌, ◌%◌, ◌^◌, ◌<◌, ◌≤◌, ◌∷◌, map, ◌∙◌, One, ap, Ok}
 use Rattle.trial_link.proofs.TrialFrames.{AreToldFrames, channel_leads, channel_short, frames_drawn-long, frames_drawn_are, lines_long}
 use Rattle.trial_link.proofs.TrialFrames.{with_last}
 use Rattle.trial_link.proofs.TrialLengths.{written_cell_short, written_page_short}
 use Rattle.cell_script.proofs.ScriptRanges.{line_writable}
 use Rattle.cell_script.proofs.SpelledLines.{IsWritable, IsWritableTraffic, cell_writable, page_writable}
-use Rattle.cell_script.proofs.StatedLines.{Leads, leads_to_plan, none_leads}
-use Rattle.cell_script.proofs.WrittenPlans.{first_leads}
 use Rattle.cell_script.specs.declared.statements.Statement.TheVariants as statements
 
 -- ---- what the lines that no number changes state

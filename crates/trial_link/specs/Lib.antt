@@ -1,3 +1,2 @@
--- The modules of definitions of `trial_link`.
 pub mod Trial
 mod WorkedTrial

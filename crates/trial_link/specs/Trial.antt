@@ -1,6 +1,6 @@
 -- The script of a trial: a whole link that a number tells, by a generator of numbers.
-use Rattle.std.specs.Prelude.{ℕ, zero, suc, ◌+◌, ◌*◌, ◌/◌, ◌%◌, ◌^◌, ◌==◌, Bool, false}
-use Rattle.std.specs.Prelude.{if◌then◌else◌, List, [], ◌∷◌, ◌++◌, map, pos, Some}
+use Rattle.std.specs.Prelude.{ℕ, zero, suc, ◌+◌, ◌*◌, ◌/◌, ◌%◌, ◌^◌, ◌==◌, Bool, false, List, []}
+use Rattle.std.specs.Prelude.{if◌then◌else◌, ◌∷◌, ◌++◌, map, pos, Some}
 use Rattle.chip_core.specs.Bits.{binary, places}
 use Rattle.chip_core.specs.declared.check_form.CheckForm.TheVariants.{Complemented}
 use Rattle.quality_bits.specs.TrafficCodewords.{information_of}

@@ -1,15 +1,11 @@
 -- The frames of a channel after the mark, as they are given one by one.
-use Rattle.tuned_listener.proofs.Common.{◌≡◌, ℕ, ◌+◌, ◌*◌, ◌<◌, ◌≤◌, true, false, List, [], ◌∷◌, ◌++◌, map, filter, length, refl, sym, ap}
-use Rattle.tuned_listener.proofs.Common.{◌∙◌, arith, ℤ, Option, length-append, map-append, places, Sample, after, frame_chips, scrambling}
-use Rattle.tuned_listener.proofs.Common.{channel_stream, has_power_control, mask_of, state_at, IsAt, IsDueAt, clock_from, first_frame}
-use Rattle.tuned_listener.proofs.Common.{frame_come, frame_passed, HasGiven, Data, softs, AreNear, unscrambled, frames_within, power_of}
-use Rattle.tuned_listener.proofs.Common.{soft_frame, soft_frames, is_in_file, stream_end, Tuning, Channel, ChannelReceiver, FrameClock}
-use Rattle.tuned_listener.proofs.Common.{Mark, PowerControl, SoftFrame, frames_sooner}
+use Rattle.tuned_listener.proofs.Common.{has_power_control, ChannelReceiver, channel_ordered, channel_stream, length-append, frames_within}
+use Rattle.tuned_listener.proofs.Common.{frames_sooner, frame_passed, PowerControl, paging_bound, frame_chips, first_frame, unscrambled, []}
+use Rattle.tuned_listener.proofs.Common.{soft_frames, outside_low, map-append, scrambling, clock_from, frame_come, soft_frame, is_in_file}
+use Rattle.tuned_listener.proofs.Common.{stream_end, FrameClock, SoftFrame, frames_in, state_at, HasGiven, power_of, known_is, mask_of, ◌≡◌}
+use Rattle.tuned_listener.proofs.Common.{IsDueAt, AreNear, Channel, filter, length, Option, places, Sample, Tuning, false, arith, after, ap}
+use Rattle.tuned_listener.proofs.Common.{softs, true, List, ◌++◌, refl, IsAt, Data, Mark, ◌+◌, ◌*◌, ◌<◌, ◌≤◌, ◌∷◌, map, sym, ◌∙◌, ℕ, ℤ}
 use Rattle.reception.proofs.ClockSteps.{before_next, clock_come, clock_heard, clock_more, clock_new, due_inside, from_next}
-use Rattle.rake_finger.proofs.FrameTimes.{outside_low}
-use Rattle.heard_events.proofs.Arrivals.{frames_in, known_is}
-use Rattle.heard_events.proofs.ChannelFrames.{channel_ordered}
-use Rattle.heard_events.specs.PagingStreams.{paging_bound}
 use Rattle.chip_core.proofs.Ranges as ranges
 
 module _ {t : Tuning} {channel : Channel} {m : Mark} {r : ChannelReceiver} {n : ℕ}

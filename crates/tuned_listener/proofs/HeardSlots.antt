@@ -1,9 +1,8 @@
 -- A slot whose four frames were kept: its soft values are small, and its lines are those told.
-use Rattle.tuned_listener.proofs.Common.{◌≡◌, ◌<◌, ◌≤◌, ℕ, zero, suc, ◌+◌, ◌*◌, ◌/◌, Bool, true, false, List, length, take, drop, ℤ, refl}
-use Rattle.tuned_listener.proofs.Common.{sym, ap, ◌∙◌, arith, Some, None, flat_map, nat_lt, sum_by, unsigned_abs, take-add, if◌then◌else◌}
-use Rattle.tuned_listener.proofs.Common.{eq-eqb, drop-drop, take_all, sum_by-append, CheckForm, paging_rate, frame_most, Mark, SoftFrame}
-use Rattle.tuned_listener.proofs.Common.{slot_bits, slot_span_softs, is_monitored, Rate, slot_lines, slot_pages, HoldsSlot, slot_text}
-use Rattle.tuned_listener.proofs.Common.{SlotWriter}
+use Rattle.tuned_listener.proofs.Common.{slot_span_softs, if◌then◌else◌, sum_by-append, unsigned_abs, is_monitored, paging_rate, frame_most}
+use Rattle.tuned_listener.proofs.Common.{slot_lines, slot_pages, SlotWriter, drop-drop, CheckForm, SoftFrame, slot_bits, HoldsSlot, length}
+use Rattle.tuned_listener.proofs.Common.{slot_text, flat_map, take-add, take_all, nat_lt, sum_by, eq-eqb, false, arith, zero, Bool, true, ℕ}
+use Rattle.tuned_listener.proofs.Common.{List, take, drop, refl, Some, None, Mark, Rate, ◌≡◌, ◌<◌, ◌≤◌, suc, ◌+◌, ◌*◌, ◌/◌, sym, ◌∙◌, ap, ℤ}
 
 -- ---- its soft values
 

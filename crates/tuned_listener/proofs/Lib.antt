@@ -1,4 +1,3 @@
--- The modules of lemmas of `tuned_listener`.
 pub mod Common
 pub mod FrameTexts
 pub mod FramesGiven

@@ -1,12 +1,12 @@
 -- What is written of a sleeping handset's slots depends on the samples of these alone.
-use Rattle.tuned_listener.proofs.Common.{◌≡◌, ℕ, ◌+◌, ◌-◌, ◌*◌, ◌<◌, ◌≤◌, true, List, [], ◌∷◌, length, refl, sym, ap, ◌∙◌, subst, arith}
-use Rattle.tuned_listener.proofs.Common.{inl, inr, ℤ, pos, ◌-ℤ◌, Option, Some, None, take, drop, filter, length-take-le, int_le}
-use Rattle.tuned_listener.proofs.Common.{unsigned_abs, and_parts, cases_lt, ints, drop-drop, drop-take, take-append-drop, take-take}
-use Rattle.tuned_listener.proofs.Common.{take_all, places, Sample, Data, channel_stream, AgreeIn, mark, AreNear, all_near, has_reference}
-use Rattle.tuned_listener.proofs.Common.{low_of, paging_rate, Stream, frame_softs, frame_start, Tuning, finger_of, fingers_of, sync_stream}
-use Rattle.tuned_listener.proofs.Common.{Paging, Mark, SoftFrame, near_parts, timed_of, frame_same, mark_after, mark_sooner, mark_stays}
-use Rattle.tuned_listener.proofs.Common.{paging_near, slot_bits, frame_of_slot, frame_of_slot_end, is_heard, lines_of_slot, slot_bound}
-use Rattle.tuned_listener.proofs.Common.{slot_lines, slot_pages, AgreeInSlot, SleepsThroughTheRest}
+use Rattle.tuned_listener.proofs.Common.{◌≡◌, ℕ, ◌+◌, ◌-◌, ◌*◌, ◌<◌, ◌≤◌, true, List, [], ◌∷◌, length, refl, sym, ap, ◌∙◌, subst, arith, ℤ}
+use Rattle.tuned_listener.proofs.Common.{inl, inr, pos, ◌-ℤ◌, Option, Some, None, take, drop, filter, length-take-le, int_le, unsigned_abs}
+use Rattle.tuned_listener.proofs.Common.{and_parts, cases_lt, ints, drop-drop, drop-take, take-append-drop, take-take, take_all, places}
+use Rattle.tuned_listener.proofs.Common.{Sample, Data, channel_stream, AgreeIn, mark, AreNear, all_near, has_reference, low_of, paging_rate}
+use Rattle.tuned_listener.proofs.Common.{Stream, frame_softs, frame_start, Tuning, finger_of, fingers_of, sync_stream, Paging, Mark}
+use Rattle.tuned_listener.proofs.Common.{SoftFrame, near_parts, timed_of, frame_same, mark_after, mark_sooner, mark_stays, paging_near}
+use Rattle.tuned_listener.proofs.Common.{slot_bits, frame_of_slot, frame_of_slot_end, is_heard, lines_of_slot, slot_bound, slot_lines}
+use Rattle.tuned_listener.proofs.Common.{slot_pages, AgreeInSlot, SleepsThroughTheRest}
 use Rattle.std.specs.List.{flat_map}
 use Rattle.tuned_listener.proofs.SlotTimes.{mark_is_late, written_by_times}
 use Rattle.chip_core.proofs.Ranges as ranges

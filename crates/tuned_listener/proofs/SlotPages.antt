@@ -1,13 +1,10 @@
 -- The messages of a slot, as its bits are taken one by one, and their lines.
-use Rattle.tuned_listener.proofs.Common.{◌≡◌, ◌<◌, ◌≤◌, ℕ, zero, suc, ◌+◌, ◌-◌, Bool, List, [], ◌∷◌, ◌++◌, length, take, refl, sym, ap, ◌∙◌}
-use Rattle.tuned_listener.proofs.Common.{subst, arith, append-nil, Option, None, Some, append_assoc, flat_map, length-append, slice_get}
-use Rattle.tuned_listener.proofs.Common.{is_some, Appends, option_to_list, Appends-trans, take-take, take_all, flat_map-append}
-use Rattle.tuned_listener.proofs.Common.{slice_get_within, bool_byte, places, CheckForm, taken_more, flat_map-places-more}
-use Rattle.tuned_listener.proofs.Common.{flat_map_ext_places, AppendsPrefix, paging_line, capsules_in, half_frame_body}
-use Rattle.tuned_listener.proofs.Common.{half_frame_capsule_ending, paging_reading, PagingMessage, Rate, slot_pages, page_list}
-use Rattle.tuned_listener.proofs.Common.{pages_ending, Page}
-use Rattle.std.proofs.lemmas.List.{length-take-le}
-use Rattle.event_tap.proofs.Prefixes.{prefix_before, prefix_after}
+use Rattle.tuned_listener.proofs.Common.{half_frame_capsule_ending, flat_map-places-more, flat_map_ext_places, slice_get_within, append-nil}
+use Rattle.tuned_listener.proofs.Common.{flat_map-append, half_frame_body, option_to_list, paging_reading, length-take-le, length-append, ℕ}
+use Rattle.tuned_listener.proofs.Common.{Appends-trans, AppendsPrefix, PagingMessage, prefix_before, append_assoc, pages_ending, taken_more}
+use Rattle.tuned_listener.proofs.Common.{prefix_after, paging_line, capsules_in, slot_pages, slice_get, take-take, bool_byte, CheckForm, []}
+use Rattle.tuned_listener.proofs.Common.{page_list, flat_map, take_all, is_some, Appends, length, Option, places, subst, arith, zero, Bool}
+use Rattle.tuned_listener.proofs.Common.{List, ◌++◌, take, refl, None, Some, Rate, Page, ◌≡◌, ◌<◌, ◌≤◌, suc, ◌+◌, ◌-◌, ◌∷◌, sym, ◌∙◌, ap}
 
 -- what stands at the front of the pieces of more numbers
 pieces_begin : {X : Type 0} (f : ℕ → List X) (n d : ℕ) →

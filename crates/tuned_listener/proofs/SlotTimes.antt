@@ -1,15 +1,14 @@
 -- What is written of a sleeping handset's slots, slot by slot.
-use Rattle.tuned_listener.proofs.Common.{◌≡◌, ℕ, zero, suc, ◌+◌, ◌*◌, ◌/◌, ◌%◌, ◌<◌, ◌≤◌, ◌&&◌, Bool, true, false, List, [], ◌∷◌, ◌++◌}
-use Rattle.tuned_listener.proofs.Common.{length, map, filter, nat_le, refl, sym, ap, ◌∙◌, subst, arith, inl, inr, Option, Some, None}
-use Rattle.tuned_listener.proofs.Common.{if◌then◌else◌, nat_lt, range_with_len, and_from, and_parts, and_right, cases_Bool, cases_lt}
-use Rattle.tuned_listener.proofs.Common.{false_from_ne_true, le-leb, leb-true, lt-leb, places, CheckForm, Sample}
-use Rattle.tuned_listener.proofs.Common.{channel_stream, mark, AreNear, all_begun, low_in, paging_bound, paging_rate, frames_within}
-use Rattle.tuned_listener.proofs.Common.{soft_frame, soft_frames, Stream, is_in_file, known_at, IsTimed, stream_end, Tuning, sync_stream}
-use Rattle.tuned_listener.proofs.Common.{Paging, Mark, SoftFrame, close_begun, near_are_close, timed_in, timed_of, ends_lt, inside_from}
-use Rattle.tuned_listener.proofs.Common.{inside_to, known_between, known_own, mark_later, mark_set, paging_near, slot_bits, is_monitored}
-use Rattle.tuned_listener.proofs.Common.{frame_of_slot, frame_of_slot_end, is_heard, is_slot_within, lines_if_marked, lines_by_times}
-use Rattle.tuned_listener.proofs.Common.{lines_of_slot, lines_of_slots, slot_bound, slot_lines, slot_pages, IsWrittenByTimes, NeedsMark}
-use Rattle.tuned_listener.proofs.Common.{slot_more, slot_text, frames_text, text_if_marked, tuned_text, Slots}
+use Rattle.tuned_listener.proofs.Common.{false_from_ne_true, frame_of_slot_end, IsWrittenByTimes, lines_if_marked, range_with_len, and_from}
+use Rattle.tuned_listener.proofs.Common.{channel_stream, near_are_close, is_slot_within, lines_by_times, lines_of_slots, text_if_marked, []}
+use Rattle.tuned_listener.proofs.Common.{if◌then◌else◌, frames_within, known_between, frame_of_slot, lines_of_slot, paging_bound, and_parts}
+use Rattle.tuned_listener.proofs.Common.{is_monitored, paging_rate, soft_frames, sync_stream, close_begun, inside_from, paging_near, length}
+use Rattle.tuned_listener.proofs.Common.{frames_text, cases_Bool, soft_frame, is_in_file, stream_end, mark_later, slot_bound, slot_lines, ℕ}
+use Rattle.tuned_listener.proofs.Common.{slot_pages, tuned_text, and_right, CheckForm, all_begun, SoftFrame, inside_to, known_own, cases_lt}
+use Rattle.tuned_listener.proofs.Common.{slot_bits, NeedsMark, slot_more, slot_text, leb-true, known_at, timed_in, timed_of, mark_set, zero}
+use Rattle.tuned_listener.proofs.Common.{is_heard, AreNear, IsTimed, ends_lt, filter, nat_le, Option, nat_lt, le-leb, lt-leb, places, false}
+use Rattle.tuned_listener.proofs.Common.{Sample, low_in, Stream, Tuning, Paging, subst, arith, Slots, ◌&&◌, Bool, true, List, ◌++◌, refl}
+use Rattle.tuned_listener.proofs.Common.{Some, None, mark, Mark, ◌≡◌, suc, ◌+◌, ◌*◌, ◌/◌, ◌%◌, ◌<◌, ◌≤◌, ◌∷◌, map, sym, ◌∙◌, inl, inr, ap}
 use Rattle.std.specs.List.{flat_map}
 use Rattle.chip_core.proofs.Ranges as ranges
 

@@ -1,16 +1,14 @@
 -- The text of the frames after a mark, as it is written frame by frame.
-use Rattle.tuned_listener.proofs.Common.{◌≡◌, ℕ, zero, suc, ◌+◌, ◌≤◌, Bool, true, false, List, [], ◌∷◌, ◌++◌, map, filter, length, take}
-use Rattle.tuned_listener.proofs.Common.{drop, refl, sym, ap, ◌∙◌, subst, arith, inl, inr, nat_le, Option, None, Some, append_assoc}
-use Rattle.tuned_listener.proofs.Common.{take-add, length-append, StartsWith, Appends, range_with_len, option_to_list, Appends-nil}
-use Rattle.tuned_listener.proofs.Common.{Appends-trans, and_from, cases_Bool, cases_lt, false_from_ne_true, le-leb, map-append}
-use Rattle.tuned_listener.proofs.Common.{take-append-drop, take_all, places, Sample, AppendsPrefix, channel_stream, paging_bound}
-use Rattle.tuned_listener.proofs.Common.{frames_within, soft_frame, soft_frames, IsTimed, IsTunedTo, IsTunerStep, Tuning, Channel, Mark}
-use Rattle.tuned_listener.proofs.Common.{SoftFrame, Tuner, TunerStep, frames_sooner, HoldsFrames, WritesFrames, WritesFramesPart}
-use Rattle.tuned_listener.proofs.Common.{slot_after, slot_more, tuned_frame_text, frames_text, text_from, FrameWriter, TunedText}
+use Rattle.tuned_listener.proofs.Common.{◌≡◌, ℕ, zero, suc, ◌+◌, ◌≤◌, Bool, true, false, List, [], ◌∷◌, ◌++◌, map, filter, length, take, ap}
+use Rattle.tuned_listener.proofs.Common.{drop, refl, sym, ◌∙◌, subst, arith, inl, inr, nat_le, Option, None, Some, append_assoc, take-add}
+use Rattle.tuned_listener.proofs.Common.{length-append, StartsWith, Appends, range_with_len, option_to_list, Appends-nil, Appends-trans}
+use Rattle.tuned_listener.proofs.Common.{and_from, cases_Bool, cases_lt, false_from_ne_true, le-leb, map-append, take-append-drop, take_all}
+use Rattle.tuned_listener.proofs.Common.{places, Sample, AppendsPrefix, channel_stream, paging_bound, frames_within, soft_frame, IsTimed}
+use Rattle.tuned_listener.proofs.Common.{soft_frames, IsTunedTo, IsTunerStep, Tuning, Channel, Mark, SoftFrame, Tuner, TunerStep, slot_more}
+use Rattle.tuned_listener.proofs.Common.{frames_sooner, HoldsFrames, WritesFrames, WritesFramesPart, slot_after, tuned_frame_text, Arrivals}
+use Rattle.tuned_listener.proofs.Common.{frames_text, text_from, FrameWriter, TunedText, begins_more, prefix_before, prefix_after, by_parts}
+use Rattle.tuned_listener.proofs.Common.{taken_begins, frames_in, is_by, channel_ordered}
 use Rattle.tuned_listener.proofs.FrameTexts.{kept_after, kept_after_none, kept_after_one, text_of_none, text_of_one, texts_joined}
-use Rattle.event_tap.proofs.Prefixes.{begins_more, prefix_before, prefix_after, taken_begins}
-use Rattle.heard_events.proofs.Arrivals.{Arrivals, by_parts, frames_in, is_by}
-use Rattle.heard_events.proofs.ChannelFrames.{channel_ordered}
 use Rattle.chip_core.proofs.Ranges as ranges
 
 -- ---- frames go on

@@ -1,16 +1,14 @@
 -- A listener, and what it writes, where samples are taken.
-use Rattle.tuned_listener.proofs.Common.{◌≡◌, ℕ, ◌+◌, List, [], ◌++◌, length, take, drop, refl, sym, ap, ◌∙◌, Option, None, Some}
-use Rattle.tuned_listener.proofs.Common.{append-nil, append_assoc, arith, subst, ◌*◌, ◌<◌, ◌≤◌, sum_by, unsigned_abs, StartsWith}
-use Rattle.tuned_listener.proofs.Common.{Appends-nil, take-append-drop, take_all, CheckForm, Sample, Near, IsLawful, mark, AreNear}
-use Rattle.tuned_listener.proofs.Common.{soft_frames, frame_most, IsTunedTo, Tuning, sync_stream, Channel, Paging, Traffic, Mark, Mobile}
-use Rattle.tuned_listener.proofs.Common.{SoftFrame, Tuner, HoldsFrames, IsReady, WritesFrames, WritesFramesPart, tuned_text_of}
-use Rattle.tuned_listener.proofs.Common.{nil_from_length, ListensAfter, ListensFrom, ListensTuned, TellsTuned, WaitsFor}
-use Rattle.tuned_listener.proofs.Common.{TellsTunedPart, IsReadyForSlots, slot_after, after_mark, frames_from, text_from, tuned_text}
-use Rattle.tuned_listener.proofs.Common.{CanOpen, CanOpenFor, IsMarkedAt, IsSoundHearer, IsSoundMark, IsUntold, OpensFor, WasTold}
-use Rattle.tuned_listener.proofs.Common.{samples_taken}
-use Rattle.tuned_listener.proofs.Common.{FrameWriter, SlotWriter, Hearer, After, Ahead, TunedListener, TunedText}
+use Rattle.tuned_listener.proofs.Common.{◌≡◌, ℕ, ◌+◌, List, [], ◌++◌, length, take, drop, refl, sym, ap, ◌∙◌, Option, None, Some, arith}
+use Rattle.tuned_listener.proofs.Common.{append-nil, append_assoc, subst, ◌*◌, ◌<◌, ◌≤◌, sum_by, unsigned_abs, StartsWith, Appends-nil}
+use Rattle.tuned_listener.proofs.Common.{take-append-drop, take_all, CheckForm, Sample, Near, IsLawful, mark, AreNear, soft_frames, Tuning}
+use Rattle.tuned_listener.proofs.Common.{frame_most, IsTunedTo, sync_stream, Channel, Paging, Traffic, Mark, Mobile, SoftFrame, Tuner}
+use Rattle.tuned_listener.proofs.Common.{HoldsFrames, IsReady, WritesFrames, WritesFramesPart, tuned_text_of, nil_from_length, ListensAfter}
+use Rattle.tuned_listener.proofs.Common.{ListensFrom, ListensTuned, TellsTuned, WaitsFor, TellsTunedPart, IsReadyForSlots, slot_after}
+use Rattle.tuned_listener.proofs.Common.{after_mark, frames_from, text_from, tuned_text, CanOpen, CanOpenFor, IsMarkedAt, IsSoundHearer}
+use Rattle.tuned_listener.proofs.Common.{IsSoundMark, IsUntold, OpensFor, WasTold, samples_taken, FrameWriter, SlotWriter, Hearer, After}
+use Rattle.tuned_listener.proofs.Common.{Ahead, TunedListener, TunedText, none_marked}
 use Rattle.tuned_listener.proofs.FrameTexts.{kept_after_none}
-use Rattle.heard_events.proofs.MarkGrowth.{none_marked}
 use Rattle.tuned_listener.proofs.TunedMarks.{mark_kept, there_eq, there_le}
 use Rattle.tuned_listener.proofs.TunedTexts.{text_at_mark, text_marked, text_unmarked}
 use Rattle.tuned_listener.specs.declared.frame_writer.FrameWriter.TheVariants as writers

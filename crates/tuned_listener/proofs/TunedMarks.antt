@@ -1,11 +1,10 @@
 -- A handset ahead of the mark, step by step, and the mark of samples that go on.
 use Rattle.tuned_listener.proofs.Common.{◌≡◌, ℕ, ◌+◌, ◌≤◌, true, false, List, [], ◌∷◌, ◌++◌, length, refl, sym, ap, ◌∙◌, subst, arith, inl}
-use Rattle.tuned_listener.proofs.Common.{inr, Option, Some, None, append-nil, append_assoc, drop, length-append, length-take-le, take}
-use Rattle.tuned_listener.proofs.Common.{∥∥₁_map, IfSome, is_some, list_any, cases_lt, not_there, take-append-drop, take_all, Sample}
-use Rattle.tuned_listener.proofs.Common.{events, at_of, event_list, mark, sets_mark, AreNear, low_of, Steps, samples_taken, Tuning}
-use Rattle.tuned_listener.proofs.Common.{sync_stream, Event, Mark, Mobile, Step, timed_of, mark_sooner, mark_stays, marked_all, HasNoMark}
-use Rattle.tuned_listener.proofs.Common.{HearsUntold, IsMarkedAt, IsUntold, ListensAhead}
-use Rattle.mobile_core.specs.Standing.{StandsFor}
+use Rattle.tuned_listener.proofs.Common.{inr, Option, Some, None, append-nil, append_assoc, drop, length-append, length-take-le, take, mark}
+use Rattle.tuned_listener.proofs.Common.{∥∥₁_map, IfSome, is_some, list_any, cases_lt, not_there, take-append-drop, take_all, Sample, at_of}
+use Rattle.tuned_listener.proofs.Common.{events, event_list, sets_mark, AreNear, low_of, Steps, samples_taken, Tuning, sync_stream, Event}
+use Rattle.tuned_listener.proofs.Common.{Mark, Mobile, Step, timed_of, mark_sooner, mark_stays, marked_all, HasNoMark, HearsUntold}
+use Rattle.tuned_listener.proofs.Common.{IsMarkedAt, IsUntold, ListensAhead, StandsFor}
 use Rattle.tuned_listener.proofs.TunedFrames.{step_joined}
 use Rattle.chip_core.proofs.Ranges as ranges
 

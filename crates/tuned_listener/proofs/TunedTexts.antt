@@ -1,8 +1,7 @@
 -- The text of a channel's frames, as samples go on.
-use Rattle.tuned_listener.proofs.Common.{◌≡◌, List, [], length, ap, ◌∙◌, Some, None, Sample, mark, AreNear, soft_frames, Tuning}
-use Rattle.tuned_listener.proofs.Common.{sync_stream, Channel, Mark, frames_text, text_if_marked, text_from, tuned_text, TunedText}
+use Rattle.tuned_listener.proofs.Common.{◌≡◌, List, [], length, ap, ◌∙◌, Some, None, Sample, mark, AreNear, soft_frames, Tuning, Channel}
+use Rattle.tuned_listener.proofs.Common.{sync_stream, Mark, frames_text, text_if_marked, text_from, tuned_text, TunedText, none_marked}
 use Rattle.tuned_listener.proofs.FrameTexts.{text_of_none}
-use Rattle.heard_events.proofs.MarkGrowth.{none_marked}
 pub use Rattle.tuned_listener.proofs.FrameTexts.{listed_texts, rate2_texts, texts_by_frame}
 
 module _ (form : TunedText) (t : Tuning) (channel : Channel) (heard : List Sample) where

@@ -1,13 +1,8 @@
 -- What the receiver of a channel's frames stands for, each of which is received by itself.
+use Rattle.tuned_listener.specs.Common.{data_frame_chips, after, Tuning, Channel, Mark, Held}
 use Rattle.std.specs.Prelude.{◌≡◌, ℕ, ◌*◌, ◌<◌, ◌≤◌, length}
-use Rattle.chip_core.specs.Air.{data_frame_chips}
-use Rattle.long_code.specs.LongCode.{after}
 use Rattle.heard_events.specs.Channels.{channel_stream, has_power_control, mask_of, state_at}
-use Rattle.heard_events.specs.Tuning.{Tuning}
-use Rattle.heard_events.specs.declared.channel.Channel.{Channel}
-use Rattle.heard_events.specs.declared.mark.Mark.{Mark}
 use Rattle.tuned_listener.specs.declared.channel_receiver.ChannelReceiver.{ChannelReceiver}
-use Rattle.rake_finger.specs.Held.{Held}
 use Rattle.reception.specs.Clocks.{IsAt, frame_come, clock_after_frame}
 use Rattle.reception.specs.Sound.{IsSoundReceiver}
 

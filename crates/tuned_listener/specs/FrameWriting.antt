@@ -1,24 +1,16 @@
 -- What writes the text of a channel's frames, and how far it has come.
+use Rattle.tuned_listener.specs.Common.{IsListLength, CheckForm, Sample, soft_frames, Tuning, Mark}
+use Rattle.tuned_listener.specs.Common.{Channel, SoftFrame, slot_after, text_from}
 use Rattle.std.specs.Prelude.{◌≡◌, ◌≤◌, ℕ, List, [], ◌++◌, Option}
 use Rattle.std.specs.Io.{StartsWith}
 use Rattle.std.specs.Io.KnownBytes.{Appends}
-use Rattle.chip_core.specs.Air.{IsListLength}
-use Rattle.chip_core.specs.declared.check_form.CheckForm.{CheckForm}
-use Rattle.chip_core.specs.declared.sample.Sample.{Sample}
-use Rattle.heard_events.specs.SoftFrames.{soft_frames}
 use Rattle.tuned_listener.specs.Tuners.{IsTunedTo}
-use Rattle.heard_events.specs.Tuning.{Tuning}
-use Rattle.heard_events.specs.declared.channel.Channel.{Channel}
-use Rattle.heard_events.specs.declared.mark.Mark.{Mark}
-use Rattle.heard_events.specs.declared.soft_frame.SoftFrame.{SoftFrame}
 use Rattle.tuned_listener.specs.declared.tuner.Tuner.{Tuner}
 use Rattle.tuned_listener.specs.SlotWriting.{HoldsSlot, IsReadyForSlots}
-use Rattle.event_tap.specs.Slots.{slot_after}
-use Rattle.event_tap.specs.TunedTexts.{text_from}
 use Rattle.tuned_listener.specs.declared.frame_writer.FrameWriter.{FrameWriter}
-use Rattle.tuned_listener.specs.declared.frame_writer.FrameWriter.TheVariants as writers
 use Rattle.event_tap.specs.declared.tuned_text.TunedText.{TunedText}
 use Rattle.event_tap.specs.declared.tuned_text.TunedText.TheVariants.{Listed, RateSetTwo, Slots}
+use Rattle.tuned_listener.specs.declared.frame_writer.FrameWriter.TheVariants as writers
 
 -- which text it writes
 abbrev pub tuned_text_of : FrameWriter → TunedText

@@ -1,4 +1,4 @@
--- The modules of definitions of `tuned_listener`.
+pub mod Common
 pub mod FrameReceiving
 pub mod FrameWriting
 pub mod Marking

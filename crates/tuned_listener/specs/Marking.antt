@@ -1,13 +1,8 @@
 -- A handset ahead of the mark, and where it is set.
+use Rattle.tuned_listener.specs.Common.{Sample, mark, sets_mark, StandsFor, Tuning, Mark, Mobile}
 use Rattle.std.specs.Prelude.{◌≡◌, false, List, length, None, Some}
 use Rattle.std.specs.List.{list_any}
-use Rattle.chip_core.specs.declared.sample.Sample.{Sample}
-use Rattle.heard_events.specs.Marks.{mark, sets_mark}
-use Rattle.mobile_core.specs.Standing.{StandsFor}
-use Rattle.heard_events.specs.Tuning.{Tuning}
 use Rattle.heard_events.specs.declared.event.Event.{Event}
-use Rattle.heard_events.specs.declared.mark.Mark.{Mark}
-use Rattle.mobile_core.specs.declared.mobile.Mobile.{Mobile}
 
 -- a handset was told no mark by the events that it gave of these samples
 pub record HasNoMark (t : Tuning) (mobile : Mobile) (heard : List Sample) : Type 0 where

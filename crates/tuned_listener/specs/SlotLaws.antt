@@ -1,16 +1,11 @@
 -- The laws of what is written of a sleeping handset's slots.
+use Rattle.tuned_listener.specs.Common.{superframe_chips, Sample, mark, AreNear, Tuning, Mark}
+use Rattle.tuned_listener.specs.Common.{sync_stream, tuned_text}
 use Rattle.std.specs.Prelude.{◌≡◌, ℕ, ◌+◌, ◌*◌, IsTrue, List, [], ◌∷◌, length, take, drop, ℤ, pos}
 use Rattle.std.specs.Prelude.{◌-ℤ◌, unsigned_abs, Some, None}
-use Rattle.chip_core.specs.Air.{superframe_chips}
-use Rattle.chip_core.specs.declared.sample.Sample.{Sample}
 use Rattle.heard_events.specs.Channels.{channel_stream}
-use Rattle.heard_events.specs.Marks.{mark}
-use Rattle.rake_finger.specs.Near.{AreNear}
-use Rattle.heard_events.specs.Tuning.{Tuning, sync_stream}
 use Rattle.heard_events.specs.declared.channel.Channel.TheVariants.{Paging}
-use Rattle.heard_events.specs.declared.mark.Mark.{Mark}
 use Rattle.event_tap.specs.SlotLines.{is_heard, lines_by_times}
-use Rattle.event_tap.specs.TunedTexts.{tuned_text}
 use Rattle.event_tap.specs.declared.tuned_text.TunedText.TheVariants.{Slots}
 
 -- ---- slots by their times

@@ -1,11 +1,9 @@
 -- What hears the slots of a sleeping handset on the way.
-use Rattle.std.specs.Prelude.{◌≡◌, ◌<◌, ◌≤◌, ℕ, ◌*◌, Bool, List, [], ◌∷◌, length, take, drop}
-use Rattle.std.specs.Prelude.{sum_by, unsigned_abs, Option, None, Some}
+use Rattle.tuned_listener.specs.Common.{CheckForm, frame_most, SoftFrame}
+use Rattle.std.specs.Prelude.{◌≡◌, ◌<◌, ◌≤◌, ℕ, ◌*◌, Bool, List, [], ◌∷◌, length, take, drop, None}
+use Rattle.std.specs.Prelude.{sum_by, unsigned_abs, Option, Some}
 use Rattle.std.specs.List.{flat_map}
 use Rattle.std.specs.Option.{option_to_list}
-use Rattle.chip_core.specs.declared.check_form.CheckForm.{CheckForm}
-use Rattle.reception.specs.Softs.{frame_most}
-use Rattle.heard_events.specs.declared.soft_frame.SoftFrame.{SoftFrame}
 use Rattle.paging_message.specs.HalfFrames.{half_frame_capsule_ending}
 use Rattle.paging_message.specs.Reading.{paging_reading}
 use Rattle.paging_message.specs.declared.message.PagingMessage.{PagingMessage}

@@ -1,12 +1,7 @@
 -- What always holds of a listener.
+use Rattle.tuned_listener.specs.Common.{Near, IsSoundMark, Channel, Mark, samples_taken, Mobile}
 use Rattle.std.specs.Prelude.{◌≡◌, ◌≤◌, ℕ, pos, Some, slice_get}
-use Rattle.pilot_search.specs.declared.paths.Near.{Near}
 use Rattle.heard_events.specs.Channels.{IsLawful}
-use Rattle.heard_events.specs.SoundMarks.{IsSoundMark}
-use Rattle.heard_events.specs.declared.channel.Channel.{Channel}
-use Rattle.heard_events.specs.declared.mark.Mark.{Mark}
-use Rattle.mobile_core.specs.Standing.{samples_taken}
-use Rattle.mobile_core.specs.declared.mobile.Mobile.{Mobile}
 use Rattle.tuned_listener.specs.FrameWriting.{IsReady}
 use Rattle.tuned_listener.specs.Marking.{IsUntold}
 use Rattle.tuned_listener.specs.declared.frame_writer.FrameWriter.{FrameWriter}

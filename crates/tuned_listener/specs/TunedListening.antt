@@ -1,21 +1,12 @@
 -- Who hears the frames of one channel.
+use Rattle.tuned_listener.specs.Common.{Sample, mark, AreNear, has_room, Tuning, sync_stream, Mark}
+use Rattle.tuned_listener.specs.Common.{Channel, Mobile, Near, slot_after, after_mark, tuned_text}
 use Rattle.std.specs.Prelude.{◌≡◌, ℕ, Bool, true, false, List, [], ◌++◌, length, take, Option, Some}
 use Rattle.std.specs.Io.{StartsWith}
 use Rattle.std.specs.Io.KnownBytes.{Appends}
-use Rattle.chip_core.specs.declared.sample.Sample.{Sample}
-use Rattle.heard_events.specs.Marks.{mark}
-use Rattle.rake_finger.specs.Near.{AreNear}
-use Rattle.mobile_core.specs.Standing.{has_room}
 use Rattle.tuned_listener.specs.Tuners.{IsTunedTo, samples_left}
-use Rattle.heard_events.specs.Tuning.{Tuning, sync_stream}
-use Rattle.heard_events.specs.declared.channel.Channel.{Channel}
-use Rattle.heard_events.specs.declared.mark.Mark.{Mark}
-use Rattle.mobile_core.specs.declared.mobile.Mobile.{Mobile}
-use Rattle.pilot_search.specs.declared.paths.Near.{Near}
 use Rattle.tuned_listener.specs.FrameWriting.{HoldsFrames, tuned_text_of}
 use Rattle.tuned_listener.specs.Marking.{IsMarkedAt, ListensAhead}
-use Rattle.event_tap.specs.Slots.{slot_after}
-use Rattle.event_tap.specs.TunedTexts.{after_mark, tuned_text}
 use Rattle.tuned_listener.specs.declared.tuned.Hearer.{Hearer}
 use Rattle.tuned_listener.specs.declared.tuned.Hearer.TheVariants.{Ahead, After}
 use Rattle.tuned_listener.specs.declared.tuned.TunedListener.{TunedListener}

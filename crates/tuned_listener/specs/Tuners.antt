@@ -1,16 +1,10 @@
 -- What the receiver of one channel's frames stands for, and what a step does.
+use Rattle.tuned_listener.specs.Common.{Sample, HoldsLast, soft_frames, frame_most, Tuning, Channel}
+use Rattle.tuned_listener.specs.Common.{Mark, SoftFrame}
 use Rattle.std.specs.Prelude.{◌≡◌, ℕ, ◌+◌, ◌-◌, ◌<◌, ◌≤◌, List, ◌++◌, length, take, IfSome, None}
 use Rattle.std.specs.Prelude.{sum_by, unsigned_abs}
 use Rattle.std.specs.Option.{option_to_list}
-use Rattle.chip_core.specs.declared.sample.Sample.{Sample}
-use Rattle.rake_finger.specs.Held.{HoldsLast}
 use Rattle.tuned_listener.specs.FrameReceiving.{HasGiven}
-use Rattle.heard_events.specs.SoftFrames.{soft_frames}
-use Rattle.reception.specs.Softs.{frame_most}
-use Rattle.heard_events.specs.Tuning.{Tuning}
-use Rattle.heard_events.specs.declared.channel.Channel.{Channel}
-use Rattle.heard_events.specs.declared.mark.Mark.{Mark}
-use Rattle.heard_events.specs.declared.soft_frame.SoftFrame.{SoftFrame}
 use Rattle.tuned_listener.specs.declared.tuner.Tuner.{Tuner}
 use Rattle.tuned_listener.specs.declared.tuner.TunerStep.{TunerStep}
 

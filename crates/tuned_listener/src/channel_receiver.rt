@@ -1,9 +1,8 @@
 //! The frames of a channel after the mark, as the reference base station's paths receive them.
 
+ghost use Rattle.tuned_listener.specs.Common.{IsSoundMark, after};
 ghost use Rattle.std.specs.Prelude.{◌≡◌, ◌<◌, ◌*◌, ◌^◌, ℕ};
 ghost use Rattle.heard_events.specs.Channels.{IsLawful, mask_of, state_at};
-ghost use Rattle.heard_events.specs.SoundMarks.{IsSoundMark};
-ghost use Rattle.long_code.specs.LongCode.{after};
 
 use chip_core::Phase;
 use frame_decoder::{FrameSofts, PowerSofts, commands};

@@ -1,22 +1,16 @@
 //! What decodes the frames of one channel, and writes what is made of them.
 
+ghost use Rattle.tuned_listener.specs.Common.{CheckForm as TheCheck, Sample as TheSample, Tuning};
+ghost use Rattle.tuned_listener.specs.Common.{soft_frames, frame_most, IsSoundMark, slot_after};
+ghost use Rattle.tuned_listener.specs.Common.{Channel as TheChannel, SoftFrame as TheFrame};
+ghost use Rattle.tuned_listener.specs.Common.{slot_more, listed_text, rate2_text, tuned_frame_text};
 ghost use Rattle.std.specs.Prelude.{◌≡◌, ◌≤◌, ◌+◌, ◌++◌, List, [], length, IfOk, OnOk, OnErr};
 ghost use Rattle.std.specs.Prelude.{sum_by, unsigned_abs};
 ghost use Rattle.std.specs.Io.KnownBytes.{Appends};
 ghost use Rattle.cdma_io.specs.Outside.{AppendsPrefix, HasCause};
-ghost use Rattle.chip_core.specs.declared.check_form.CheckForm.{CheckForm as TheCheck};
-ghost use Rattle.chip_core.specs.declared.sample.Sample.{Sample as TheSample};
-ghost use Rattle.heard_events.specs.SoftFrames.{soft_frames};
-ghost use Rattle.reception.specs.Softs.{frame_most};
-ghost use Rattle.heard_events.specs.SoundMarks.{IsSoundMark};
 ghost use Rattle.tuned_listener.specs.Tuners.{IsTunedTo, samples_left};
-ghost use Rattle.heard_events.specs.Tuning.{Tuning};
-ghost use Rattle.heard_events.specs.declared.channel.Channel.{Channel as TheChannel};
-ghost use Rattle.heard_events.specs.declared.soft_frame.SoftFrame.{SoftFrame as TheFrame};
 ghost use Rattle.tuned_listener.specs.FrameWriting.{HoldsFrames, IsLawfulText, IsReady};
 ghost use Rattle.tuned_listener.specs.FrameWriting.{tuned_text_of, WritesFrames, WritesFramesPart};
-ghost use Rattle.event_tap.specs.Slots.{slot_after, slot_more};
-ghost use Rattle.event_tap.specs.TunedTexts.{listed_text, rate2_text, tuned_frame_text};
 
 use crate::slot_writer::SlotWriter;
 use crate::tuner::Tuner;

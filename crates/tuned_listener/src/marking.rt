@@ -1,12 +1,9 @@
 //! A handset up to the step that sets the mark.
 
+ghost use Rattle.tuned_listener.specs.Common.{Sample as TheSample, IsSoundMark, has_room, Tuning};
+ghost use Rattle.tuned_listener.specs.Common.{samples_taken, Mark as TheMark};
 ghost use Rattle.std.specs.Prelude.{◌≡◌, ◌≤◌, ◌+◌, ◌++◌, List, length, take, None, is_some};
 ghost use Rattle.std.specs.Option.{ForSome};
-ghost use Rattle.chip_core.specs.declared.sample.Sample.{Sample as TheSample};
-ghost use Rattle.heard_events.specs.SoundMarks.{IsSoundMark};
-ghost use Rattle.mobile_core.specs.Standing.{has_room, samples_taken};
-ghost use Rattle.heard_events.specs.Tuning.{Tuning};
-ghost use Rattle.heard_events.specs.declared.mark.Mark.{Mark as TheMark};
 ghost use Rattle.tuned_listener.specs.Marking.{IsMarkedAt, IsUntold, ListensAhead};
 
 use chip_core::Sample;

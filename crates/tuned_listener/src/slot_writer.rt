@@ -1,19 +1,17 @@
 //! What hears the slots of a sleeping handset, and writes what is heard in them.
 
+ghost use Rattle.tuned_listener.specs.Common.{frame_most, IsSoundMark, SoftFrame as TheFrame};
+ghost use Rattle.tuned_listener.specs.Common.{slot_more, slot_text};
 ghost use Rattle.std.specs.Prelude.{◌≡◌, ◌≤◌, ◌⊎◌, ◌↔◌, ◌+◌, ◌*◌, ◌/◌, ◌%◌, ℕ, Bool, List, [], ◌∷◌};
 ghost use Rattle.std.specs.Prelude.{◌++◌, length, IfOk, OnOk, OnErr, sum_by, unsigned_abs, IsTrue};
 ghost use Rattle.std.specs.List.{flat_map};
 ghost use Rattle.std.specs.Io.KnownBytes.{Appends};
 ghost use Rattle.cdma_io.specs.Outside.{AppendsPrefix, HasCause};
 ghost use Rattle.event_tap.specs.PagingLines.{paging_line};
-ghost use Rattle.reception.specs.Softs.{frame_most};
-ghost use Rattle.heard_events.specs.SoundMarks.{IsSoundMark};
-ghost use Rattle.heard_events.specs.declared.soft_frame.SoftFrame.{SoftFrame as TheFrame};
 ghost use Rattle.paging_message.specs.HalfFrames.{IsPagingRate, HalfFramesStandFor};
 ghost use Rattle.event_tap.specs.SlotLines.{slot_lines, slot_pages};
 ghost use Rattle.tuned_listener.specs.SlotWriting.{HoldsSlot, IsReadyForSlots, page_list};
 ghost use Rattle.tuned_listener.specs.SlotWriting.{pages_ending};
-ghost use Rattle.event_tap.specs.Slots.{slot_more, slot_text};
 
 use cdma_io::{Failed, Sink};
 use chip_core::air::{DATA_SYMBOLS, SLOT_FRAMES, SPAN_BITS};

@@ -1,12 +1,11 @@
 -- A block of eight states by the codewords of the definitions.
 use Rattle.viterbi.proofs.Common.{◌≡◌, ℕ, zero, suc, ◌+◌, ◌-◌, ◌*◌, ◌/◌, ◌%◌, ◌^◌, ◌<◌, ◌≤◌, Bool, true, false, List, [], ◌∷◌, length, map}
 use Rattle.viterbi.proofs.Common.{take, drop, get_or, refl, sym, ap, ◌∙◌, arith, ℤ, pos, ◌+ℤ◌, ◌-ℤ◌, ◌*ℤ◌, ◌≤ℤ◌, ◌<ℤ◌, negsuc, FitsSigned}
-use Rattle.viterbi.proofs.Common.{unsigned_abs, to_z, of_z, w64, nat_lt, int_lt, list_all, range_with_len, ints, to_z-of_z, abs_signed}
-use Rattle.viterbi.proofs.Common.{fits_signed_from_abs, and_parts, nat_tests, get_or-map, get_or-drop, get_or-take, length-map}
-use Rattle.viterbi.proofs.Common.{length-take-le, get_or-range_with_len, length-range_with_len, get_or-chunk, length-chunk}
-use Rattle.viterbi.proofs.Common.{Each1-from_get_or, Each1, Each2, chunk, bit_of, sign, low_bits, gain_of, wants, taken_of, metric_from}
-use Rattle.viterbi.proofs.Common.{metric_into, choice_into, lane_codes, patterns, gain_by, lane_code_of, Fit, length-drop, CanStep}
-use Rattle.viterbi.proofs.Common.{AreEveryOther}
+use Rattle.viterbi.proofs.Common.{unsigned_abs, to_z, of_z, w64, nat_lt, int_lt, list_all, range_with_len, ints, to_z-of_z, abs_signed, Fit}
+use Rattle.viterbi.proofs.Common.{fits_signed_from_abs, and_parts, nat_tests, get_or-map, get_or-drop, get_or-take, length-map, Each1, sign}
+use Rattle.viterbi.proofs.Common.{length-take-le, get_or-range_with_len, length-range_with_len, get_or-chunk, length-chunk, Each2, chunk}
+use Rattle.viterbi.proofs.Common.{Each1-from_get_or, bit_of, low_bits, gain_of, wants, taken_of, metric_from, metric_into, choice_into}
+use Rattle.viterbi.proofs.Common.{lane_codes, patterns, gain_by, lane_code_of, length-drop, CanStep, AreEveryOther}
 use Rattle.viterbi.proofs.Codes.{code_gains}
 use Rattle.viterbi.proofs.Blocks.{passed, kept}
 

@@ -1,6 +1,6 @@
 -- Eight states, lane by lane.
-use Rattle.viterbi.proofs.Common.{◌≡◌, ℕ, ◌<◌, List, [], ◌∷◌, length, map, get_or, refl, sym, ap, ◌∙◌, arith, ℤ, pos, ◌+ℤ◌, ◌-ℤ◌}
-use Rattle.viterbi.proofs.Common.{FitsSigned, to_z, of_z, w64, to_z-of_z, get_or-zip2, length-zip2, Each1, Each2, zip2, Fit}
+use Rattle.viterbi.proofs.Common.{◌≡◌, ℕ, ◌<◌, List, [], ◌∷◌, length, map, get_or, refl, sym, ap, ◌∙◌, arith, ℤ, pos, ◌+ℤ◌, ◌-ℤ◌, to_z, w64}
+use Rattle.viterbi.proofs.Common.{FitsSigned, of_z, to_z-of_z, get_or-zip2, length-zip2, Each1, Each2, zip2, Fit}
 
 -- what is made of numbers of 64 bits, lane by lane, where those are such numbers too
 pub made_fit : (made : ℤ → ℤ → ℤ) (xs ys : List ℤ) → Each2 (λ x y. Fit x y (made x y)) xs ys →

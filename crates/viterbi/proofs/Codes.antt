@@ -1,6 +1,6 @@
 -- The table of codes against the symbols, which the checker computes.
-use Rattle.viterbi.proofs.Common.{◌≡◌, ℕ, zero, suc, ◌+◌, ◌*◌, ◌<◌, Bool, true, false, List, [], ◌∷◌, length, get_or, refl, sym, ap, ◌∙◌}
-use Rattle.viterbi.proofs.Common.{arith, ℤ, pos, ◌+ℤ◌, ◌-ℤ◌, ◌*ℤ◌, not, nat_lt, ◌&&◌, list_all, range_with_len, ints, get_or-range_with_len}
+use Rattle.viterbi.proofs.Common.{◌≡◌, ℕ, zero, suc, ◌+◌, ◌*◌, ◌<◌, Bool, true, false, List, [], ◌∷◌, length, get_or, refl, sym, ap, ◌∙◌, ℤ}
+use Rattle.viterbi.proofs.Common.{arith, pos, ◌+ℤ◌, ◌-ℤ◌, ◌*ℤ◌, not, nat_lt, ◌&&◌, list_all, range_with_len, ints, get_or-range_with_len}
 use Rattle.viterbi.proofs.Common.{length-range_with_len, and_parts, bit_of, sign, places, g0, g1, symbol, low_bits, gain_of, lane_codes}
 use Rattle.viterbi.proofs.Common.{patterns, gain_by, lane_code_of}
 

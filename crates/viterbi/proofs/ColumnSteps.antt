@@ -1,10 +1,10 @@
 -- A whole column, block by block.
-use Rattle.viterbi.proofs.Common.{◌≡◌, ℕ, ◌+◌, ◌*◌, ◌/◌, ◌%◌, ◌<◌, ◌≤◌, Bool, true, false, List, length, set, get_or, sym, ap, ◌∙◌}
-use Rattle.viterbi.proofs.Common.{arith, ℤ, pos, ◌+ℤ◌, ◌*ℤ◌, unsigned_abs, ⊎_elim, ◌⊎◌, inl, inr, subst, ◌-ℤ◌, FitsSigned, to_z, of_z}
-use Rattle.viterbi.proofs.Common.{w64, ints, to_z-of_z, cases_lt, cases_eq, get_or-set_same, get_or-set_other, length-set, abs_signed}
+use Rattle.viterbi.proofs.Common.{◌≡◌, ℕ, ◌+◌, ◌*◌, ◌/◌, ◌%◌, ◌<◌, ◌≤◌, Bool, true, false, List, length, set, get_or, sym, ap, ◌∙◌, arith}
+use Rattle.viterbi.proofs.Common.{ℤ, pos, ◌+ℤ◌, ◌*ℤ◌, unsigned_abs, ⊎_elim, ◌⊎◌, inl, inr, subst, ◌-ℤ◌, FitsSigned, to_z, of_z, w64, ints}
+use Rattle.viterbi.proofs.Common.{to_z-of_z, cases_lt, cases_eq, get_or-set_same, get_or-set_other, length-set, abs_signed, Each1, bit_of}
 use Rattle.viterbi.proofs.Common.{get_or-put_chunk_below, get_or-put_chunk_above, get_or-put_chunk_at, length-put_chunk, Each1-from_get_or}
-use Rattle.viterbi.proofs.Common.{Each1, put_chunk, bit_of, sign, low_bit, g0, g1, symbol, low_bits, gain_of, took, metric_from}
-use Rattle.viterbi.proofs.Common.{metric_into, choice_into, taken_of, CanStep}
+use Rattle.viterbi.proofs.Common.{put_chunk, sign, low_bit, g0, g1, symbol, low_bits, gain_of, took, metric_from, metric_into, choice_into}
+use Rattle.viterbi.proofs.Common.{taken_of, CanStep}
 use Rattle.viterbi.proofs.Blocks.{passed, kept}
 use Rattle.viterbi.proofs.BlockSteps.{moved_fits, plus_less}
 

@@ -1,8 +1,8 @@
 -- One column more.
 use Rattle.viterbi.proofs.Common.{◌≡◌, ℕ, suc, ◌+◌, ◌*◌, ◌/◌, ◌%◌, ◌<◌, ◌≤◌, Bool, List, [], length, set, get_or, take, subst, sym, ap, ◌∙◌}
-use Rattle.viterbi.proofs.Common.{arith, ℤ, pos, ◌+ℤ◌, ◌-ℤ◌, unsigned_abs, reverse_bits_onto, get_or-set_same, get_or-set_other}
-use Rattle.viterbi.proofs.Common.{get_or-take, length-take-le, sum_by_more, IsFirstGreatest, IsBestCodeword, spelled_codeword, took}
-use Rattle.viterbi.proofs.Common.{metric_into, choice_into, forced_at, path_origin, path, end_count, score_of, Ends, sum_by}
+use Rattle.viterbi.proofs.Common.{arith, ℤ, pos, ◌+ℤ◌, ◌-ℤ◌, unsigned_abs, reverse_bits_onto, get_or-set_same, get_or-set_other, took, path}
+use Rattle.viterbi.proofs.Common.{get_or-take, length-take-le, sum_by_more, IsFirstGreatest, IsBestCodeword, spelled_codeword, metric_into}
+use Rattle.viterbi.proofs.Common.{choice_into, forced_at, path_origin, end_count, score_of, Ends, sum_by}
 use Rattle.viterbi.proofs.Ended.{codeword_found}
 use Rattle.viterbi.proofs.Standing.{Stands, step_stands, stands_same, next_size}
 

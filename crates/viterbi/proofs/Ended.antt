@@ -1,9 +1,9 @@
 -- Metrics and columns before the first bit, and the best codeword from those after the last.
 use Rattle.viterbi.proofs.Common.{◌≡◌, ℕ, zero, suc, ◌*◌, ◌<◌, ◌≤◌, Bool, false, List, [], length, get_or, map, refl, sym, ap, subst, ◌∙◌}
 use Rattle.viterbi.proofs.Common.{arith, ℤ, pos, ◌+ℤ◌, ◌<ℤ◌, ◌≤ℤ◌, ⊎_elim, inl, inr, Option, Some, None, reverse_bits_onto, range_with_len}
-use Rattle.viterbi.proofs.Common.{ints, by_lt_z, get_or-map-range_with_len, cases_lt, eqb-true, nat_tests, binary, IsFirstGreatest}
-use Rattle.viterbi.proofs.Common.{Codeword, score_of, spelled_codeword, IsBestCodeword, low_bits, Start, end_count, path_origin, path}
-use Rattle.viterbi.proofs.Common.{forced_at, Agrees, Ends, Zero, Free, Survivor}
+use Rattle.viterbi.proofs.Common.{ints, by_lt_z, get_or-map-range_with_len, cases_lt, eqb-true, nat_tests, binary, IsFirstGreatest, Start}
+use Rattle.viterbi.proofs.Common.{Codeword, score_of, spelled_codeword, IsBestCodeword, low_bits, end_count, path_origin, path, forced_at}
+use Rattle.viterbi.proofs.Common.{Agrees, Ends, Zero, Free, Survivor}
 use Rattle.viterbi.proofs.StateBits.{binary-turned, low_first-low_bits}
 use Rattle.viterbi.proofs.Choices.{IsBest, IsBestOf, AtLeast, at_least_trans, codewords_same}
 use Rattle.viterbi.proofs.Steps.{Into, order_by_state}

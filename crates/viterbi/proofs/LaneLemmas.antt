@@ -1,9 +1,8 @@
 -- Lanes of 64 bits.
 use Rattle.viterbi.proofs.Common.{◌≡◌, ℕ, zero, suc, ◌+◌, ◌-◌, ◌%◌, ◌^◌, ◌<◌, Bool, true, false, cond, List, [], ◌∷◌, map, length, get_or}
-use Rattle.viterbi.proofs.Common.{replicate, refl, sym, ap, ◌∙◌, arith, ℤ, ◌+ℤ◌, ◌-ℤ◌, to_z, of_z, FitsSigned, w64, int_lt, nat_eq}
-use Rattle.viterbi.proofs.Common.{Fits-of_z, to_z-of_z, int_wrap_fits, wrapping_add-bits, wrapping_sub-bits, int_wrap, tops_compared}
-use Rattle.viterbi.proofs.Common.{mask_l-mod, bit_mask_l, length-zip2, Each1, Each2, zip2, sel_l, mask_l, top, bits, hbits, bit_of, Fit}
-use Rattle.viterbi.proofs.Common.{taken_of}
+use Rattle.viterbi.proofs.Common.{replicate, refl, sym, ap, ◌∙◌, arith, ℤ, ◌+ℤ◌, ◌-ℤ◌, to_z, of_z, FitsSigned, w64, int_lt, nat_eq, Each1}
+use Rattle.viterbi.proofs.Common.{Fits-of_z, to_z-of_z, int_wrap_fits, wrapping_add-bits, wrapping_sub-bits, int_wrap, tops_compared, Each2}
+use Rattle.viterbi.proofs.Common.{mask_l-mod, bit_mask_l, length-zip2, zip2, sel_l, mask_l, top, bits, hbits, bit_of, Fit, taken_of}
 
 in_lane : (x : ℤ) → FitsSigned w64 x → of_z w64 x < 2 ^ 64
 in_lane x h = (Fits-of_z {w = w64} {z = x} h).fits

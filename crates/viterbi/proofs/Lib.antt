@@ -1,4 +1,3 @@
--- The modules of lemmas of `viterbi`.
 pub mod Common
 pub mod Ranks
 pub mod StateBits

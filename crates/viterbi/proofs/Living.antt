@@ -1,9 +1,9 @@
 -- Which states have a survivor.
-use Rattle.viterbi.proofs.Common.{◌≡◌, ℕ, ◌+◌, ◌*◌, ◌%◌, ◌<◌, ◌≤◌, Bool, true, false, List, ◌++◌, length, take, drop, get_or, replicate}
-use Rattle.viterbi.proofs.Common.{refl, sym, ap, ◌∙◌, arith, ℤ, Option, Some, None, length-append, length-drop, nat_eq, length-replicate}
-use Rattle.viterbi.proofs.Common.{take-append-drop, take-append-le, take-replicate, length-take-le, drop_at, get_or-drop}
-use Rattle.viterbi.proofs.Common.{get_or_append_left, get_or-replicate, nat_tests, Codeword, HasStart, spelled_codeword, low_bits}
-use Rattle.viterbi.proofs.Common.{forced_at, Alive, Ends, Zero, Free, Survivor}
+use Rattle.viterbi.proofs.Common.{◌≡◌, ℕ, ◌+◌, ◌*◌, ◌%◌, ◌<◌, ◌≤◌, Bool, true, false, List, ◌++◌, length, take, drop, get_or, replicate, ap}
+use Rattle.viterbi.proofs.Common.{refl, sym, ◌∙◌, arith, ℤ, Option, Some, None, length-append, length-drop, nat_eq, length-replicate, Alive}
+use Rattle.viterbi.proofs.Common.{take-append-drop, take-append-le, take-replicate, length-take-le, drop_at, get_or-drop, get_or-replicate}
+use Rattle.viterbi.proofs.Common.{get_or_append_left, nat_tests, Codeword, HasStart, spelled_codeword, low_bits, forced_at, Ends, Zero}
+use Rattle.viterbi.proofs.Common.{Free, Survivor}
 use Rattle.viterbi.proofs.StateBits.{length-low_bits, low_bits-more}
 use Rattle.viterbi.proofs.Choices.{IsBestOf}
 use Rattle.viterbi.proofs.Steps.{Into, Survive}

@@ -1,7 +1,7 @@
 -- Neighbours parted into two vectors.
-use Rattle.viterbi.proofs.Common.{◌≡◌, ℕ, zero, suc, ◌+◌, ◌-◌, ◌*◌, ◌<◌, ◌≤◌, List, [], ◌∷◌, ◌++◌, map, length, get_or, refl, ap, ◌∙◌}
-use Rattle.viterbi.proofs.Common.{arith, ℤ, pos, to_z, of_z, w64, FitsSigned, ⊎_elim, to_z-of_z, get_or-map, get_or_append_left}
-use Rattle.viterbi.proofs.Common.{get_or-append_right, length-map, length-chunk, get_or-chunk, cases_lt, chunk}
+use Rattle.viterbi.proofs.Common.{◌≡◌, ℕ, zero, suc, ◌+◌, ◌-◌, ◌*◌, ◌<◌, ◌≤◌, List, [], ◌∷◌, ◌++◌, map, length, get_or, refl, ap, ◌∙◌, ℤ}
+use Rattle.viterbi.proofs.Common.{arith, pos, to_z, of_z, w64, FitsSigned, ⊎_elim, to_z-of_z, get_or-map, get_or_append_left, length-map}
+use Rattle.viterbi.proofs.Common.{get_or-append_right, length-chunk, get_or-chunk, cases_lt, chunk}
 
 -- two vectors of so many
 abbrev pub two_chunks : ℕ → List ℤ → ℕ → List ℕ

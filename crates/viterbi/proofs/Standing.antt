@@ -1,9 +1,9 @@
 -- What metrics and columns of decisions stand for.
 use Rattle.viterbi.proofs.Common.{◌≡◌, ℕ, zero, suc, ◌+◌, ◌*◌, ◌%◌, ◌<◌, ◌≤◌, Bool, true, false, List, [], ◌∷◌, ◌++◌, length, get_or, map}
 use Rattle.viterbi.proofs.Common.{refl, sym, ap, subst, ◌∙◌, arith, ℤ, pos, ◌+ℤ◌, ◌-ℤ◌, unsigned_abs, Option, Some, None, nat_le, int_lt}
-use Rattle.viterbi.proofs.Common.{ints, get_or-map, range_with_len, get_or-map-range_with_len, digit, low_bits, survivor_into, took}
-use Rattle.viterbi.proofs.Common.{state_before, path_origin, path, metric_from, metric_into, choice_into, wants, taken_of, forced_at}
-use Rattle.viterbi.proofs.Common.{Agrees, Ends, Survivor}
+use Rattle.viterbi.proofs.Common.{ints, get_or-map, range_with_len, get_or-map-range_with_len, digit, low_bits, survivor_into, took, path}
+use Rattle.viterbi.proofs.Common.{state_before, path_origin, metric_from, metric_into, choice_into, wants, taken_of, forced_at, Agrees}
+use Rattle.viterbi.proofs.Common.{Ends, Survivor}
 use Rattle.viterbi.proofs.Choices.{IsBestOf}
 use Rattle.viterbi.proofs.Steps.{Into, Survive, survivor_into_best}
 use Rattle.viterbi.proofs.Living.{alive}

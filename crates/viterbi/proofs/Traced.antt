@@ -1,8 +1,8 @@
 -- A step over columns of decisions against a step over survivors.
 use Rattle.viterbi.proofs.Common.{◌≡◌, ℕ, suc, ◌+◌, ◌*◌, ◌%◌, ◌<◌, Bool, true, false, List, [], ◌∷◌, ◌++◌, get_or, refl, ap, ◌∙◌, arith, ℤ}
-use Rattle.viterbi.proofs.Common.{pos, ◌+ℤ◌, Option, Some, None, int_lt, if◌then◌else◌, nat_le, digit, extended_by, better_survivor}
-use Rattle.viterbi.proofs.Common.{survivor_from, survivor_into, took, state_before, path_origin, path, metric_from, metric_into}
-use Rattle.viterbi.proofs.Common.{choice_into, wants, taken_of, Agrees, Alive, Survivor}
+use Rattle.viterbi.proofs.Common.{pos, ◌+ℤ◌, Option, Some, None, int_lt, if◌then◌else◌, nat_le, digit, extended_by, better_survivor, took}
+use Rattle.viterbi.proofs.Common.{survivor_from, survivor_into, state_before, path_origin, path, metric_from, metric_into, choice_into}
+use Rattle.viterbi.proofs.Common.{wants, taken_of, Agrees, Alive, Survivor}
 
 -- the survivor that a column's decision leads back to, with one bit more
 one_more : (columns : List (List ℕ)) (k t : ℕ) (choice : Bool) (metric gain : ℤ) (s : Survivor) →

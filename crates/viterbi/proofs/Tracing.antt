@@ -1,6 +1,6 @@
 -- One step back along the columns.
-use Rattle.viterbi.proofs.Common.{◌≡◌, ℕ, suc, ◌+◌, ◌-◌, ◌<◌, ◌≤◌, Bool, List, [], ◌∷◌, ◌++◌, length, drop, set, refl, sym, arith}
-use Rattle.viterbi.proofs.Common.{append_assoc, append-nil, nat_le, drop-set, drop_all, state_before, path_origin, path}
+use Rattle.viterbi.proofs.Common.{◌≡◌, ℕ, suc, ◌+◌, ◌-◌, ◌<◌, ◌≤◌, Bool, List, [], ◌∷◌, ◌++◌, length, drop, set, refl, sym, arith, nat_le}
+use Rattle.viterbi.proofs.Common.{append_assoc, append-nil, drop-set, drop_all, state_before, path_origin, path}
 
 pub origin-back : (columns : List (List ℕ)) (n j t before : ℕ) → n ≡ suc j →
     before ≡ state_before columns j t → path_origin columns j before ≡ path_origin columns n t

@@ -1,6 +1,5 @@
 -- Two lists of one length whose elements stand in a relation, place by place.
-use Rattle.viterbi.proofs.Common.{◌≡◌, ℕ, zero, suc, ◌<◌, List, [], ◌∷◌, ◌++◌, length, get_or, arith}
-use Rattle.std.specs.List.{AllZip}
+use Rattle.viterbi.proofs.Common.{◌≡◌, ℕ, zero, suc, ◌<◌, List, [], ◌∷◌, ◌++◌, length, get_or, arith, AllZip}
 
 pub zipped_by_place : {A B : Type 0} (R : A → B → Type 0) (xs : List A) (ys : List B) (a : A) (b : B) →
     length xs ≡ length ys → ((i : ℕ) → i < length xs → R (get_or xs i a) (get_or ys i b)) →

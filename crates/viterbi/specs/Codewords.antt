@@ -1,12 +1,9 @@
 -- Codewords, their scores, and the best of them.
-use Rattle.std.specs.Prelude.{ℕ, ◌+◌, ◌-◌, ◌^◌, ◌<◌, ◌≡◌, Bool, false, List, ◌++◌, take, drop}
-use Rattle.std.specs.Prelude.{replicate, reverse, ℤ, ◌<ℤ◌, ◌⊎◌}
+use Rattle.viterbi.specs.Common.{binary, number, code_symbols, Ends, Zero, Free}
+use Rattle.std.specs.Prelude.{ℕ, ◌+◌, ◌-◌, ◌^◌, ◌<◌, ◌≡◌, Bool, false, List, ◌++◌, take, drop, ℤ}
+use Rattle.std.specs.Prelude.{replicate, reverse, ◌<ℤ◌, ◌⊎◌}
 use Rattle.chip_core.specs.Agreement.{agreement}
-use Rattle.chip_core.specs.Bits.{binary, number}
 use Rattle.chip_core.specs.Sums.{first_greatest}
-use Rattle.conv_code.specs.ConvCode.{code_symbols}
-use Rattle.viterbi.specs.declared.codeword.Ends.{Ends}
-use Rattle.viterbi.specs.declared.codeword.Ends.TheVariants.{Zero, Free}
 
 -- the eight start bits, the oldest first, and the bits
 pub record Codeword : Type 0 where

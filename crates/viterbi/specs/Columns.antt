@@ -1,15 +1,12 @@
 -- Columns of decisions, and the codewords that they lead back to.
+use Rattle.viterbi.specs.Common.{binary, bit_of, digit, Ends, Zero, Free, Survivor}
 use Rattle.std.specs.Prelude.{ℕ, zero, suc, ◌+◌, ◌*◌, ◌/◌, ◌%◌, ◌<◌, ◌≡◌, Bool, true, false, List}
 use Rattle.std.specs.Prelude.{[], ◌∷◌, ◌++◌, length, get_or, ℤ, pos, ◌+ℤ◌, ◌≤ℤ◌, int_lt, nat_le}
-use Rattle.std.specs.Prelude.{nat_lt, if◌then◌else◌, Option, Some, None, ◌-ℤ◌, ◌≤◌, ◌^◌}
-use Rattle.std.specs.Prelude.{unsigned_abs, FitsSigned}
+use Rattle.std.specs.Prelude.{nat_lt, if◌then◌else◌, Option, Some, None, ◌-ℤ◌, ◌≤◌, ◌^◌, FitsSigned}
+use Rattle.std.specs.Prelude.{unsigned_abs}
 use Rattle.std.specs.Int.{w64}
-use Rattle.chip_core.specs.Bits.{binary, bit_of, digit}
 use Rattle.viterbi.specs.States.{low_bits}
 use Rattle.viterbi.specs.Survivors.{gain_of}
-use Rattle.viterbi.specs.declared.codeword.Ends.{Ends}
-use Rattle.viterbi.specs.declared.codeword.Ends.TheVariants.{Zero, Free}
-use Rattle.viterbi.specs.declared.survivor.Survivor.{Survivor}
 
 -- whether a state came from the one with oldest bit 1: bit t of a column
 unfoldable pub took : List ℕ → ℕ → Bool

@@ -1,9 +1,9 @@
 -- What a bit adds to the score, eight states at a time.
+use Rattle.viterbi.specs.Common.{bit_of, sign}
 use Rattle.std.specs.Prelude.{ℕ, ◌+◌, ◌*◌, ◌/◌, ◌%◌, ◌<◌, ◌≡◌, List, [], ◌∷◌, length, get_or, ℤ}
 use Rattle.std.specs.Prelude.{pos, ◌+ℤ◌, ◌-ℤ◌, ◌*ℤ◌, ◌≤ℤ◌, FitsSigned}
 use Rattle.std.specs.Int.{w64}
 use lib.Lanes.{Each1}
-use Rattle.chip_core.specs.Bits.{bit_of, sign}
 
 -- A code is two symbols as a number: 1 where the first is 1, plus 2 where the second is.
 

@@ -1,6 +1,6 @@
--- The modules of definitions of `viterbi`.
 pub mod Codewords
 pub mod Best
+pub mod Common
 pub mod Signs
 pub mod Laws
 pub mod States

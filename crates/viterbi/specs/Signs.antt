@@ -1,7 +1,7 @@
 -- Soft values with the signs of symbols, whatever their sizes.
+use Rattle.viterbi.specs.Common.{sign}
 use Rattle.std.specs.Prelude.{Bool, List, ℤ, pos, ◌*ℤ◌, ◌<ℤ◌}
 use Rattle.std.specs.List.{AllZip}
-use Rattle.chip_core.specs.Bits.{sign}
 
 -- A soft value has the sign of a symbol where it is above 0 and the symbol is 0, or it is below 0
 -- and the symbol is 1. A soft value of 0 has the sign of neither.

@@ -1,7 +1,7 @@
 //! Columns of decisions, and the codewords that they lead back to.
 
+ghost use Rattle.viterbi.specs.Common.{digit};
 ghost use Rattle.std.specs.Prelude.{◌≡◌, ◌<◌, ◌≤◌, ◌+◌, ◌*◌, ◌%◌, ◌^◌, ℕ, length};
-ghost use Rattle.chip_core.specs.Bits.{digit};
 ghost use Rattle.viterbi.specs.Columns.{took, path, path_origin};
 
 use crate::codeword::MOST_BITS;

@@ -3,11 +3,11 @@
 //! The states of block `k`, the eight from `8 * k` on, and those of block `16 + k` are reached from
 //! the same sixteen states, from `16 * k` on: eight butterflies of the trellis.
 
-ghost use Rattle.std.specs.Prelude.{◌≡◌, ◌<◌, ◌≤◌, ◌+◌, ◌*◌, ◌%◌, ◌^◌, ◌+ℤ◌, ◌-ℤ◌, ℕ};
-ghost use Rattle.std.specs.Prelude.{false, length, get_or, map, pos, int_lt, FitsSigned};
+ghost use Rattle.viterbi.specs.Common.{bit_of};
+ghost use Rattle.std.specs.Prelude.{◌≡◌, ◌<◌, ◌≤◌, ◌+◌, ◌*◌, ◌%◌, ◌^◌, ◌+ℤ◌, ◌-ℤ◌, ℕ, false, map};
+ghost use Rattle.std.specs.Prelude.{length, get_or, pos, int_lt, FitsSigned};
 ghost use Rattle.std.specs.Int.{w64};
 ghost use lib.Lanes.{Each1, Each2, zip2};
-ghost use Rattle.chip_core.specs.Bits.{bit_of};
 ghost use Rattle.viterbi.specs.Lanes.{Fit, sum_at, difference_at, gain_by, lane_codes, patterns};
 ghost use Rattle.viterbi.specs.Lanes.{AreEveryOther, AreGreater};
 ghost use Rattle.viterbi.specs.Columns.{CanStep, IsColumnStep, taken_of, wants, metric_into};

@@ -1,16 +1,13 @@
 -- What the entries are from stage to stage, until each is what its row carries.
-use Rattle.std.proofs.Common.{◌≡◌, ℕ, suc, ◌+◌, ◌-◌, ◌^◌, ◌<◌, Bool, true, false, List, length, map, get_or, refl, sym, ap, ◌∙◌, arith}
-use Rattle.std.proofs.Common.{add-one}
-use Rattle.std.specs.Prelude.{ℤ, if◌then◌else◌, pos, ◌+ℤ◌, ◌-ℤ◌}
+use Rattle.walsh.proofs.Common.{◌≡◌, ℕ, suc, ◌+◌, ◌-◌, ◌^◌, ◌<◌, Bool, true, false, List, length, map, get_or, refl, sym, ap, ◌∙◌, arith, ℤ}
+use Rattle.walsh.proofs.Common.{add-one, if◌then◌else◌, pos, ◌+ℤ◌, ◌-ℤ◌, bit_of, Pair, IsWithin, in_phase, quadrature, transform}
+use Rattle.walsh.proofs.Common.{walsh_sum_from}
 use Rattle.std.specs.List.{All}
 use Rattle.std.proofs.lemmas.List.{length-map}
 use Rattle.std.proofs.lemmas.List.Elements.{All-get_or}
 use Rattle.std.proofs.Math.ListN.{get_or-map}
-use Rattle.chip_core.specs.Bits.{bit_of}
 use Rattle.chip_core.specs.Complex.{origin, plus}
-use Rattle.chip_core.specs.declared.sample.Pair.{Pair}
 use Rattle.chip_core.proofs.Places.{get_or-map-places, map-places-all}
-use Rattle.walsh.specs.Walsh.{IsWithin, in_phase, quadrature, transform, walsh_sum_from}
 use Rattle.walsh.specs.Butterfly.{minus, entry, butterfly, IsStage, EntriesAreWithin}
 use Rattle.walsh.proofs.Partial.{partial, partial-none, partial-same, partial-more, partial-all}
 

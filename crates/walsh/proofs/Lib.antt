@@ -1,5 +1,5 @@
--- The modules of lemmas of `walsh`.
 pub mod Carried
+pub mod Common
 pub mod Pairing
 pub mod Partial
 pub mod RowTable

@@ -1,10 +1,6 @@
 -- The places of the two entries of a butterfly, by a table of all places and stages.
-use Rattle.std.proofs.Common.{◌≡◌, ℕ, suc, ◌+◌, ◌-◌, ◌*◌, ◌%◌, ◌^◌, ◌<◌, ◌≤◌, Bool, true, false, not, ◌&&◌, refl, sym, ap, ◌∙◌, arith}
-use Rattle.std.proofs.Common.{nat_eq, nat_lt, nat_le, bit_and}
-use Rattle.std.specs.Prelude.{if◌then◌else◌}
-use Rattle.std.proofs.lemmas.Bool.{agree_below, agree_below_at, ne_eqb, not-true}
-use Rattle.std.proofs.lemmas.Nat.{one_shl}
-use Rattle.chip_core.specs.Bits.{bit_of}
+use Rattle.walsh.proofs.Common.{agree_below_at, if◌then◌else◌, agree_below, not-true, bit_and, one_shl, nat_eq, nat_lt, nat_le, ne_eqb, ◌≡◌}
+use Rattle.walsh.proofs.Common.{bit_of, false, arith, Bool, true, ◌&&◌, refl, suc, ◌+◌, ◌-◌, ◌*◌, ◌%◌, ◌^◌, ◌<◌, ◌≤◌, not, sym, ◌∙◌, ap, ℕ}
 
 -- a place whose bit is clear: the place of its partner, and where both stand in their blocks
 pub record IsLow (bit n : ℕ) : Type 0 where

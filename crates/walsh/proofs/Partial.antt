@@ -1,14 +1,9 @@
 -- What the entries are after so many stages: sums over the places of a block, with the signs of a
 -- shorter row.
-use Rattle.std.proofs.Common.{◌≡◌, ℕ, zero, suc, ◌+◌, ◌-◌, ◌*◌, ◌%◌, ◌^◌, ◌<◌, ◌≤◌, Bool, true, false, not, List, [], ◌∷◌, length, get_or}
-use Rattle.std.proofs.Common.{refl, sym, ap, ◌∙◌, arith, ℤ, nat_eq, bit_and}
-use Rattle.std.specs.Prelude.{if◌then◌else◌, pos, negsuc, ◌+ℤ◌, ◌-ℤ◌, ◌*ℤ◌, neg_ℤ}
+use Rattle.walsh.proofs.Common.{◌≡◌, ℕ, zero, suc, ◌+◌, ◌-◌, ◌*◌, ◌%◌, ◌^◌, ◌<◌, ◌≤◌, Bool, true, false, not, List, [], ◌∷◌, length, get_or}
+use Rattle.walsh.proofs.Common.{refl, sym, ap, ◌∙◌, arith, ℤ, nat_eq, bit_and, if◌then◌else◌, pos, negsuc, ◌+ℤ◌, ◌-ℤ◌, ◌*ℤ◌, neg_ℤ, ints}
+use Rattle.walsh.proofs.Common.{and_block, and_le_l, and_mask, ones_cat, pow_pos, sign, bit_of, sum_below, walsh, walsh_sum_from}
 use Rattle.std.specs.Int.RustNames.{count_ones}
-use Rattle.std.proofs.lemmas.Int.{ints}
-use Rattle.std.proofs.lemmas.Nat.{and_block, and_le_l, and_mask, ones_cat, pow_pos}
-use Rattle.chip_core.specs.Bits.{sign, bit_of}
-use Rattle.chip_core.specs.Sums.{sum_below}
-use Rattle.walsh.specs.Walsh.{walsh, walsh_sum_from}
 use Rattle.walsh.proofs.Pairing.{IsLow, IsHigh, low, high}
 use Rattle.walsh.proofs.RowTable.{walsh-ones}
 use Rattle.chip_core.proofs.IndexSums.{sum_same, sum_front, sum_append, sum_turned, sum_one}

@@ -1,13 +1,8 @@
 -- The rows: as counts of set bits, and orthogonal by a table of 4,096 sums.
-use Rattle.std.proofs.Common.{◌≡◌, ℕ, ◌<◌, Bool, true, false, refl, arith, ℤ, pos, nat_eq, bit_and, int_eq}
-use Rattle.std.specs.Prelude.{if◌then◌else◌, ◌==◌}
+use Rattle.walsh.proofs.Common.{◌≡◌, ℕ, ◌<◌, Bool, true, false, refl, arith, ℤ, pos, nat_eq, bit_and, int_eq, if◌then◌else◌, ◌==◌, ints}
+use Rattle.walsh.proofs.Common.{agree_below, agree_below_at, binary, sum_below, walsh, row_sum}
 use Rattle.std.specs.Int.RustNames.{count_ones}
-use Rattle.std.proofs.lemmas.Int.{ints}
-use Rattle.std.proofs.lemmas.Bool.{agree_below, agree_below_at}
-use Rattle.chip_core.specs.Bits.{binary}
-use Rattle.chip_core.specs.Sums.{sum_below}
 use Rattle.chip_core.proofs.CommonParity.{common_parity-ones}
-use Rattle.walsh.specs.Walsh.{walsh, row_sum}
 
 pub walsh-ones : (n k : ℕ) → n < 64 → nat_eq (bit_and (count_ones (bit_and n k)) 1) 1 ≡ walsh n k
 unfolding walsh

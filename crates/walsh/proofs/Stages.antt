@@ -1,14 +1,9 @@
 -- A stage of butterflies, entry after entry.
-use Rattle.std.proofs.Common.{◌≡◌, ◌≢◌, ℕ, suc, ◌+◌, ◌-◌, ◌*◌, ◌%◌, ◌^◌, ◌<◌, ◌≤◌, Bool, true, false, List, length, set, refl, sym, ap}
-use Rattle.std.proofs.Common.{subst, ◌∙◌, arith, bit_and, ⊎_elim, get_or-set_other, get_or-set_same, length-set}
-use Rattle.std.proofs.lemmas.Int.{ints}
-use Rattle.std.proofs.lemmas.Bool.{cases_eq}
-use Rattle.std.proofs.lemmas.Nat.{pow_pos}
+use Rattle.walsh.proofs.Common.{◌≡◌, ◌≢◌, ℕ, suc, ◌+◌, ◌-◌, ◌*◌, ◌%◌, ◌^◌, ◌<◌, ◌≤◌, Bool, true, false, List, length, set, refl, sym, ap}
+use Rattle.walsh.proofs.Common.{subst, ◌∙◌, arith, bit_and, ⊎_elim, get_or-set_other, get_or-set_same, length-set, ints, cases_eq, pow_pos}
+use Rattle.walsh.proofs.Common.{bit_of, Pair, IsWithin}
 use Rattle.std.proofs.Math.Pow.{pow_mono}
-use Rattle.chip_core.specs.Bits.{bit_of}
 use Rattle.chip_core.specs.Complex.{origin, plus}
-use Rattle.chip_core.specs.declared.sample.Pair.{Pair}
-use Rattle.walsh.specs.Walsh.{IsWithin}
 use Rattle.walsh.specs.Butterfly.{minus, entry, butterfly, IsStage, EntriesAreWithin}
 use Rattle.walsh.proofs.Pairing.{low, high, is_clear, shifted}
 

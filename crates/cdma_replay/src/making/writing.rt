@@ -1,9 +1,8 @@
 //! Writing the file of a cell.
 
+ghost use Rattle.cdma_replay.specs.Common.{AppendsPrefix, HasCause, sample_len};
 ghost use Rattle.std.specs.Prelude.{◌≡◌, ◌≤◌, ◌+◌, ◌-◌, ◌*◌, min, length, take, OnOk, OnErr};
 ghost use Rattle.std.specs.Io.KnownBytes.{Appends};
-ghost use Rattle.cdma_io.specs.Outside.{AppendsPrefix, HasCause};
-ghost use Rattle.cdma_io.specs.SampleFile.{sample_len};
 ghost use Rattle.owed_replies.specs.Make.{made_file, piece_bytes};
 
 use base_modulator::Cell;

@@ -1,16 +1,16 @@
 -- What is heard of a cycle of pages that goes round, from any frame on.
 use Rattle.clean_frames.proofs.Common.{◌≡◌, ℕ, suc, ◌+◌, ◌-◌, ◌*◌, ◌/◌, ◌<◌, ◌≤◌, Bool, false, List, [], ◌∷◌, ◌++◌, length, map, take, drop}
-use Rattle.clean_frames.proofs.Common.{refl, sym, ap, ◌∙◌, subst, arith, inl, inr, length-append, flat_map, cases_Bool, map-map}
-use Rattle.clean_frames.proofs.Common.{mul-le-mul_left, places, length-map-places, CheckForm, Piece, Rate, half_frame_body, cycled}
-use Rattle.clean_frames.proofs.Common.{laid_pages, page_cycle, AreSendable, AreHeard, Page, size_large, PageSendingsComeBack}
-use Rattle.clean_frames.proofs.Common.{capsules_with_frames, cycle_half_frames, is_between, placed, sending_of, AreWholePages, Placed}
-use Rattle.clean_frames.proofs.Common.{flat_map-zero, flat_map-repeated, repeated, repeated-part, filter, true, nat_le, nat_lt, ◌&&◌}
-use Rattle.clean_frames.proofs.Common.{and_left, and_right, cases_lt, le-leb, le-ltb, lt-leb, lt-ltb, le-div, paging_frame_size}
-use Rattle.clean_frames.proofs.Common.{IsStatedPaging, PagingPlan, flat_map_ext_places, WholePagesComeBack, frame_capsules, is_whole_page}
-use Rattle.clean_frames.proofs.Common.{flat_map-nothing, zero, append_assoc, map-append, filter-append, mul-add-div, flat_map-next}
-use Rattle.clean_frames.proofs.Common.{length-repeated, ◌%◌, get_or, mod_below, get_or-repeated, mul-le-mul_right, take_at, drop_at}
-use Rattle.clean_frames.proofs.Common.{drop-drop, no_width, run_piece, run_pieces, run_width, run_width_some, AreChained, length-stream}
-use Rattle.clean_frames.proofs.Common.{no_piece, stream, whole-append, AreWhole, scan, bits_of, turned_back, whole_rows, run_pieces_whole}
+use Rattle.clean_frames.proofs.Common.{refl, sym, ap, ◌∙◌, subst, arith, inl, inr, length-append, flat_map, cases_Bool, map-map, places}
+use Rattle.clean_frames.proofs.Common.{mul-le-mul_left, length-map-places, CheckForm, Piece, Rate, half_frame_body, cycled, laid_pages, ◌%◌}
+use Rattle.clean_frames.proofs.Common.{page_cycle, AreSendable, AreHeard, Page, size_large, PageSendingsComeBack, capsules_with_frames}
+use Rattle.clean_frames.proofs.Common.{cycle_half_frames, is_between, placed, sending_of, AreWholePages, Placed, flat_map-zero, repeated}
+use Rattle.clean_frames.proofs.Common.{flat_map-repeated, repeated-part, filter, true, nat_le, nat_lt, ◌&&◌, and_left, and_right, cases_lt}
+use Rattle.clean_frames.proofs.Common.{le-leb, le-ltb, lt-leb, lt-ltb, le-div, paging_frame_size, IsStatedPaging, PagingPlan, is_whole_page}
+use Rattle.clean_frames.proofs.Common.{flat_map_ext_places, WholePagesComeBack, frame_capsules, flat_map-nothing, zero, append_assoc, scan}
+use Rattle.clean_frames.proofs.Common.{map-append, filter-append, mul-add-div, flat_map-next, length-repeated, get_or, mod_below, take_at}
+use Rattle.clean_frames.proofs.Common.{get_or-repeated, mul-le-mul_right, drop_at, drop-drop, no_width, run_piece, run_pieces, run_width}
+use Rattle.clean_frames.proofs.Common.{run_width_some, AreChained, length-stream, no_piece, stream, whole-append, AreWhole, bits_of}
+use Rattle.clean_frames.proofs.Common.{turned_back, whole_rows, run_pieces_whole}
 use Rattle.clean_frames.proofs.pages.Scans.{frames_scanned, in_frame, AreFrames}
 use Rattle.clean_frames.proofs.pages.Laid.{length-page, page_capsule, pages_placed, placed-begins, runs-begin, runs-follow, runs_laid}
 use Rattle.clean_frames.proofs.pages.Laid.{runs_of, first_begins, first_runs, placed-follows}

@@ -1,9 +1,9 @@
 -- A cycle of pages as runs: where its pages lie, and its half-frames.
 use Rattle.clean_frames.proofs.Common.{◌≡◌, ℕ, ◌+◌, ◌-◌, ◌*◌, ◌/◌, ◌<◌, Bool, true, false, List, [], ◌∷◌, ◌++◌, length, map, refl, sym, ap}
-use Rattle.clean_frames.proofs.Common.{◌∙◌, arith, inl, inr, append_assoc, length-append, if◌then◌else◌, cases_Bool, map-append}
-use Rattle.clean_frames.proofs.Common.{mul-add-div, CheckForm, capsule, Piece, M30, length-capsule, put_of, Page, placed, Placed, subst}
-use Rattle.clean_frames.proofs.Common.{AreSendable, AreHeard, laid_pages, puts_lawful, joined, run_pieces, width, stream, AreChainedRuns}
-use Rattle.clean_frames.proofs.Common.{AreSome, first_put_begins, first_puts_chained, first_puts_laid, joined-push, put-begins, put-follows}
+use Rattle.clean_frames.proofs.Common.{◌∙◌, arith, inl, inr, append_assoc, length-append, if◌then◌else◌, cases_Bool, map-append, CheckForm}
+use Rattle.clean_frames.proofs.Common.{mul-add-div, capsule, Piece, M30, length-capsule, put_of, Page, placed, Placed, subst, AreSendable}
+use Rattle.clean_frames.proofs.Common.{AreHeard, laid_pages, puts_lawful, joined, run_pieces, width, stream, AreChainedRuns, AreSome}
+use Rattle.clean_frames.proofs.Common.{first_put_begins, first_puts_chained, first_puts_laid, joined-push, put-begins, put-follows}
 use Rattle.clean_frames.proofs.Common.{runs_pieces, runs_put, turned_back}
 use Rattle.clean_frames.proofs.pages.RunsHeard.{pieces_of, placed_run, placed_runs, spelled, AreRuns}
 use Rattle.paging_message.specs.Laying as laying

@@ -1,13 +1,12 @@
 -- The capsules that are heard of runs of pages, laid one after another, from any half-frame on.
 use Rattle.clean_frames.proofs.Common.{◌≡◌, ℕ, zero, suc, ◌+◌, ◌-◌, ◌*◌, ◌/◌, ◌<◌, ◌≤◌, Bool, true, false, List, [], ◌∷◌, ◌++◌, length, map}
-use Rattle.clean_frames.proofs.Common.{take, drop, refl, sym, ap, ◌∙◌, arith, nat_le, nat_lt, inl, inr, append_assoc, ◌&&◌, flat_map}
+use Rattle.clean_frames.proofs.Common.{take, drop, refl, sym, ap, ◌∙◌, arith, nat_le, nat_lt, inl, inr, append_assoc, ◌&&◌, flat_map, Piece}
 use Rattle.clean_frames.proofs.Common.{option_to_list, and_left, and_right, cases_lt, le-leb, le-ltb, lt-leb, lt-ltb, append-nil, drop-drop}
-use Rattle.clean_frames.proofs.Common.{drop_at, map-append, take-append-le, filter-append, div_below, le-div, mul-le-mul_left}
-use Rattle.clean_frames.proofs.Common.{take-append-add, take-nil, places, length-map-places, Piece, Page, flat_map_ext_places, Placed}
-use Rattle.clean_frames.proofs.Common.{flat_map-add, flat_map-nothing, map-add, take-map-places, filter, ended_of, joined, AreChained}
-use Rattle.clean_frames.proofs.Common.{ended-before, ended-after, ended-past, ending_at, fills, later_begins_none, run_piece, run_pieces}
-use Rattle.clean_frames.proofs.Common.{run_scanned, run_width, first_bits_told, none_starts-map, NoneStarts, scan, scan-append, scan_silent}
-use Rattle.clean_frames.proofs.Common.{with_number, AreChainedRuns}
+use Rattle.clean_frames.proofs.Common.{drop_at, map-append, take-append-le, filter-append, div_below, le-div, mul-le-mul_left, take-nil}
+use Rattle.clean_frames.proofs.Common.{take-append-add, places, length-map-places, Page, flat_map_ext_places, Placed, flat_map-add, map-add}
+use Rattle.clean_frames.proofs.Common.{flat_map-nothing, take-map-places, filter, ended_of, joined, AreChained, ended-before, ended-after}
+use Rattle.clean_frames.proofs.Common.{ended-past, ending_at, fills, later_begins_none, run_piece, run_pieces, run_scanned, run_width, scan}
+use Rattle.clean_frames.proofs.Common.{first_bits_told, none_starts-map, NoneStarts, scan-append, scan_silent, with_number, AreChainedRuns}
 
 -- ---- where the pages of runs lie
 

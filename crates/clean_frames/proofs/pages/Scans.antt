@@ -1,11 +1,10 @@
 -- What frames of half-frames end, one frame after another.
 use Rattle.clean_frames.proofs.Common.{◌≡◌, ℕ, zero, suc, ◌+◌, ◌-◌, ◌*◌, ◌/◌, ◌<◌, ◌≤◌, Bool, false, List, [], ◌∷◌, ◌++◌, length, map, take}
 use Rattle.clean_frames.proofs.Common.{refl, sym, ap, ◌∙◌, arith, append_assoc, flat_map, option_to_list, append-nil, map-append, places}
-use Rattle.clean_frames.proofs.Common.{length-map-places, Piece, half_frame_capsule_ending, capsules_with_frames, frame_capsules}
-use Rattle.clean_frames.proofs.Common.{flat_map-next, flat_map-nothing, flat_map-zero, map-next, map-zero, replicate, length-replicate}
-use Rattle.clean_frames.proofs.Common.{replicate-append-replicate, take-replicate, bits_of, ended_by-append, ended_by_bits, half_frame_ends}
-use Rattle.clean_frames.proofs.Common.{scan, scan-append, stream, told_in, whole-append, whole-map, with_number, zeros_end_none}
-use Rattle.clean_frames.proofs.Common.{stream-next}
+use Rattle.clean_frames.proofs.Common.{length-map-places, Piece, half_frame_capsule_ending, capsules_with_frames, frame_capsules, map-next}
+use Rattle.clean_frames.proofs.Common.{flat_map-next, flat_map-nothing, flat_map-zero, map-zero, replicate, length-replicate, bits_of, scan}
+use Rattle.clean_frames.proofs.Common.{replicate-append-replicate, take-replicate, ended_by-append, ended_by_bits, half_frame_ends, stream}
+use Rattle.clean_frames.proofs.Common.{scan-append, told_in, whole-append, whole-map, with_number, zeros_end_none, stream-next}
 
 -- ---- frame by frame
 

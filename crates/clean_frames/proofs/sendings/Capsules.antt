@@ -1,13 +1,13 @@
 -- The pieces of a cell's transmissions, and the capsules that they end.
 use Rattle.clean_frames.proofs.Common.{◌≡◌, ℕ, zero, suc, ◌+◌, ◌-◌, ◌*◌, ◌/◌, ◌%◌, ◌<◌, ◌≤◌, ◌&&◌, ◌==◌, ⊎_elim, Bool, true, false, List}
-use Rattle.clean_frames.proofs.Common.{[], ◌∷◌, ◌++◌, length, take, drop, replicate, refl, sym, ap, ◌∙◌, arith, nat_lt, nat_le, Option}
+use Rattle.clean_frames.proofs.Common.{[], ◌∷◌, ◌++◌, length, take, drop, replicate, refl, sym, ap, ◌∙◌, arith, nat_lt, nat_le, Option, M30}
 use Rattle.clean_frames.proofs.Common.{Some, None, if◌then◌else◌, div-add-mod', take-add, lt-ltb, le-ltb, lt-leb, le-leb, cases_lt, ne_eqb}
 use Rattle.clean_frames.proofs.Common.{and_from, flat_map-append, append-nil, length-take-le, take-take, take_at, take-append-le, mod_below}
 use Rattle.clean_frames.proofs.Common.{div-mul-add, mod-mul-add, number, FillsCapsule, front_capsule, is_stated, octets, stated_bits, Piece}
-use Rattle.clean_frames.proofs.Common.{piece, bodies, from_last_start, but_last, capsule_ending, M30, whole-capsule, CheckForm, sync_body}
-use Rattle.clean_frames.proofs.Common.{sync_capsule, SyncFields, length-body, message_of, padded_sending, superframes_a_sending}
-use Rattle.clean_frames.proofs.Common.{sync_frame_bits, CellPlan, length-sending, length-sync, length-append, first_starts, length-run}
-use Rattle.clean_frames.proofs.Common.{none_starts, run, run-append, run-push, started_after}
+use Rattle.clean_frames.proofs.Common.{piece, bodies, from_last_start, but_last, capsule_ending, whole-capsule, CheckForm, sync_body, run}
+use Rattle.clean_frames.proofs.Common.{sync_capsule, SyncFields, length-body, message_of, padded_sending, superframes_a_sending, CellPlan}
+use Rattle.clean_frames.proofs.Common.{sync_frame_bits, length-sending, length-sync, length-append, first_starts, length-run, none_starts}
+use Rattle.clean_frames.proofs.Common.{run-append, run-push, started_after}
 
 -- ---- the end of a message
 -- what it gives where its size is known

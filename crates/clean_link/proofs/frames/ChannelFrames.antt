@@ -1,23 +1,20 @@
 -- What comes back of any channel that a stream hears, then of the sync channel and of paging channels.
 use Rattle.clean_link.proofs.Common.{NearChannelsHaveSigns, NearSyncHasSigns, ◌≡◌, ℕ, ◌+◌, ◌<◌, true, List, [], ◌∷◌, refl, sym, ap, subst}
 use Rattle.clean_link.proofs.Common.{inl, ◌∙◌, arith, pos, unsigned_abs, Some, ◌+ℤ◌, ints, int_rem_euclid_is, sent, sync_shape, SyncFields}
-use Rattle.clean_link.proofs.Common.{IsSyncPlan, made_samples, continued_symbols, sync_frame_bits, sync_symbols, sync_carrier, phase_at}
-use Rattle.clean_link.proofs.Common.{CellPlan, SyncPlan, length-sync_frame_bits, softs, Finger, Sync, signed, frame_start, is_in_file}
-use Rattle.clean_link.proofs.Common.{Tuning, fingers_of, modulo_code, sync_stream, AreZeroWithoutSync, FramesAreZeros, FramesComeBack}
-use Rattle.clean_link.proofs.Common.{HaveSentSigns, SentCodewordsAreTheOnlyBest, IsOnPath, first_sync_frame, soft_strength, AreReadBy}
-use Rattle.clean_link.proofs.Common.{IsHeardBy, path_finger, reference_finger, IsReceivable, Option, None, Sample, Width, unwrap_or, Bears}
-use Rattle.clean_link.proofs.Common.{IsNear, ShowsSync, symbols, ◌≤◌, frame_own_bits, ◌*◌, ◌/◌, false, Bool, length, inr, ℤ, replicate}
-use Rattle.clean_link.proofs.Common.{Contains, length-map, All-contains, places, xor, zip_with, length-places, after, long_chip}
-use Rattle.clean_link.proofs.Common.{paging_mask, scrambling, data_shape, repeats_of, Rate, R9600, Cycle, cycle_frame_bits, cycle_symbols}
-use Rattle.clean_link.proofs.Common.{cycled, frame_scrambling, paging_frame_size, IsLawfulPlan, IsPagingPlan, cycle_of, paging_carrier}
-use Rattle.clean_link.proofs.Common.{PagingPlan, Data, paging_stream, descrambled, unscrambled, Stream, Mark, IsTrueMark}
-use Rattle.clean_link.proofs.Common.{PagingFramesComeBack, PagingHaveSentSigns, PagingCodewordsAreTheOnlyBest, SilentPagingFramesAreZeros}
-use Rattle.clean_link.proofs.Common.{FrameHasSigns, HasSyncSigns, IsCellMark, PagingFrameHasSigns, HasSign, frame_softs, Carrier, carriers}
-use Rattle.clean_link.proofs.Common.{SilentPagingIsZero, ordered_symbols, scrambled_with, ChannelFramesComeBack}
+use Rattle.clean_link.proofs.Common.{IsSyncPlan, made_samples, continued_symbols, sync_frame_bits, sync_symbols, sync_carrier, phase_at, ℤ}
+use Rattle.clean_link.proofs.Common.{CellPlan, SyncPlan, length-sync_frame_bits, softs, Finger, Sync, signed, frame_start, is_in_file, None}
+use Rattle.clean_link.proofs.Common.{Tuning, fingers_of, modulo_code, sync_stream, AreZeroWithoutSync, FramesAreZeros, FramesComeBack, ◌≤◌}
+use Rattle.clean_link.proofs.Common.{HaveSentSigns, SentCodewordsAreTheOnlyBest, IsOnPath, first_sync_frame, soft_strength, AreReadBy, ◌*◌}
+use Rattle.clean_link.proofs.Common.{IsHeardBy, path_finger, reference_finger, IsReceivable, Option, Sample, Width, unwrap_or, Bears, ◌/◌}
+use Rattle.clean_link.proofs.Common.{IsNear, ShowsSync, symbols, frame_own_bits, false, Bool, length, inr, replicate, Contains, length-map}
+use Rattle.clean_link.proofs.Common.{All-contains, places, xor, zip_with, length-places, after, long_chip, paging_mask, scrambling, Rate}
+use Rattle.clean_link.proofs.Common.{data_shape, repeats_of, R9600, Cycle, cycle_frame_bits, cycle_symbols, cycled, frame_scrambling, Data}
+use Rattle.clean_link.proofs.Common.{paging_frame_size, IsLawfulPlan, IsPagingPlan, cycle_of, paging_carrier, PagingPlan, paging_stream}
+use Rattle.clean_link.proofs.Common.{descrambled, unscrambled, Stream, Mark, IsTrueMark, PagingFramesComeBack, PagingHaveSentSigns, HasSign}
+use Rattle.clean_link.proofs.Common.{PagingCodewordsAreTheOnlyBest, SilentPagingFramesAreZeros, FrameHasSigns, HasSyncSigns, IsCellMark}
+use Rattle.clean_link.proofs.Common.{PagingFrameHasSigns, frame_softs, Carrier, carriers, SilentPagingIsZero, ordered_symbols, length-near}
+use Rattle.clean_link.proofs.Common.{scrambled_with, ChannelFramesComeBack, none_borne, near-self, signs_turn, noisy_relates, length-made}
 use Rattle.clean_signal.proofs.signal.CarriersApart.{sync_sent, sync_silent, paging_sent, paging_silent}
-use Rattle.clean_signal.proofs.noise.Near.{length-near, none_borne, near-self, signs_turn}
-use Rattle.clean_signal.proofs.signal.Frames.{noisy_relates}
-use Rattle.clean_signal.proofs.signal.Samples.{length-made}
 use Rattle.clean_signal.specs.Signals.{IsFrameAt}
 use Rattle.rake_finger.specs.declared.form.Form.{Form}
 use Rattle.viterbi.specs.Signs.{HaveSigns}

@@ -1,8 +1,8 @@
 -- When the frames of a stream are known, where it has one finger, on the reference path.
-use Rattle.clean_link.proofs.Common.{◌≡◌, ℕ, ◌+◌, ◌≤◌, ◌&&◌, Bool, true, false, [], ◌∷◌, refl, ap, ◌∙◌, arith, nat_le, pos, ◌+ℤ◌}
-use Rattle.clean_link.proofs.Common.{if◌then◌else◌, List, frame_chips, Finger, Stream, frame_end, frame_start, is_in_file, known_at}
-use Rattle.clean_link.proofs.Common.{IsTimed, heard_after, ◌-◌, ◌*◌, ◌/◌, ◌%◌, ◌<◌, ℤ, phase_at, CellPlan, Tuning, fingers_of, modulo_code}
-use Rattle.clean_link.proofs.Common.{sync_stream, first_sync_frame, paging_stream, Mark}
+use Rattle.clean_link.proofs.Common.{◌≡◌, ℕ, ◌+◌, ◌≤◌, ◌&&◌, Bool, true, false, [], ◌∷◌, refl, ap, ◌∙◌, arith, nat_le, pos, ◌+ℤ◌, List, ◌-◌}
+use Rattle.clean_link.proofs.Common.{if◌then◌else◌, frame_chips, Finger, Stream, frame_end, frame_start, is_in_file, known_at, IsTimed, ◌*◌}
+use Rattle.clean_link.proofs.Common.{heard_after, ◌/◌, ◌%◌, ◌<◌, ℤ, phase_at, CellPlan, Tuning, fingers_of, modulo_code, sync_stream, Mark}
+use Rattle.clean_link.proofs.Common.{first_sync_frame, paging_stream}
 use Rattle.clean_signal.proofs.frames.Times.{IsAlone, end_of_one, ends_at, inside_alone, inside_is, room_alone, timed_alone}
 
 -- ---- a stream with one finger, on the reference path

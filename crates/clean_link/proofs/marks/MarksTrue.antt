@@ -1,20 +1,19 @@
 -- The mark of a clean link has the cell's time and long code.
+use Rattle.clean_link.proofs.Common.{◌≡◌, ℕ, suc, ◌+◌, ◌-◌, ◌*◌, ◌/◌, ◌%◌, ◌<◌, ◌==◌, ⊎_elim, Bool, true, false, List, [], ◌∷◌, length, sym}
+use Rattle.clean_link.proofs.Common.{refl, ap, ◌∙◌, arith, subst, nat_le, ◌&&◌, Option, Some, None, and_parts, ne_eqb, cases_Bool, places}
+use Rattle.clean_link.proofs.Common.{Sample, Width, IsState, after, after-after, IsState-after, Piece, from_last_start, superframes_of, map}
+use Rattle.clean_link.proofs.Common.{sync_capsule, SyncFields, IsLawfulPlan, message_of, superframes_a_sending, told_superframes, CellPlan}
+use Rattle.clean_link.proofs.Common.{SyncPlan, length-sending, first_of, frames_open, mark, marks_at, marks_of, frame_start, heard_at, Mark}
+use Rattle.clean_link.proofs.Common.{with_message, Tuning, sync_stream, sync_bound, MarksAreTrue, IsOnPath, IsTrueMark, first_sync_frame}
+use Rattle.clean_link.proofs.Common.{MarksTellTheRate, UnmarkedWithoutSync, ShowsSync, filter, flat_map, nat_lt, is_some, length-map}
+use Rattle.clean_link.proofs.Common.{IsMarkedWhereHeard, events_of_channel, sending_event, sync_sent, whole_sendings}
 use Rattle.clean_link.proofs.frames.ChannelFrames.{shows_sync}
-use Rattle.clean_link.proofs.Common.{◌≡◌, ℕ, suc, ◌+◌, ◌-◌, ◌*◌, ◌/◌, ◌%◌, ◌<◌, ◌==◌, ⊎_elim, Bool, true, false, List, [], ◌∷◌, length}
-use Rattle.clean_link.proofs.Common.{refl, sym, ap, ◌∙◌, arith, subst, nat_le, ◌&&◌, Option, Some, None, and_parts, ne_eqb, cases_Bool}
-use Rattle.clean_link.proofs.Common.{places, Sample, Width, IsState, after, after-after, IsState-after, Piece, from_last_start}
-use Rattle.clean_link.proofs.Common.{superframes_of, sync_capsule, SyncFields, IsLawfulPlan, message_of, superframes_a_sending}
-use Rattle.clean_link.proofs.Common.{told_superframes, CellPlan, SyncPlan, length-sending, first_of, frames_open, mark, marks_at, marks_of}
-use Rattle.clean_link.proofs.Common.{frame_start, heard_at, with_message, Tuning, sync_stream, sync_bound, Mark, MarksAreTrue, IsOnPath}
-use Rattle.clean_link.proofs.Common.{IsTrueMark, first_sync_frame, MarksTellTheRate, UnmarkedWithoutSync, ShowsSync, map, filter, flat_map}
-use Rattle.clean_link.proofs.Common.{nat_lt, is_some, length-map, IsMarkedWhereHeard, events_of_channel, sending_event, sync_sent}
-use Rattle.clean_link.proofs.Common.{whole_sendings}
 use Rattle.paging_message.proofs.Pieces.{length-run}
 use Rattle.clean_frames.proofs.sendings.Capsules.{IsSentAt, begun, is_at, piece_of, sending_frames}
 use Rattle.clean_link.proofs.frames.Times.{frames_begin, sync_timed}
 use Rattle.clean_link.proofs.sendings.Order.{first_among, in_file, known, first_there, frames_of, mark_of_all}
-use Rattle.clean_link.proofs.sendings.Heard.{ends_sending, heard_is, none_heard, heard_pieces, ends_tells, threefold, ends_there}
-use Rattle.clean_link.proofs.sendings.Heard.{last_frame, none_give, whole_give}
+use Rattle.clean_link.proofs.sendings.Heard.{ends_sending, heard_is, none_heard, heard_pieces, ends_tells, threefold, ends_there, none_give}
+use Rattle.clean_link.proofs.sendings.Heard.{last_frame, whole_give}
 
 -- ---- the mark that a transmission sets
 -- which transmission and which of its frames the file's frame k is, where it ends the transmission

@@ -1,17 +1,16 @@
 -- A handset hears what a clean link's cell sends, channel by channel and frame by frame.
 use Rattle.clean_link.proofs.Common.{FollowedHaveSigns, HasSyncSigns, ◌≡◌, ℕ, ◌+◌, ◌-◌, ◌*◌, ◌≤◌, true, false, Bool, List, [], ◌∷◌, length}
-use Rattle.clean_link.proofs.Common.{map, refl, sym, ap, ◌∙◌, arith, subst, Option, None, Some, filter, if◌then◌else◌, All, Contains}
-use Rattle.clean_link.proofs.Common.{flat_map, All-contains, All-map, places, Sample, Width, IsFreeOf, made_samples, frames_of}
-use Rattle.clean_link.proofs.Common.{cycled_frame, CellPlan, PagingPlan, TrafficPlan, SetOneFrame, events, events_at, frame_events_at}
-use Rattle.clean_link.proofs.Common.{heard_within, message_events_at, paging_events_at, mark, frames_at, messages_at, is_in_file}
-use Rattle.clean_link.proofs.Common.{sync_events_at, power_bits_at, decoded_at, frame_event, frame_heard, Tuning, Event, Pilot, Leg, Mark}
-use Rattle.clean_link.proofs.Common.{Traffic, IsNotDirected, IsOnPath, is_frame, is_message, is_page, is_sync, AreFramesAfter}
-use Rattle.clean_link.proofs.Common.{AreMessagesAfter, EachChannelComesBack, FollowsOne, IsEventOf, frame_ends, is_received}
-use Rattle.clean_link.proofs.Common.{received_frames, AreDistinct, IsDistinctFrame, SendsSetOne, messages_of_channel, paging_sent}
-use Rattle.clean_link.proofs.Common.{told_with_sync, HearsSentTraffic, IsHeardAs, ◌++◌, All-weaker, ◌≢◌, All-append, All-cons, All-nil}
-use Rattle.clean_link.proofs.Common.{All-same, sets_events_at, messages_sent, FollowsSent, NoEventIsDirected, signaling_sent}
-use Rattle.clean_link.proofs.Common.{AreEventsBySigns, AreFramesBySigns, ChannelsComeBackBySigns, FromMark, HearsBySigns, MarkIsAt}
-use Rattle.clean_link.proofs.Common.{IsReceivable, SyncTellsTheMark, TrafficFrameHasSigns, pages_after}
+use Rattle.clean_link.proofs.Common.{map, refl, sym, ap, ◌∙◌, arith, subst, Option, None, Some, filter, if◌then◌else◌, All, Contains, Width}
+use Rattle.clean_link.proofs.Common.{flat_map, All-contains, All-map, places, Sample, IsFreeOf, made_samples, frames_of, cycled_frame, mark}
+use Rattle.clean_link.proofs.Common.{CellPlan, PagingPlan, TrafficPlan, SetOneFrame, events, events_at, frame_events_at, heard_within, Leg}
+use Rattle.clean_link.proofs.Common.{message_events_at, paging_events_at, frames_at, messages_at, is_in_file, sync_events_at, power_bits_at}
+use Rattle.clean_link.proofs.Common.{decoded_at, frame_event, frame_heard, Tuning, Event, Pilot, Mark, Traffic, IsNotDirected, IsOnPath}
+use Rattle.clean_link.proofs.Common.{is_frame, is_message, is_page, is_sync, AreFramesAfter, AreMessagesAfter, EachChannelComesBack, ◌++◌}
+use Rattle.clean_link.proofs.Common.{FollowsOne, IsEventOf, frame_ends, is_received, received_frames, AreDistinct, IsDistinctFrame, ◌≢◌}
+use Rattle.clean_link.proofs.Common.{SendsSetOne, messages_of_channel, paging_sent, told_with_sync, HearsSentTraffic, IsHeardAs, All-weaker}
+use Rattle.clean_link.proofs.Common.{All-append, All-cons, All-nil, All-same, sets_events_at, messages_sent, FollowsSent, NoEventIsDirected}
+use Rattle.clean_link.proofs.Common.{signaling_sent, AreEventsBySigns, AreFramesBySigns, ChannelsComeBackBySigns, FromMark, HearsBySigns}
+use Rattle.clean_link.proofs.Common.{MarkIsAt, IsReceivable, SyncTellsTheMark, TrafficFrameHasSigns, pages_after}
 use Rattle.clean_link.proofs.traffic.Steady.{frames_from_mark, messages_from_mark, first_legs, first_pilot, events_at_all, gathered_all}
 use Rattle.clean_link.proofs.traffic.Steady.{each_of_all, one_stream}
 use Rattle.clean_link.proofs.frames.ChannelFrames.{clean_signs, shows_sync}

@@ -1,15 +1,14 @@
 -- Which of a handset's events are of which kind.
-use Rattle.clean_link.proofs.Common.{◌≡◌, ℕ, ◌+◌, ◌==◌, ◌||◌, Bool, true, false, List, [], ◌∷◌, ◌++◌, filter, refl, ap, ◌∙◌, take, Option}
-use Rattle.clean_link.proofs.Common.{None, Some, nat_eq, if◌then◌else◌, All, flat_map, append-nil, All-cons, All-head, All-map, All-nil}
-use Rattle.clean_link.proofs.Common.{All-tail, filter-append, Plain, Sample, Standing, SetChange, events_at, frame_events_at}
-use Rattle.clean_link.proofs.Common.{message_events_at, paging_events_at, sets_events_at, mark, changed, frames_at, heard_from, kept_to}
-use Rattle.clean_link.proofs.Common.{legs_at, messages_at, moment_events, moment_place, moments_before, passed, sets_at, page_event}
-use Rattle.clean_link.proofs.Common.{pages_if_marked, signaling_message_at, message_events, message_heard, messages_by, signal_in, known_now}
-use Rattle.clean_link.proofs.Common.{events_of, heard_at, sync_events_at, with_message, frame_heard, frames_by, if_followed, frames_now}
-use Rattle.clean_link.proofs.Common.{Tuning, sync_bound, sync_stream, all_each, Event, Leg, Mark, Traffic, is_frame, is_message, is_page}
-use Rattle.clean_link.proofs.Common.{is_sync, type_within}
+use Rattle.clean_link.proofs.Common.{signaling_message_at, message_events_at, paging_events_at, frame_events_at, pages_if_marked, SetChange}
+use Rattle.clean_link.proofs.Common.{sets_events_at, moments_before, message_events, sync_events_at, if◌then◌else◌, filter-append, flat_map}
+use Rattle.clean_link.proofs.Common.{moment_events, message_heard, moment_place, with_message, messages_at, messages_by, frame_heard, false}
+use Rattle.clean_link.proofs.Common.{if_followed, sync_stream, type_within, append-nil, heard_from, page_event, frames_now, sync_bound, ◌≡◌}
+use Rattle.clean_link.proofs.Common.{is_message, events_at, frames_at, signal_in, known_now, events_of, frames_by, All-cons, All-head, ◌==◌}
+use Rattle.clean_link.proofs.Common.{All-tail, Standing, heard_at, all_each, is_frame, All-map, All-nil, changed, kept_to, legs_at, sets_at}
+use Rattle.clean_link.proofs.Common.{Traffic, is_page, is_sync, filter, Option, nat_eq, Sample, passed, Tuning, Plain, Event, Pilot, ◌||◌}
+use Rattle.clean_link.proofs.Common.{Bool, true, List, ◌++◌, refl, take, None, Some, mark, Mark, ◌+◌, ◌∷◌, ◌∙◌, All, Leg, [], ap, ℕ}
 use Rattle.clean_link.proofs.traffic.Steady.{events_at_all}
-use Rattle.heard_events.specs.declared.event.Event.TheVariants.{Frame, Paging, Pilot, Sets, Sync, Traffic as OnTraffic}
+use Rattle.heard_events.specs.declared.event.Event.TheVariants.{Frame, Paging, Sets, Sync, Traffic as OnTraffic}
 
 -- ---- kinds by number
 

@@ -3,20 +3,19 @@
 -- known, and nothing else.
 use Rattle.clean_link.proofs.Common.{◌≡◌, ℕ, ◌+◌, Bool, true, false, List, [], ◌∷◌, ◌++◌, length, map, refl, sym, ap, ◌∙◌, arith, inl, inr}
 use Rattle.clean_link.proofs.Common.{nat_lt, Option, None, Some, ℤ, pos, if◌then◌else◌, flat_map, cases_Bool, ltb-true, map-append, places}
-use Rattle.clean_link.proofs.Common.{CheckForm, Sample, Width, made_samples, phase_at, CellPlan, SyncPlan, events, events_at}
-use Rattle.clean_link.proofs.Common.{frame_events_at, heard_within, message_events_at, paging_events_at, sets_events_at, mark, page_event}
-use Rattle.clean_link.proofs.Common.{pages_at, pages_if_marked, sync_events_at, Tuning, Event, Pilot, Mark, AreAt, IsAt, all_at, by_one_mark}
-use Rattle.clean_link.proofs.Common.{pages_from_mark, flat_map_ext_places, IsOnPath, IsTunedToPlan, sync_sent, tuning_to, IsReceivable}
-use Rattle.clean_link.proofs.Common.{ReadPage, known_page, pages_sent, pages_within, WholeMessagesComeBack, known_event, paging_sent}
-use Rattle.clean_link.proofs.Common.{pages_after_mark, AllComesBackBySigns, FromMark, IsCellMark, MarkIsAt, PagingFrameHasSigns}
-use Rattle.clean_link.proofs.Common.{pages_after, sent_events, by_places, sets_heard, signaling_sent, subst, frames_at, messages_at}
-use Rattle.clean_link.proofs.Common.{sets_at, traffic_sent, ◌<◌, Contains, PagingPlan, zero, suc, ◌≤◌, filter, range_with_len, cases_order}
-use Rattle.clean_link.proofs.Common.{eq-eqb, ne_eqb, append-nil, filter-append, at_of, All-head, All-tail, is_at}
+use Rattle.clean_link.proofs.Common.{CheckForm, Sample, Width, made_samples, phase_at, CellPlan, SyncPlan, events, events_at, heard_within}
+use Rattle.clean_link.proofs.Common.{frame_events_at, message_events_at, paging_events_at, sets_events_at, mark, page_event, pages_at, Mark}
+use Rattle.clean_link.proofs.Common.{pages_if_marked, sync_events_at, Tuning, Event, Pilot, AreAt, IsAt, all_at, by_one_mark, IsOnPath, ◌<◌}
+use Rattle.clean_link.proofs.Common.{pages_from_mark, flat_map_ext_places, IsTunedToPlan, sync_sent, tuning_to, IsReceivable, ReadPage, suc}
+use Rattle.clean_link.proofs.Common.{known_page, pages_sent, pages_within, WholeMessagesComeBack, known_event, paging_sent, FromMark, subst}
+use Rattle.clean_link.proofs.Common.{pages_after_mark, AllComesBackBySigns, IsCellMark, MarkIsAt, PagingFrameHasSigns, pages_after, sets_at}
+use Rattle.clean_link.proofs.Common.{sent_events, by_places, sets_heard, signaling_sent, frames_at, messages_at, traffic_sent, Contains}
+use Rattle.clean_link.proofs.Common.{PagingPlan, zero, ◌≤◌, filter, range_with_len, cases_order, eq-eqb, ne_eqb, append-nil, filter-append}
+use Rattle.clean_link.proofs.Common.{at_of, All-head, All-tail, is_at, length-made}
 use Rattle.clean_link.proofs.traffic.Steady.{events_at_all, right_all, left_all}
 use Rattle.clean_link.proofs.frames.ChannelFrames.{clean_sync, shows_sync}
 use Rattle.clean_link.proofs.pages.Back.{pages_back, sent_of_number, signed_pages}
 use Rattle.clean_link.proofs.sendings.Heard.{none_known, sendings_in}
-use Rattle.clean_signal.proofs.signal.Samples.{length-made}
 use Rattle.clean_link.proofs.traffic.Back.{frames_all, mark_told, messages_all, none_followed, one_near}
 
 -- ---- events of one number of samples

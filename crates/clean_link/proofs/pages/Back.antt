@@ -1,28 +1,25 @@
 -- On a clean link a handset hears the whole pages of a paging channel, in order, and nothing else.
 use Rattle.clean_link.proofs.Common.{SignedPagesComeBack, HaveOwnNumbers, eq-eqb, get_or, length, ne_eqb, suc, zero, ◌≡◌, ◌≢◌, ℕ, ◌+◌, ◌-◌}
 use Rattle.clean_link.proofs.Common.{◌*◌, ◌/◌, ◌<◌, ◌≤◌, ◌==◌, ⊎_elim, Bool, true, false, List, ◌∷◌, map, filter, replicate, refl, sym, ap}
-use Rattle.clean_link.proofs.Common.{◌∙◌, arith, subst, Option, Some, All, Contains, flat_map, option_to_list, cases_Bool, eqb-true}
-use Rattle.clean_link.proofs.Common.{eqb-false, false_from_ne_true, All-cons, All-contains, All-contains_itself, All-head, All-nil}
-use Rattle.clean_link.proofs.Common.{All-tail, All-weaker, places, CheckForm, capsule, M30, Rate, half_frame_body, rate_large}
-use Rattle.clean_link.proofs.Common.{cycle_frame_bits, sent_paging_rate, made_samples, IsStatedPaging, cycle_of, CellPlan, PagingPlan}
-use Rattle.clean_link.proofs.Common.{page_in, frame_own_bits, is_in_file, known_at, IsTimed, Tuning, Mark, flat_map_ext_places}
-use Rattle.clean_link.proofs.Common.{heard_after, IsOnPath, end_chip, known_page, KnownPage, message_in, page_told, pages_numbered}
-use Rattle.clean_link.proofs.Common.{pages_of_channel, pages_sent, pages_within, PagesComeBack, placed_pages, ReadPage, round_sent}
-use Rattle.clean_link.proofs.Common.{AreWholePages, capsules_with_frames, cycle_half_frames, is_whole_page, Placed, sending_of, Sample}
-use Rattle.clean_link.proofs.Common.{◌++◌, nat_le, if◌then◌else◌, mul-div-le, and_parts, leb-true, le-div, length-capsule, HasMessage}
-use Rattle.clean_link.proofs.Common.{laid_after, AreHeard, Page, placed, None, paging_capsule, body_reading, is_body, paging_reading}
-use Rattle.clean_link.proofs.Common.{PagingMessage, reads_body, reads_capsule, as_spelled_page, take, range_with_len, lt-ltb, append-nil}
-use Rattle.clean_link.proofs.Common.{map-append, flat_map-map, flat_map-append, half_frame_capsule_ending, bits_up_to, page_at, pages_at}
-use Rattle.clean_link.proofs.Common.{pages_if_marked, pages_from, paging_bound, paging_stream, known_now, flat_map_ext_filter_places}
-use Rattle.clean_link.proofs.Common.{frame_capsules, [], IsCellMark}
+use Rattle.clean_link.proofs.Common.{◌∙◌, arith, subst, Option, Some, All, Contains, flat_map, option_to_list, cases_Bool, eqb-true, places}
+use Rattle.clean_link.proofs.Common.{eqb-false, false_from_ne_true, All-cons, All-contains, All-contains_itself, All-head, All-nil, capsule}
+use Rattle.clean_link.proofs.Common.{All-tail, All-weaker, CheckForm, M30, Rate, half_frame_body, rate_large, cycle_frame_bits, cycle_of}
+use Rattle.clean_link.proofs.Common.{sent_paging_rate, made_samples, IsStatedPaging, CellPlan, PagingPlan, page_in, frame_own_bits, IsTimed}
+use Rattle.clean_link.proofs.Common.{is_in_file, known_at, Tuning, Mark, flat_map_ext_places, heard_after, IsOnPath, end_chip, known_page}
+use Rattle.clean_link.proofs.Common.{KnownPage, message_in, page_told, pages_numbered, pages_of_channel, pages_sent, pages_within, ReadPage}
+use Rattle.clean_link.proofs.Common.{PagesComeBack, placed_pages, round_sent, AreWholePages, capsules_with_frames, cycle_half_frames, ◌++◌}
+use Rattle.clean_link.proofs.Common.{is_whole_page, Placed, sending_of, Sample, nat_le, if◌then◌else◌, mul-div-le, and_parts, leb-true, []}
+use Rattle.clean_link.proofs.Common.{le-div, length-capsule, HasMessage, laid_after, AreHeard, Page, placed, None, paging_capsule, is_body}
+use Rattle.clean_link.proofs.Common.{body_reading, paging_reading, PagingMessage, reads_body, reads_capsule, as_spelled_page, take, lt-ltb}
+use Rattle.clean_link.proofs.Common.{range_with_len, append-nil, map-append, flat_map-map, flat_map-append, half_frame_capsule_ending}
+use Rattle.clean_link.proofs.Common.{bits_up_to, page_at, pages_at, pages_if_marked, pages_from, paging_bound, paging_stream, known_now}
+use Rattle.clean_link.proofs.Common.{flat_map_ext_filter_places, frame_capsules, IsCellMark, near-self, filter_all_places}
 use Rattle.clean_frames.proofs.pages.Scans.{zero_frames_end_none}
 use Rattle.clean_frames.proofs.pages.CyclesBack.{stated_pages, whole_pages_back}
 use Rattle.clean_link.proofs.frames.ChannelFrames.{near_paging, paging_borne, paging_shown, shown_back, silent_paging_back}
-use Rattle.clean_signal.proofs.noise.Near.{near-self}
 use Rattle.clean_link.proofs.frames.Times.{paging_file_from, paging_file_to, paging_known_is, paging_timed}
 use Rattle.clean_link.proofs.sendings.Order.{HasFrames, IsBound, frames_first, given_in_order}
 use Rattle.heard_events.specs.PagingEvents.{paging_bits_before}
-use Rattle.chip_core.proofs.Ranges.{filter_all_places}
 use Rattle.heard_events.specs.PagingStreams as streams
 
 -- ---- lists of lists

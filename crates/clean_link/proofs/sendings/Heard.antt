@@ -1,22 +1,20 @@
 -- What a handset hears in each sync frame of a clean link.
+use Rattle.clean_link.proofs.Common.{◌≡◌, ℕ, suc, ◌+◌, ◌*◌, ◌^◌, ◌<◌, ◌≤◌, ◌&&◌, Bool, true, false, List, [], length, map, filter, refl, ap}
+use Rattle.clean_link.proofs.Common.{replicate, ◌∙◌, arith, nat_lt, nat_le, Some, None, if◌then◌else◌, mul-le-mul_left, map-map, places}
+use Rattle.clean_link.proofs.Common.{CheckForm, Sample, most_samples, Width, Eight, Sixteen, after, after_lt, Piece, piece, from_last_start}
+use Rattle.clean_link.proofs.Common.{capsule_ending, IsSyncMessage, sync_capsule, SyncFields, IsLawfulPlan, IsSyncPlan, message_of, Tuning}
+use Rattle.clean_link.proofs.Common.{told_superframes, superframes_a_sending, sync_frame_bits, IsSendable, CellPlan, SyncPlan, length-sync}
+use Rattle.clean_link.proofs.Common.{refilled_is, superframes_few, told_early, frame_own_bits, frames_before, sync_capsule_at, heard_in}
+use Rattle.clean_link.proofs.Common.{heard_at, with_message, sync_stream, map_ext_filter_places, IsOnPath, first_sync_frame, ShowsSync, ◌-◌}
+use Rattle.clean_link.proofs.Common.{◌/◌, and_parts, and_from, and_right, lt-ltb, le-leb, lt-leb, leb-true, ltb-true, superframes_some, ◌≢◌}
+use Rattle.clean_link.proofs.Common.{is_whole, sending_begins, sending_ends, ⊎_elim, cond, ◌∷◌, sym, Option, flat_map, cases_Bool, Event}
+use Rattle.clean_link.proofs.Common.{false_from_ne_true, events_of, sync_events_at, sync_bound, flat_map_ext_filter, WholeSendingsComeBack}
+use Rattle.clean_link.proofs.Common.{events_of_channel, heard_after, sending_event, sync_sent, whole_sendings, filter_all_places}
 use Rattle.clean_link.proofs.frames.ChannelFrames.{shows_sync}
-use Rattle.clean_link.proofs.Common.{◌≡◌, ℕ, suc, ◌+◌, ◌*◌, ◌^◌, ◌<◌, ◌≤◌, ◌&&◌, Bool, true, false, List, [], length, map, filter}
-use Rattle.clean_link.proofs.Common.{replicate, refl, ap, ◌∙◌, arith, nat_lt, nat_le, Some, None, if◌then◌else◌, mul-le-mul_left, map-map}
-use Rattle.clean_link.proofs.Common.{places, CheckForm, Sample, most_samples, Width, Eight, Sixteen, after, after_lt, Piece, piece}
-use Rattle.clean_link.proofs.Common.{from_last_start, capsule_ending, IsSyncMessage, sync_capsule, SyncFields, IsLawfulPlan, IsSyncPlan}
-use Rattle.clean_link.proofs.Common.{message_of, told_superframes, superframes_a_sending, sync_frame_bits, IsSendable, CellPlan, SyncPlan}
-use Rattle.clean_link.proofs.Common.{length-sync, refilled_is, superframes_few, told_early, frame_own_bits, frames_before, sync_capsule_at}
-use Rattle.clean_link.proofs.Common.{heard_in, heard_at, with_message, Tuning, sync_stream, map_ext_filter_places, IsOnPath}
-use Rattle.clean_link.proofs.Common.{first_sync_frame, ShowsSync, ◌-◌, ◌/◌, and_parts, and_from, and_right, lt-ltb, le-leb, lt-leb}
-use Rattle.clean_link.proofs.Common.{leb-true, ltb-true, superframes_some, is_whole, sending_begins, sending_ends, ◌≢◌, ⊎_elim, cond, ◌∷◌}
-use Rattle.clean_link.proofs.Common.{sym, Option, flat_map, cases_Bool, false_from_ne_true, events_of, sync_events_at, sync_bound, Event}
-use Rattle.clean_link.proofs.Common.{flat_map_ext_filter, WholeSendingsComeBack, events_of_channel, heard_after, sending_event, sync_sent}
-use Rattle.clean_link.proofs.Common.{whole_sendings}
 use Rattle.sync_message.proofs.Readings.{reads_capsule}
 use Rattle.paging_message.proofs.Pieces.{run, run-places, none_starts}
 use Rattle.clean_frames.proofs.sendings.Capsules.{IsSentAt, piece_of, pieces_end, sending_frames}
 use Rattle.clean_link.proofs.frames.Times.{frames_begin, in_file_from, in_file_to, one_path, end_of_frame, known_is, sync_timed}
-use Rattle.chip_core.proofs.Ranges.{filter_all_places}
 use Rattle.clean_link.proofs.sendings.Order.{in_file, blocks, given_where, flat_map-filter, map-filter, moved_up, quiet, events_by_frames}
 use Rattle.clean_link.proofs.sendings.Order.{frame_events, frames_of, known}
 use Rattle.heard_events.specs.declared.event.Event.TheVariants.{Sync}

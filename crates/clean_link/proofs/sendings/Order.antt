@@ -1,14 +1,13 @@
 -- What is gathered number by number comes in order.
-use Rattle.clean_link.proofs.Common.{filter_ext_places, ◌≡◌, ℕ, zero, suc, ◌+◌, ◌-◌, ◌*◌, ◌<◌, ◌≤◌, ◌&&◌, ◌==◌, ◌≢◌, ⊎_elim, ◌⊎◌, Bool}
-use Rattle.clean_link.proofs.Common.{true, false, cond, List, ◌∷◌, ◌++◌, map, filter, refl, sym, ap, ◌∙◌, arith, nat_lt, append_assoc}
-use Rattle.clean_link.proofs.Common.{flat_map, lt-ltb, le-ltb, ne_eqb, eq-eqb, cases_order, cases_Bool, append-nil, filter-append}
-use Rattle.clean_link.proofs.Common.{flat_map-append, places, places-none, places-more, filter_none_places, flat_map-next, flat_map-zero}
-use Rattle.clean_link.proofs.Common.{length, Some, is_some, and_parts, eqb-true, false_from_ne_true, Sample, first_of, mark, marks_at}
-use Rattle.clean_link.proofs.Common.{mark_before, is_in_file, known_at, heard_at, events_of, sync_events_at, IsTimed, Tuning, sync_stream}
-use Rattle.clean_link.proofs.Common.{sync_bound, Event, known_between, known_le, mark_is, filter_enough, flat_map_ext_places}
-use Rattle.clean_link.proofs.Common.{flat_map_ext_filter, Stream, frame_chips, known_now, []}
+use Rattle.clean_link.proofs.Common.{filter_ext_places, ◌≡◌, ℕ, zero, suc, ◌+◌, ◌-◌, ◌*◌, ◌<◌, ◌≤◌, ◌&&◌, ◌==◌, ◌≢◌, ⊎_elim, ◌⊎◌, Bool, ◌∷◌}
+use Rattle.clean_link.proofs.Common.{true, false, cond, List, ◌++◌, map, filter, refl, sym, ap, ◌∙◌, arith, nat_lt, append_assoc, flat_map}
+use Rattle.clean_link.proofs.Common.{lt-ltb, le-ltb, ne_eqb, eq-eqb, cases_order, cases_Bool, append-nil, filter-append, flat_map-append}
+use Rattle.clean_link.proofs.Common.{places, places-none, places-more, filter_none_places, flat_map-next, flat_map-zero, length, Some, mark}
+use Rattle.clean_link.proofs.Common.{is_some, and_parts, eqb-true, false_from_ne_true, Sample, first_of, marks_at, mark_before, is_in_file}
+use Rattle.clean_link.proofs.Common.{known_at, heard_at, events_of, sync_events_at, IsTimed, Tuning, sync_stream, sync_bound, Event, Stream}
+use Rattle.clean_link.proofs.Common.{known_between, known_le, mark_is, filter_enough, flat_map_ext_places, flat_map_ext_filter, frame_chips}
+use Rattle.clean_link.proofs.Common.{known_now, [], filter_all_places}
 use Rattle.heard_events.proofs.Arrivals.{and_none}
-use Rattle.chip_core.proofs.Ranges.{filter_all_places}
 
 -- ---- by key
 abbrev pub at_key : (ℕ → Bool) → (ℕ → ℕ) → ℕ → ℕ → Bool

@@ -1,20 +1,18 @@
 -- What a handset hears of the traffic channel that it follows: the frames that the cell sends from
 -- its mark on, and the messages in them.
-use Rattle.clean_link.proofs.Common.{◌≡◌, ℕ, zero, suc, ◌+◌, ◌*◌, ◌<◌, List, [], ◌∷◌, length, get_or, refl, sym, ap, ◌∙◌, arith, subst}
-use Rattle.clean_link.proofs.Common.{Option, None, Some, ◌≢◌, All, Contains, flat_map, eq-eqb, ne_eqb, All-contains, places, Width}
-use Rattle.clean_link.proofs.Common.{HaveOwnTrafficRows, made_samples, told_superframes, CellPlan, SyncPlan, TrafficPlan, events}
-use Rattle.clean_link.proofs.Common.{frame_events_at, message_events_at, mark, AreNear, frames_at, messages_at, if_followed, Tuning}
-use Rattle.clean_link.proofs.Common.{sync_stream, Event, Mark, Traffic, by_one_mark, flat_map_ext_places, IsNotDirected, IsOnPath}
-use Rattle.clean_link.proofs.Common.{IsReceivable, frames_of_channel, frames_sent, told_on_row, AreDistinct, messages_of_channel}
-use Rattle.clean_link.proofs.Common.{messages_sent, signaling_sent, told_by_first, told_followed, told_with_sync, MarkIsAt, traffic_sent}
-use Rattle.clean_link.proofs.Common.{FollowsSent, HearsSentTraffic, IsUndirected, Sample, ShowsSync, FollowsOne, OpensAfter}
+use Rattle.clean_link.proofs.Common.{◌≡◌, ℕ, zero, suc, ◌+◌, ◌*◌, ◌<◌, List, [], ◌∷◌, length, get_or, refl, sym, ap, ◌∙◌, arith, subst, ◌≢◌}
+use Rattle.clean_link.proofs.Common.{Option, None, Some, All, Contains, flat_map, eq-eqb, ne_eqb, All-contains, places, Width, made_samples}
+use Rattle.clean_link.proofs.Common.{HaveOwnTrafficRows, told_superframes, CellPlan, SyncPlan, TrafficPlan, events, frame_events_at, mark}
+use Rattle.clean_link.proofs.Common.{message_events_at, AreNear, frames_at, messages_at, if_followed, Tuning, sync_stream, Event, Mark}
+use Rattle.clean_link.proofs.Common.{Traffic, by_one_mark, flat_map_ext_places, IsNotDirected, IsOnPath, IsReceivable, frames_of_channel}
+use Rattle.clean_link.proofs.Common.{frames_sent, told_on_row, AreDistinct, messages_of_channel, messages_sent, signaling_sent, MarkIsAt}
+use Rattle.clean_link.proofs.Common.{told_by_first, told_followed, told_with_sync, traffic_sent, FollowsSent, HearsSentTraffic, Sample}
+use Rattle.clean_link.proofs.Common.{IsUndirected, ShowsSync, FollowsOne, OpensAfter, HoldsOfDistinct, length-made}
 use Rattle.clean_link.proofs.traffic.Steady.{frames_from_mark, messages_from_mark, undirected_after}
 use Rattle.clean_link.proofs.marks.MarksTrue.{first_in, unset_in, marks_in, message_tells, rate_in, unmarked_in}
 use Rattle.clean_link.proofs.frames.ChannelFrames.{clean_sync}
 use Rattle.clean_link.proofs.traffic.Frames.{sent_frames_back, sent_messages_back}
 use Rattle.clean_link.proofs.traffic.Signs.{clean_sent}
-use Rattle.clean_link.specs.TrafficLaws.{HoldsOfDistinct}
-use Rattle.clean_signal.proofs.signal.Samples.{length-made}
 use Rattle.clean_link.proofs.sendings.Heard.{none_known}
 
 pub one_near : (t : Tuning) (plan : CellPlan) → IsOnPath plan t →

@@ -1,21 +1,19 @@
 -- A cell with a distinct frame of each rate.
 use Rattle.clean_link.proofs.Common.{length, TrafficFrame, IsTrafficFrame, ◌≡◌, ◌≢◌, ℕ, ◌+◌, ◌*◌, ◌^◌, ◌<◌, ◌≤◌, Bool, true, List, [], ◌∷◌}
-use Rattle.clean_link.proofs.Common.{map, refl, sym, ap, ◌∙◌, channel_on, arith, subst, Some, All, flat_map, All-cons, All-nil, binary}
-use Rattle.clean_link.proofs.Common.{places, norm, Sixteen, after, traffic_mask, after-after, IsState-before, capsule, check_bits}
-use Rattle.clean_link.proofs.Common.{traffic_codeword, Rate, R9600, R4800, R2400, R1200, codeword_bits, power_places, Rate2, R14400, R7200}
-use Rattle.clean_link.proofs.Common.{R3600, R1800, on_again, sync_body, sync_capsule, IsSyncMessage, split_9600, loudness, AreLawfulBeside}
+use Rattle.clean_link.proofs.Common.{map, refl, sym, ap, ◌∙◌, channel_on, arith, subst, Some, All, flat_map, All-cons, All-nil, binary, suc}
+use Rattle.clean_link.proofs.Common.{places, norm, Sixteen, after, traffic_mask, after-after, IsState-before, capsule, check_bits, Rate}
+use Rattle.clean_link.proofs.Common.{traffic_codeword, R9600, R4800, R2400, R1200, codeword_bits, power_places, Rate2, R14400, R7200, R3600}
+use Rattle.clean_link.proofs.Common.{R1800, on_again, sync_body, sync_capsule, IsSyncMessage, split_9600, loudness, AreLawfulBeside, rules}
 use Rattle.clean_link.proofs.Common.{IsFreeOf, IsLawfulPlan, IsPagingPlan, IsTrafficPlan, sent_paging_rate, IsStatedPaging, IsReceivable}
-use Rattle.clean_link.proofs.Common.{frames_of, cycled_frame, PagingPlan, TrafficPlan, SetOneFrame, SetTwoFrame, lost_symbols}
-use Rattle.clean_link.proofs.Common.{distinct_bits_of, bits_of2, distinct_plan, rules, first_channel, frame2_at, frame_at, on_row}
-use Rattle.clean_link.proofs.Common.{second_channel, told_message, HasMark, HasSetOne, HasSetTwo, frame_chip, is_received, received_frames}
-use Rattle.clean_link.proofs.Common.{replaced_of, AreDistinct, IsDistinctFrame, messages_sent, cycled_frame2, IsDistinctFrame2}
-use Rattle.clean_link.proofs.Common.{signaling_sent, told_with_sync, lost_symbols2, sharing, sharing2, codewords_giving, zero, suc, false}
-use Rattle.clean_link.proofs.Common.{get_or, common_parity, digit, get_or-map-places, flat_map_ext_places, long_chip, after_lt, after_none}
-use Rattle.clean_link.proofs.Common.{after_one, stepped, after-before, before_lt, after-injective, group_scrambling, power_place}
-use Rattle.clean_link.proofs.Common.{frames_in_turn, power_start, ◌-◌}
+use Rattle.clean_link.proofs.Common.{frames_of, cycled_frame, PagingPlan, TrafficPlan, SetOneFrame, SetTwoFrame, lost_symbols, bits_of2}
+use Rattle.clean_link.proofs.Common.{distinct_bits_of, distinct_plan, first_channel, frame2_at, frame_at, on_row, second_channel, HasMark}
+use Rattle.clean_link.proofs.Common.{told_message, HasSetOne, HasSetTwo, frame_chip, is_received, received_frames, replaced_of, AreDistinct}
+use Rattle.clean_link.proofs.Common.{IsDistinctFrame, messages_sent, cycled_frame2, IsDistinctFrame2, signaling_sent, told_with_sync, zero}
+use Rattle.clean_link.proofs.Common.{lost_symbols2, sharing, sharing2, codewords_giving, false, get_or, common_parity, digit, long_chip}
+use Rattle.clean_link.proofs.Common.{get_or-map-places, flat_map_ext_places, after_lt, after_none, after_one, stepped, after-before, ◌-◌}
+use Rattle.clean_link.proofs.Common.{before_lt, after-injective, group_scrambling, power_place, frames_in_turn, power_start, spelling}
 use Rattle.long_code.specs.LongCode.{before}
 use Rattle.sync_message.proofs.Bodies.{admitted}
-use Rattle.message_layout.specs.Spelling.{spelling}
 use Rattle.traffic_message.specs.Multiplex.{split}
 use Rattle.clean_link.proofs.traffic.Frames.{received_lies}
 use Rattle.clean_link.proofs.traffic.SharedFrames.{distinct_by_sharing, distinct_by_sharing2}

@@ -1,26 +1,24 @@
 -- The frames of a traffic channel come back: each received one is heard at its own end, as it was
 -- sent where it is distinct.
-use Rattle.clean_link.proofs.Common.{SignedFramesAreDecoded, ◌≡◌, ℕ, zero, suc, ◌+◌, ◌-◌, ◌*◌, ◌/◌, ◌%◌, ◌<◌, ◌≤◌, ⊎_elim, Bool, true}
-use Rattle.clean_link.proofs.Common.{false, List, [], ◌∷◌, length, cases_lt, inl, inr, map, filter, take, drop, refl, sym, ap, ◌∙◌, arith}
-use Rattle.clean_link.proofs.Common.{subst, nat_le, cond, All, flat_map, and_from, and_parts, cases_Bool, false_from_ne_true, le-leb}
-use Rattle.clean_link.proofs.Common.{leb-true, All-head, All-tail, places, Sample, Width, traffic_mask, power_places, Decoded, sent_frame}
-use Rattle.clean_link.proofs.Common.{Data, made_samples, frames_of, IsTrafficFrame, SetOne, planned, one_in_turn, cycled_frame, set_one}
-use Rattle.clean_link.proofs.Common.{IsSetOneFrame, CellPlan, TrafficPlan, SetOneFrame, frame_softs, is_in_file, known_at, known_now}
-use Rattle.clean_link.proofs.Common.{Stream, frames_at, power_bits_at, decoded_at, frame_event, frame_heard, frames_by, frame_state}
-use Rattle.clean_link.proofs.Common.{frames_bound, frames_now, replaced_in, stream_of, Tuning, Event, Leg, Mark, Traffic, filter_enough}
-use Rattle.clean_link.proofs.Common.{flat_map_ext_filter_places, flat_map_ext_places, soft_strength, frame_chip, frame_ends, frame_told}
-use Rattle.clean_link.proofs.Common.{frames_of_channel, is_received, received_frames, replaced_of, sent_power_bits, sent_frame_event}
-use Rattle.clean_link.proofs.Common.{AreDistinct, IsDistinctFrame, IsOnePilot, SendsSetOne, end_chip, EachFrameIsHeard, HearsSentTraffic}
-use Rattle.clean_link.proofs.Common.{IsHeardAs, IsUndirected, SentFramesComeBack, TrafficFramesComeBack, ℤ, signs_frame, ShowsTraffic}
-use Rattle.clean_link.proofs.Common.{Option, option_to_list, append-nil, CheckForm, messages_at, capsule_with, signaling_message_at}
-use Rattle.clean_link.proofs.Common.{message_events, message_heard, messages_by, signal_at, signal_in, signal_of, signals_before, has_frame}
-use Rattle.clean_link.proofs.Common.{filter_ext_places, message_told, messages_of_channel, signal_sent, signals_in, signals_received}
-use Rattle.clean_link.proofs.Common.{SentMessagesComeBack, HasSign, TrafficFrameHasSigns, IsNotDirected, NoneIsDirected}
+use Rattle.clean_link.proofs.Common.{SignedFramesAreDecoded, ◌≡◌, ℕ, zero, suc, ◌+◌, ◌-◌, ◌*◌, ◌/◌, ◌%◌, ◌<◌, ◌≤◌, ⊎_elim, Bool, true, List}
+use Rattle.clean_link.proofs.Common.{false, [], ◌∷◌, length, cases_lt, inl, inr, map, filter, take, drop, refl, sym, ap, ◌∙◌, arith, subst}
+use Rattle.clean_link.proofs.Common.{nat_le, cond, All, flat_map, and_from, and_parts, cases_Bool, false_from_ne_true, le-leb, leb-true, ℤ}
+use Rattle.clean_link.proofs.Common.{All-head, All-tail, places, Sample, Width, traffic_mask, power_places, Decoded, sent_frame, Data, Leg}
+use Rattle.clean_link.proofs.Common.{made_samples, frames_of, IsTrafficFrame, SetOne, planned, one_in_turn, cycled_frame, set_one, CellPlan}
+use Rattle.clean_link.proofs.Common.{IsSetOneFrame, TrafficPlan, SetOneFrame, frame_softs, is_in_file, known_at, known_now, Stream, Tuning}
+use Rattle.clean_link.proofs.Common.{frames_at, power_bits_at, decoded_at, frame_event, frame_heard, frames_by, frame_state, frames_bound}
+use Rattle.clean_link.proofs.Common.{frames_now, replaced_in, stream_of, Event, Mark, Traffic, filter_enough, flat_map_ext_filter_places}
+use Rattle.clean_link.proofs.Common.{flat_map_ext_places, soft_strength, frame_chip, frame_ends, frame_told, frames_of_channel, is_received}
+use Rattle.clean_link.proofs.Common.{received_frames, replaced_of, sent_power_bits, sent_frame_event, AreDistinct, IsDistinctFrame, Option}
+use Rattle.clean_link.proofs.Common.{IsOnePilot, SendsSetOne, end_chip, EachFrameIsHeard, HearsSentTraffic, IsHeardAs, IsUndirected}
+use Rattle.clean_link.proofs.Common.{SentFramesComeBack, TrafficFramesComeBack, signs_frame, ShowsTraffic, option_to_list, append-nil}
+use Rattle.clean_link.proofs.Common.{CheckForm, messages_at, capsule_with, signaling_message_at, message_events, message_heard, messages_by}
+use Rattle.clean_link.proofs.Common.{signal_at, signal_in, signal_of, signals_before, has_frame, filter_ext_places, message_told, HasSign}
+use Rattle.clean_link.proofs.Common.{messages_of_channel, signal_sent, signals_in, signals_received, SentMessagesComeBack, IsNotDirected}
+use Rattle.clean_link.proofs.Common.{TrafficFrameHasSigns, NoneIsDirected, IsDecodedAs, IsSigned, signed_turn, signs_turn}
 use Rattle.clean_link.proofs.traffic.Signs.{traffic_clean, traffic_strong, heard_related, power_pairs, lawful_traffic, same_state}
 use Rattle.clean_link.proofs.traffic.Signs.{signed_power_bits}
 use Rattle.clean_link.proofs.sendings.Order.{flat_map-filter, given_in_order, given_where, moved_up, one_each, IsBound}
-use Rattle.clean_link.specs.TrafficLaws.{IsDecodedAs}
-use Rattle.clean_signal.proofs.noise.Near.{IsSigned, signed_turn, signs_turn}
 use Rattle.clean_signal.proofs.frames.Times.{timed_alone}
 use Rattle.clean_link.proofs.traffic.Steady.{one_now, one_stream, one_stream_is, traffic_file_from, traffic_file_to, traffic_known_is}
 use Rattle.clean_link.proofs.traffic.Steady.{traffic_alone, one_pilot_heard, first_legs, first_pilot, frames_of_one, each_of_all}

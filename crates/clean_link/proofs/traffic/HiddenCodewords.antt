@@ -1,15 +1,15 @@
 -- Two codewords whose kept symbols are the same add up to a codeword whose kept symbols are 0.
 use Rattle.clean_link.proofs.Common.{◌≡◌, ℕ, zero, suc, ◌+◌, ◌-◌, ◌*◌, ◌<◌, Bool, true, false, not, ◌&&◌, ◌||◌, List, [], ◌∷◌, ◌++◌, length}
-use Rattle.clean_link.proofs.Common.{get_or, drop, replicate, refl, sym, ap, ◌∙◌, arith, filter, if◌then◌else◌, list_all, list_any}
-use Rattle.clean_link.proofs.Common.{and_from, and_parts, drop_at, drop-drop, xor, add, length_add, g0, g1, state_after, symbol, before}
-use Rattle.clean_link.proofs.Common.{following, length-state_after, pair, state_after-append, state_after-none, is_hidden, is_kept, is_seen}
-use Rattle.clean_link.proofs.Common.{stays_apart, ◌/◌, ⊎_elim, nat_eq, cases_Bool, eq-eqb, eqb-true, not-true, or_cases, or_left, or_right}
-use Rattle.clean_link.proofs.Common.{list_all_at, list_any-append, places, places-none, places-more, length-places, get_or-places}
-use Rattle.clean_link.proofs.Common.{get_or-sent_by, address, data_shape, place, sent, sent_by, address-place, place_lt, AgreeElsewhere}
-use Rattle.clean_link.proofs.Common.{is_replaced, lost_symbols, map, subst, length-append, code_symbols, symbols_at, quality_indicator}
-use Rattle.clean_link.proofs.Common.{quality_of, traffic_codeword, R9600, R4800, R2400, R1200, codeword_fills, codewords_same}
-use Rattle.clean_link.proofs.Common.{frame_codeword, shows_full_rate, tells_all_bits, full_rate_symbols, FullRateFramesAreDistinct, binary}
-use Rattle.clean_link.proofs.Common.{check_bits, frame_symbols, replaced_places, some_information, AFullRateFrameIsDistinct, ZerosAreShared}
+use Rattle.clean_link.proofs.Common.{get_or, drop, replicate, refl, sym, ap, ◌∙◌, arith, filter, if◌then◌else◌, list_all, list_any, drop_at}
+use Rattle.clean_link.proofs.Common.{and_from, and_parts, drop-drop, xor, add, length_add, g0, g1, state_after, symbol, before, following}
+use Rattle.clean_link.proofs.Common.{length-state_after, pair, state_after-append, state_after-none, is_hidden, is_kept, is_seen, ◌/◌, sent}
+use Rattle.clean_link.proofs.Common.{stays_apart, ⊎_elim, nat_eq, cases_Bool, eq-eqb, eqb-true, not-true, or_cases, or_left, or_right, map}
+use Rattle.clean_link.proofs.Common.{list_all_at, list_any-append, places, places-none, places-more, length-places, get_or-places, address}
+use Rattle.clean_link.proofs.Common.{get_or-sent_by, data_shape, place, sent_by, address-place, place_lt, AgreeElsewhere, is_replaced}
+use Rattle.clean_link.proofs.Common.{lost_symbols, subst, length-append, code_symbols, symbols_at, quality_indicator, quality_of, R9600}
+use Rattle.clean_link.proofs.Common.{traffic_codeword, R4800, R2400, R1200, codeword_fills, codewords_same, frame_codeword, shows_full_rate}
+use Rattle.clean_link.proofs.Common.{tells_all_bits, full_rate_symbols, FullRateFramesAreDistinct, binary, check_bits, frame_symbols}
+use Rattle.clean_link.proofs.Common.{replaced_places, some_information, AFullRateFrameIsDistinct, ZerosAreShared}
 use Rattle.symbol_path.specs.declared.kinds.Kind.TheVariants.{Data}
 use Rattle.conv_code.proofs.Pairs.{AreAt}
 

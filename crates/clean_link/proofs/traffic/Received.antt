@@ -1,28 +1,25 @@
 -- The frames of a traffic channel, as they are received of the reference base station alone.
-use Rattle.clean_link.proofs.Common.{SignedFramesAreReceived, SignedSetTwoFramesComeBack, ◌≡◌, ℕ, ◌+◌, ◌-◌, ◌*◌, ◌%◌, ◌&&◌, Bool, true}
-use Rattle.clean_link.proofs.Common.{List, [], ◌∷◌, length, map, filter, refl, sym, ap, ℤ, frame_ends, ◌∙◌, arith, subst, nat_le, inl, inr}
-use Rattle.clean_link.proofs.Common.{Option, Some, Contains, and_from, cases_Bool, le-leb, places, Sample, filter_ext_places}
-use Rattle.clean_link.proofs.Common.{flat_map_ext_filter_places, Width, traffic_mask, Data, made_samples, IsTrafficFrame, SetTwo, planned}
-use Rattle.clean_link.proofs.Common.{two_in_turn, frames_of, set_two, IsSetTwoFrame, CellPlan, TrafficPlan, SetTwoFrame, traffic_channel}
-use Rattle.clean_link.proofs.Common.{frames_within, soft_frame, soft_frames, raw_at, is_in_file, known_at, known_by, Stream, frames_bound}
-use Rattle.clean_link.proofs.Common.{replaced_in, Tuning, Mark, Traffic, PowerControl, SoftFrame, soft_strength, IsOnPath, IsReceivable}
-use Rattle.clean_link.proofs.Common.{is_received, received_frames, replaced_of, sent_bits, IsAssigned, SendsSetTwo, SendsSymbols, ShowFrame}
-use Rattle.clean_link.proofs.Common.{ShowPowerBits, cycled_frame2, codeword_symbols2, EachFrameIsReceived, FramesAfterMark}
-use Rattle.clean_link.proofs.Common.{FramesShowPowerBits, FramesShowSymbols, SetTwoAfterMark, HearsSentTraffic, SetTwoFramesComeBack}
-use Rattle.clean_link.proofs.Common.{AreReceivedFrom, MarkIsAt, TrafficFrameHasSigns, HavePowerSigns, NoisyFrame, IsReceived, ◌<ℤ◌}
-use Rattle.clean_link.proofs.Common.{correlation, AgreeElsewhere, unreplaced, frame_softs, stream_of, HeardAreTheOnlyBest}
-use Rattle.clean_link.proofs.Common.{ReceivedAreTheOnlyBest, SetTwoAreTheOnlyBest, by_lt_z, KeepSigns, agree_left}
+use Rattle.clean_link.proofs.Common.{SignedFramesAreReceived, SignedSetTwoFramesComeBack, ◌≡◌, ℕ, ◌+◌, ◌-◌, ◌*◌, ◌%◌, ◌&&◌, Bool, true, []}
+use Rattle.clean_link.proofs.Common.{List, ◌∷◌, length, map, filter, refl, sym, ap, ℤ, frame_ends, ◌∙◌, arith, subst, nat_le, inl, inr}
+use Rattle.clean_link.proofs.Common.{Option, Some, Contains, and_from, cases_Bool, le-leb, places, Sample, filter_ext_places, Width, Data}
+use Rattle.clean_link.proofs.Common.{flat_map_ext_filter_places, traffic_mask, made_samples, IsTrafficFrame, SetTwo, planned, two_in_turn}
+use Rattle.clean_link.proofs.Common.{frames_of, set_two, IsSetTwoFrame, CellPlan, TrafficPlan, SetTwoFrame, traffic_channel, frames_within}
+use Rattle.clean_link.proofs.Common.{soft_frame, soft_frames, raw_at, is_in_file, known_at, known_by, Stream, frames_bound, replaced_in}
+use Rattle.clean_link.proofs.Common.{Tuning, Mark, Traffic, PowerControl, SoftFrame, soft_strength, IsOnPath, IsReceivable, is_received}
+use Rattle.clean_link.proofs.Common.{received_frames, replaced_of, sent_bits, IsAssigned, SendsSetTwo, SendsSymbols, ShowFrame, MarkIsAt}
+use Rattle.clean_link.proofs.Common.{ShowPowerBits, cycled_frame2, codeword_symbols2, EachFrameIsReceived, FramesAfterMark, SetTwoAfterMark}
+use Rattle.clean_link.proofs.Common.{FramesShowPowerBits, FramesShowSymbols, HearsSentTraffic, SetTwoFramesComeBack, AreReceivedFrom, ◌<ℤ◌}
+use Rattle.clean_link.proofs.Common.{TrafficFrameHasSigns, HavePowerSigns, NoisyFrame, IsReceived, correlation, AgreeElsewhere, unreplaced}
+use Rattle.clean_link.proofs.Common.{frame_softs, stream_of, HeardAreTheOnlyBest, ReceivedAreTheOnlyBest, SetTwoAreTheOnlyBest, by_lt_z}
+use Rattle.clean_link.proofs.Common.{KeepSigns, agree_left, sent_frame_state, IsOnlyBestIn, IsUnsharedIn, sent_codeword}
 use Rattle.clean_link.proofs.traffic.Signs.{clean_sent, traffic_shows, heard_power_bits, power_pairs, frame_powered, frame_shown}
 use Rattle.clean_link.proofs.traffic.Signs.{lawful_traffic, signed_powered, signed_shown, set_two_sends}
-use Rattle.cell_plan.specs.TrafficFrames.{sent_frame_state}
 use Rattle.clean_link.proofs.traffic.Frames.{by_marks_frames, inside_at, known_is, one_taken, one_there, same_places, sized}
 use Rattle.clean_link.proofs.sendings.Order.{one_each}
 use Rattle.clean_link.proofs.traffic.Steady.{one_stream, traffic_file_to, traffic_known_is}
-use Rattle.clean_link.specs.TrafficLaws.{IsOnlyBestIn}
 use Rattle.frame_decoder.proofs.FormatCodewords.{length-symbols_in}
 use Rattle.frame_decoder.proofs.SentFormats.{codeword_allowed}
 use Rattle.frame_decoder.specs.Formats.{format_of, symbols_in}
-use Rattle.frame_decoder.specs.Laws.{IsUnsharedIn, sent_codeword}
 use Rattle.quality_bits.specs.declared.format.FrameFormat.{FrameFormat}
 use Rattle.rate_set_two.proofs.SentFrames as second_back
 use Rattle.heard_events.specs.TrafficStreams as heard

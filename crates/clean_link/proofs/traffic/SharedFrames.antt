@@ -1,14 +1,13 @@
 -- Frames of both rate sets are distinct where no other codeword shares their symbols.
 use Rattle.clean_link.proofs.Common.{◌≡◌, ℕ, ◌+◌, ◌-◌, ◌*◌, ◌/◌, ◌<◌, ◌≤◌, ◌⊎◌, Bool, true, false, not, List, [], ◌∷◌, ◌++◌, length, get_or}
-use Rattle.clean_link.proofs.Common.{drop, replicate, refl, sym, ap, ◌∙◌, arith, subst, inl, inr, ◌≢◌, list_any, and_parts, not-true}
-use Rattle.clean_link.proofs.Common.{drop_at, drop-drop, code_symbols, state_after, repeats_of, traffic_codeword, Rate, R9600, R4800, R2400}
+use Rattle.clean_link.proofs.Common.{drop, replicate, refl, sym, ap, ◌∙◌, arith, subst, inl, inr, ◌≢◌, list_any, and_parts, not-true, Rate}
+use Rattle.clean_link.proofs.Common.{drop_at, drop-drop, code_symbols, state_after, repeats_of, traffic_codeword, R9600, R4800, R2400, Zero}
 use Rattle.clean_link.proofs.Common.{R1200, address, data_shape, sent_by, codeword_bits, is_dropped, repeated_symbol, Rate2, R14400, R7200}
-use Rattle.clean_link.proofs.Common.{R3600, R1800, kept_once, IsAllowed, Codeword, Zero, codewords_same, frame_codeword, AgreeElsewhere}
-use Rattle.clean_link.proofs.Common.{frame_bits, is_kept, lost_symbols, is_known2, lost_symbols2, symbols_known_of, codewords_giving}
-use Rattle.clean_link.proofs.Common.{AreDistinctBySharing, AreDistinctBySharing2, bits_least, zero, suc, ◌&&◌, ◌||◌, map, filter}
-use Rattle.clean_link.proofs.Common.{if◌then◌else◌, flat_map, list_all, range_with_len, booleans_Decides, pointwise, pointwise_decides, beq}
-use Rattle.clean_link.proofs.Common.{and_from, list_all-append, list_all-map, g0, g1, symbol, state_after-append, state_after-none}
-use Rattle.clean_link.proofs.Common.{symbols_at, gives}
+use Rattle.clean_link.proofs.Common.{R3600, R1800, kept_once, IsAllowed, Codeword, codewords_same, frame_codeword, AgreeElsewhere, is_kept}
+use Rattle.clean_link.proofs.Common.{frame_bits, lost_symbols, is_known2, lost_symbols2, symbols_known_of, codewords_giving, bits_least, g0}
+use Rattle.clean_link.proofs.Common.{AreDistinctBySharing, AreDistinctBySharing2, zero, suc, ◌&&◌, ◌||◌, map, filter, if◌then◌else◌, beq}
+use Rattle.clean_link.proofs.Common.{flat_map, list_all, range_with_len, booleans_Decides, pointwise, pointwise_decides, and_from, g1}
+use Rattle.clean_link.proofs.Common.{list_all-append, list_all-map, symbol, state_after-append, state_after-none, symbols_at, gives}
 use Rattle.clean_link.proofs.traffic.HiddenCodewords.{HoldOfPairs, IsThere, kept_there, known_agree, symbol_there, all_kept, either_bit}
 use Rattle.clean_link.proofs.traffic.HiddenCodewords.{left_over, next_long, pair_here, pairs_next}
 use Rattle.symbol_path.specs.RatesTwo as rates_two

@@ -2,26 +2,24 @@
 use Rattle.clean_link.proofs.Common.{IsReceivable, TrafficShowsSigns, ◌≡◌, ℕ, zero, suc, ◌+◌, ◌*◌, Bool, true, false, List, [], ◌∷◌, length}
 use Rattle.clean_link.proofs.Common.{refl, sym, ap, ◌∙◌, arith, subst, ℤ, replicate, ◌*ℤ◌, Contains, flat_map, append-nil, All-contains}
 use Rattle.clean_link.proofs.Common.{sign, xor, zip_with, Width, after, traffic_mask, code_symbols, scrambling, with_power_bits, data_shape}
-use Rattle.clean_link.proofs.Common.{repeats_of, traffic_codeword, length-sent, softs, Finger, Data, length-sent2, IsLawfulPlan}
-use Rattle.clean_link.proofs.Common.{IsTrafficPlan, made_samples, frames_of, traffic_carrier, CellPlan, TrafficPlan, TrafficFrame, SetOne}
-use Rattle.clean_link.proofs.Common.{SetTwo, SetOneFrame, planned, one_in_turn, two_in_turn, descrambled, frame_softs, frame_start}
-use Rattle.clean_link.proofs.Common.{is_in_file, Stream, raw_softs, frame_state, replaced_in, stream_of, traffic_start, traffic_stream}
-use Rattle.clean_link.proofs.Common.{Tuning, fingers_of, Leg, Mark, Traffic, IsTrueMark, soft_strength, codeword_symbols, IsAssigned}
-use Rattle.clean_link.proofs.Common.{SendsSymbols, ShowPowerBits, ShowFrame, IsFrameOf, path_finger, SetOneSends, SetTwoSends}
-use Rattle.clean_link.proofs.Common.{HearsSentTraffic, IsHeardAs, TrafficHaveSentSigns, ◌<◌, AllZip, AreKept, HasSign, Sample, AllZip-long}
-use Rattle.clean_link.proofs.Common.{ArePowered, HavePowerSigns, NoisyFrame, ◌/◌, get_or, nat_eq, pos, list_any, eq-eqb, get_or-map-places}
-use Rattle.clean_link.proofs.Common.{length-map-places, power_places, symbol_or_power_bit, is_replaced, unscrambled, zipped_at, not, map}
-use Rattle.clean_link.proofs.Common.{◌+ℤ◌, ◌&&◌, int_lt, range_with_len, ints, list_any_at, places, map-places-all, power_place}
-use Rattle.clean_link.proofs.Common.{power_place_in_groups, pairs_below, pairs_in_groups, pairs_neighbours, ArePairs, power_bit, group_sum}
-use Rattle.clean_link.proofs.Common.{group_sums, map_ext_places, power_bits_at, sent_bits, TrafficFrameHasSigns, sent_power_bits}
-use Rattle.clean_link.proofs.Common.{PowerBitsComeBack, SixteenPowerBitsAreSent, le_false, lt_true}
+use Rattle.clean_link.proofs.Common.{repeats_of, traffic_codeword, length-sent, softs, Finger, Data, length-sent2, IsLawfulPlan, frames_of}
+use Rattle.clean_link.proofs.Common.{IsTrafficPlan, made_samples, traffic_carrier, CellPlan, TrafficPlan, TrafficFrame, SetOne, SetTwo, Leg}
+use Rattle.clean_link.proofs.Common.{SetOneFrame, planned, one_in_turn, two_in_turn, descrambled, frame_softs, frame_start, is_in_file, ◌<◌}
+use Rattle.clean_link.proofs.Common.{Stream, raw_softs, frame_state, replaced_in, stream_of, traffic_start, traffic_stream, Tuning, Mark}
+use Rattle.clean_link.proofs.Common.{fingers_of, Traffic, IsTrueMark, soft_strength, codeword_symbols, IsAssigned, SendsSymbols, ShowFrame}
+use Rattle.clean_link.proofs.Common.{ShowPowerBits, IsFrameOf, path_finger, SetOneSends, SetTwoSends, HearsSentTraffic, IsHeardAs, AllZip}
+use Rattle.clean_link.proofs.Common.{TrafficHaveSentSigns, AreKept, HasSign, Sample, AllZip-long, ArePowered, HavePowerSigns, NoisyFrame}
+use Rattle.clean_link.proofs.Common.{◌/◌, get_or, nat_eq, pos, list_any, eq-eqb, get_or-map-places, length-map-places, power_places, not}
+use Rattle.clean_link.proofs.Common.{symbol_or_power_bit, is_replaced, unscrambled, zipped_at, map, ◌+ℤ◌, ◌&&◌, int_lt, range_with_len}
+use Rattle.clean_link.proofs.Common.{ints, list_any_at, places, map-places-all, power_place, power_place_in_groups, pairs_below, ArePairs}
+use Rattle.clean_link.proofs.Common.{pairs_in_groups, pairs_neighbours, power_bit, group_sum, group_sums, map_ext_places, power_bits_at}
+use Rattle.clean_link.proofs.Common.{sent_bits, TrafficFrameHasSigns, sent_power_bits, PowerBitsComeBack, SixteenPowerBitsAreSent, le_false}
+use Rattle.clean_link.proofs.Common.{lt_true, clean_relates, none_borne, near-self, FrameRelates, IsSigned, Turns, signed_turn, signs_turn}
 use Rattle.chip_core.proofs.Finds.{nat_eq-flipped}
 use Rattle.clean_signal.proofs.signal.CarriersApart.{traffic_sent}
 use Rattle.clean_signal.proofs.frames.ChannelSigns.{strength_some}
 use Rattle.clean_link.proofs.frames.ChannelFrames.{length-scrambling, fingers_are, near_frame}
-use Rattle.clean_signal.proofs.signal.Frames.{clean_relates}
 use Rattle.clean_link.proofs.traffic.Steady.{one_fingers, one_stream, one_stream_is, traffic_file_to, one_sums}
-use Rattle.clean_signal.proofs.noise.Near.{none_borne, near-self, FrameRelates, IsSigned, Turns, signed_turn, signs_turn}
 use Rattle.symbol_path.specs.FramesTwo as second
 use Rattle.cell_plan.specs.PageCycles as cycles
 use Rattle.cell_plan.specs.TrafficFrames as sends

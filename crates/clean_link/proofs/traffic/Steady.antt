@@ -1,24 +1,23 @@
 -- Where no message directs a handoff, the reference's pilot stays the only active one.
 use Rattle.clean_link.proofs.Common.{◌≡◌, ℕ, zero, suc, ◌+◌, ◌<◌, ◌≤◌, ◌==◌, Bool, true, false, List, [], ◌∷◌, ◌++◌, map, take, refl, sym}
-use Rattle.clean_link.proofs.Common.{ap, ◌∙◌, arith, subst, inl, inr, Option, None, Some, get_or, pos, if◌then◌else◌, All, flat_map}
-use Rattle.clean_link.proofs.Common.{range_with_len, cases_lt, eq-eqb, take-take, All-append, All-cons, All-head, All-map, All-nil}
-use Rattle.clean_link.proofs.Common.{All-same, All-tail, places, Sample, PagingMessage, TrafficBody, active_timed, energy_in, Standing}
-use Rattle.clean_link.proofs.Common.{due_at, due_for, new_standing, shown, shown_active, with_neighbors, with_thresholds, Active, Accepted}
-use Rattle.clean_link.proofs.Common.{ActivePilot, Strength, legs_of, leg_of, pilot_finger, heard_from, kept_to, legs_at, legs_by}
-use Rattle.clean_link.proofs.Common.{messages_at, moment_of, moment_place, moments_before, passed, told_by, all_noted, body_noted, noted}
-use Rattle.clean_link.proofs.Common.{noted_with, page_noted, system_thresholds, page_event, pages_if_marked, messages_by, frame_heard}
-use Rattle.clean_link.proofs.Common.{frames_by, frames_now, Tuning, Event, Leg, Mark, Traffic, kept_new, kept_old, IsNoDirection}
-use Rattle.clean_link.proofs.Common.{IsNotDirected, IsOnePilot, OnePilotIsHeard, length, drop, length-take-le, take-append-drop, events}
-use Rattle.clean_link.proofs.Common.{events_at, heard_within, message_events_at, frame_events_at, paging_events_at, sets_events_at, mark}
-use Rattle.clean_link.proofs.Common.{frames_at, AreNear, sync_events_at, if_followed, sync_stream, Pilot, frames_sooner, by_one_mark}
-use Rattle.clean_link.proofs.Common.{messages_sooner, IsUndirected, append_assoc, append-nil, sets_at, frames_later, messages_later}
-use Rattle.clean_link.proofs.Common.{opens_followed, OpensAfter, told_after, option_map, ◌&&◌, ℤ, option_to_list, power_bit, decoded}
-use Rattle.clean_link.proofs.Common.{group_sums, Decoded, softs, Finger, Data, AreClose, all_fingers, subchannels, capsule_with}
-use Rattle.clean_link.proofs.Common.{signaling_message_at, message_events, message_heard, signal_at, signal_in, signal_of, signals_before}
-use Rattle.clean_link.proofs.Common.{frame_softs, is_in_file, known_at, known_now, Stream, all_sums, power_bits_at, decoded_at, frame_event}
-use Rattle.clean_link.proofs.Common.{subchannel_sums, raw_by, raw_softs, ends_now, frames_bound, has_frame, replaced_in, stream_of}
-use Rattle.clean_link.proofs.Common.{traffic_start, traffic_stream, fingers_of, AreCloseAll, map_same, pilot_alone, filter_ext_places}
-use Rattle.clean_link.proofs.Common.{flat_map_ext_filter, flat_map_ext_filter_places, ◌*◌, ◌+ℤ◌, modulo_code}
+use Rattle.clean_link.proofs.Common.{ap, ◌∙◌, arith, subst, inl, inr, Option, None, Some, get_or, pos, if◌then◌else◌, All, flat_map, eq-eqb}
+use Rattle.clean_link.proofs.Common.{range_with_len, cases_lt, take-take, All-append, All-cons, All-head, All-map, All-nil, All-same, shown}
+use Rattle.clean_link.proofs.Common.{All-tail, places, Sample, PagingMessage, TrafficBody, active_timed, energy_in, Standing, due_at, noted}
+use Rattle.clean_link.proofs.Common.{due_for, new_standing, shown_active, with_neighbors, with_thresholds, Active, Accepted, ActivePilot, ℤ}
+use Rattle.clean_link.proofs.Common.{Strength, legs_of, leg_of, pilot_finger, heard_from, kept_to, legs_at, legs_by, messages_at, moment_of}
+use Rattle.clean_link.proofs.Common.{moment_place, moments_before, passed, told_by, all_noted, body_noted, noted_with, page_noted, Tuning}
+use Rattle.clean_link.proofs.Common.{system_thresholds, page_event, pages_if_marked, messages_by, frame_heard, frames_by, frames_now, Event}
+use Rattle.clean_link.proofs.Common.{Leg, Mark, Traffic, kept_new, kept_old, IsNoDirection, IsNotDirected, IsOnePilot, OnePilotIsHeard, ◌*◌}
+use Rattle.clean_link.proofs.Common.{length, drop, length-take-le, take-append-drop, events, events_at, heard_within, message_events_at}
+use Rattle.clean_link.proofs.Common.{frame_events_at, paging_events_at, sets_events_at, mark, frames_at, AreNear, sync_events_at, Pilot}
+use Rattle.clean_link.proofs.Common.{if_followed, sync_stream, frames_sooner, by_one_mark, messages_sooner, IsUndirected, append_assoc}
+use Rattle.clean_link.proofs.Common.{append-nil, sets_at, frames_later, messages_later, opens_followed, OpensAfter, told_after, option_map}
+use Rattle.clean_link.proofs.Common.{◌&&◌, option_to_list, power_bit, decoded, group_sums, Decoded, softs, Finger, Data, AreClose, known_at}
+use Rattle.clean_link.proofs.Common.{all_fingers, subchannels, capsule_with, signaling_message_at, message_events, message_heard, signal_at}
+use Rattle.clean_link.proofs.Common.{signal_in, signal_of, signals_before, frame_softs, is_in_file, known_now, Stream, all_sums, decoded_at}
+use Rattle.clean_link.proofs.Common.{power_bits_at, frame_event, subchannel_sums, raw_by, raw_softs, ends_now, frames_bound, has_frame}
+use Rattle.clean_link.proofs.Common.{replaced_in, stream_of, traffic_start, traffic_stream, fingers_of, AreCloseAll, map_same, pilot_alone}
+use Rattle.clean_link.proofs.Common.{filter_ext_places, flat_map_ext_filter, flat_map_ext_filter_places, ◌+ℤ◌, modulo_code}
 use Rattle.pilot_sets.specs.Standing.{stepped}
 use Rattle.clean_link.proofs.frames.Times.{one_path, known_at_once}
 use Rattle.clean_signal.proofs.frames.Times.{IsAlone, inside_alone, room_alone}

@@ -2,8 +2,8 @@
 use Rattle.clean_signal.proofs.Common.{ℕ, ◌+◌, ◌<◌, List, [], ◌∷◌, refl, ◌∙◌, arith, made_samples, CellPlan, softs, Sync, soft_strength}
 use Rattle.clean_signal.proofs.Common.{AreReadBy, IsHeardBy, path_finger, IsReceivable, Sample, Width, Bears, IsNear, ◌*◌, Bool, Contains}
 use Rattle.clean_signal.proofs.Common.{All-contains, Data, mul-pos, lt-ltb, norm, symbol_chips, window_chips, Form, Carrier, carriers}
-use Rattle.clean_signal.proofs.Common.{IsAligned, frame_softs, NoisyChannelsHaveSentSigns, NoisyCodewordsAreTheOnlyBest}
-use Rattle.clean_signal.proofs.Common.{NoisyStreamsShowSymbols, StreamOf, Channel}
+use Rattle.clean_signal.proofs.Common.{IsAligned, frame_softs, NoisyChannelsHaveSentSigns, NoisyCodewordsAreTheOnlyBest, StreamOf, Channel}
+use Rattle.clean_signal.proofs.Common.{NoisyStreamsShowSymbols}
 use Rattle.clean_signal.proofs.signal.CarriersApart.{plan_apart}
 use Rattle.clean_signal.proofs.noise.Near.{none_borne, near-self, IsSigned, signed_is, signed_turn}
 use Rattle.clean_signal.proofs.frames.Heard.{IsShown, shown_alone, heard_shown, order_of, stream_related}

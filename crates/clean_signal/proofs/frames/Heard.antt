@@ -1,13 +1,13 @@
 -- The frames that a channel sends come back from any stream that hears and reads it, and zeros
 -- where nothing is sent.
-use Rattle.clean_signal.proofs.Common.{AllZip, HasSign, HaveSigns, path_finger, ◌≡◌, ℕ, zero, suc, ◌+◌, ◌-◌, ◌*◌, ◌<◌, ◌≤◌, Bool, true}
-use Rattle.clean_signal.proofs.Common.{false, List, [], ◌∷◌, ◌++◌, length, replicate, refl, sym, ap, subst, ◌∙◌, ⊎_elim, arith, ℤ, pos}
-use Rattle.clean_signal.proofs.Common.{flat_map, mul-le-mul_left, replicate-append-replicate, places, xor, zip_with, Sample, frame_chips}
-use Rattle.clean_signal.proofs.Common.{softs, symbols, Finger, Form, Sync, Data, sent, length-sent, IsAllowed, Codeword, Free, own_bits}
-use Rattle.clean_signal.proofs.Common.{flat_map-next, length-frames, CellPlan, continued_symbols, Carrier, phase_at, Scrambles, frame_softs}
+use Rattle.clean_signal.proofs.Common.{AllZip, HasSign, HaveSigns, path_finger, ◌≡◌, ℕ, zero, suc, ◌+◌, ◌-◌, ◌*◌, ◌<◌, ◌≤◌, Bool, true, []}
+use Rattle.clean_signal.proofs.Common.{false, List, ◌∷◌, ◌++◌, length, replicate, refl, sym, ap, subst, ◌∙◌, ⊎_elim, arith, ℤ, pos, places}
+use Rattle.clean_signal.proofs.Common.{flat_map, mul-le-mul_left, replicate-append-replicate, xor, zip_with, Sample, frame_chips, softs}
+use Rattle.clean_signal.proofs.Common.{symbols, Finger, Form, Sync, Data, sent, length-sent, IsAllowed, Codeword, Free, own_bits, CellPlan}
+use Rattle.clean_signal.proofs.Common.{flat_map-next, length-frames, continued_symbols, Carrier, phase_at, Scrambles, frame_softs, cases_eq}
 use Rattle.clean_signal.proofs.Common.{frame_start, is_in_file, span_first, span_frames, flat_map_ext_places, AreReadBy, IsOnlyBest}
 use Rattle.clean_signal.proofs.Common.{IsWholeChannel, scrambled_with, span_frame_softs, span_codeword, IsFrameOf, IsHeardBy, if◌then◌else◌}
-use Rattle.clean_signal.proofs.Common.{cases_eq, StreamOf, Channel, flat_map-zero, cases_lt}
+use Rattle.clean_signal.proofs.Common.{StreamOf, Channel, flat_map-zero, cases_lt}
 use Rattle.clean_signal.proofs.frames.Scores.{ShowCodeword, shown_codeword_alone, shown_codeword_own, silent_own, frame_at, length-before}
 use Rattle.clean_signal.proofs.frames.Scores.{sent_as_one}
 use Rattle.clean_signal.proofs.noise.Near.{FrameRelates, Turns, signs_turn, unscrambled_related, zipped_frames}

@@ -4,14 +4,14 @@ use Rattle.clean_signal.proofs.Common.{List, ◌++◌, length, get_or, take, dro
 use Rattle.clean_signal.proofs.Common.{pos, flat_map, mul-le-mul_right, div-eq_of_eq-mul_left, by_lt_z, ints, ext_get_or, length-replicate}
 use Rattle.clean_signal.proofs.Common.{length-take-le, drop-replicate, take-replicate, take_all, places, code_symbols, length-code_symbols}
 use Rattle.clean_signal.proofs.Common.{distinct, Shape, place, sent, shape_of, size, repeats_of, Kind, Rate, R9600, R4800, R2400, R1200}
-use Rattle.clean_signal.proofs.Common.{FrameKind, Paging, length-sent, get_or-sent, repeats_some, size_some, place_lt, address-place}
-use Rattle.clean_signal.proofs.Common.{IsAllowed, IsBestCodeword, Codeword, best_codeword, score_of, Free, codewords_same}
-use Rattle.clean_signal.proofs.Common.{zero_codeword_best, by_definition, Channel, channel_for, gathered_span, own_bits, score, sending}
-use Rattle.clean_signal.proofs.Common.{sent_symbols, best_codeword-same, own_is, length-gathered_span, within, flat_map-zero, flat_map-next}
-use Rattle.clean_signal.proofs.Common.{length-frames, take-frames, score_is, flat_map_ext_places, IsWholeChannel, length-drop, AllZip-long}
-use Rattle.clean_signal.proofs.Common.{signs_agree_alone, inr, cases_lt, drop_at, drop-append-le, take-append-le, state_after, continued}
-use Rattle.clean_signal.proofs.Common.{code_symbols-none, length-state_after, state_after-none, state_after-append, bits_before}
-use Rattle.clean_signal.proofs.Common.{continued_symbols, last_eight, span_codeword, continued_is}
+use Rattle.clean_signal.proofs.Common.{FrameKind, Paging, length-sent, get_or-sent, repeats_some, size_some, place_lt, address-place, Free}
+use Rattle.clean_signal.proofs.Common.{IsAllowed, IsBestCodeword, Codeword, best_codeword, score_of, codewords_same, zero_codeword_best}
+use Rattle.clean_signal.proofs.Common.{by_definition, Channel, channel_for, gathered_span, own_bits, score, sending, sent_symbols, own_is}
+use Rattle.clean_signal.proofs.Common.{best_codeword-same, length-gathered_span, within, flat_map-zero, flat_map-next, length-frames, inr}
+use Rattle.clean_signal.proofs.Common.{take-frames, score_is, flat_map_ext_places, IsWholeChannel, length-drop, AllZip-long, cases_lt}
+use Rattle.clean_signal.proofs.Common.{signs_agree_alone, drop_at, drop-append-le, take-append-le, state_after, continued, state_after-none}
+use Rattle.clean_signal.proofs.Common.{code_symbols-none, length-state_after, state_after-append, bits_before, continued_symbols}
+use Rattle.clean_signal.proofs.Common.{last_eight, span_codeword, continued_is}
 use Rattle.frame_decoder.specs.declared.span_format.FrameKind.TheVariants.{Sync}
 use Rattle.symbol_path.specs.declared.kinds.Kind as kinds
 

@@ -1,6 +1,6 @@
 -- Where the frames of a stream end and lie, where it has one finger, on the reference path.
-use Rattle.clean_signal.proofs.Common.{◌≡◌, ℕ, ◌+◌, ◌≤◌, ◌&&◌, true, [], ◌∷◌, refl, sym, ap, ◌∙◌, arith, subst, max, nat_le, pos}
-use Rattle.clean_signal.proofs.Common.{unsigned_abs, ◌+ℤ◌, ◌-ℤ◌, int_le, List, le-leb, leb-true, ints, frame_chips, Finger, Form, frame_end}
+use Rattle.clean_signal.proofs.Common.{◌≡◌, ℕ, ◌+◌, ◌≤◌, ◌&&◌, true, [], ◌∷◌, refl, sym, ap, ◌∙◌, arith, subst, max, nat_le, pos, ◌+ℤ◌}
+use Rattle.clean_signal.proofs.Common.{unsigned_abs, ◌-ℤ◌, int_le, List, le-leb, leb-true, ints, frame_chips, Finger, Form, frame_end}
 use Rattle.clean_signal.proofs.Common.{frame_start, is_in_file, is_within, IsTimed, timed_in, reference_finger, StreamOf, Channel}
 use Rattle.rake_finger.specs.Near as near
 

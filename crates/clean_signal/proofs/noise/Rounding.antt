@@ -1,10 +1,10 @@
 -- Another cell, a second path, and samples that are divided and rounded, as bounded noise.
 use Rattle.clean_signal.proofs.Common.{◌≡◌, ℕ, ◌+◌, ◌*◌, ◌<◌, ◌≤◌, List, [], ◌∷◌, map, refl, ap, ◌∙◌, arith, ℤ, pos, unsigned_abs, ◌+ℤ◌}
-use Rattle.clean_signal.proofs.Common.{◌-ℤ◌, ◌*ℤ◌, neg_ℤ, ints, times, Pair, Sample, distrib, mul_assoc_ℤ, times_neg, places, CellPlan}
-use Rattle.clean_signal.proofs.Common.{made_samples, samples_of, carriers, sample_with, scaled, sample_of, unsigned_abs-mul}
-use Rattle.clean_signal.proofs.Common.{lt_of_mul-lt-mul_left, IsNear, AreRounded, IsRounded, louder, louder_sample, over_link, suc, length}
-use Rattle.clean_signal.proofs.Common.{get_or, Bool, true, false, subst, sym, ◌-◌, ◌%◌, sign, point, of_sample, amplitudes, loudness}
-use Rattle.clean_signal.proofs.Common.{no_sample, pilot_chip, signal_of_carriers, chip_most, IsCloseSample, with_added, OtherCellsAreNoise}
+use Rattle.clean_signal.proofs.Common.{◌-ℤ◌, ◌*ℤ◌, neg_ℤ, ints, times, Pair, Sample, distrib, mul_assoc_ℤ, times_neg, places, CellPlan, suc}
+use Rattle.clean_signal.proofs.Common.{made_samples, samples_of, carriers, sample_with, scaled, sample_of, unsigned_abs-mul, IsNear, louder}
+use Rattle.clean_signal.proofs.Common.{lt_of_mul-lt-mul_left, AreRounded, IsRounded, louder_sample, over_link, length, get_or, Bool, true}
+use Rattle.clean_signal.proofs.Common.{false, subst, sym, ◌-◌, ◌%◌, sign, point, of_sample, amplitudes, loudness, no_sample, pilot_chip}
+use Rattle.clean_signal.proofs.Common.{signal_of_carriers, chip_most, IsCloseSample, with_added, OtherCellsAreNoise}
 use Rattle.clean_signal.proofs.noise.Near.{near-self}
 use Rattle.clean_signal.proofs.signal.Samples.{length-made, made_at}
 use Rattle.clean_signal.specs.NearFiles as laws

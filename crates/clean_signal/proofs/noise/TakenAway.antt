@@ -3,19 +3,17 @@ use Rattle.clean_signal.proofs.Common.{◌≡◌, ◌≢◌, ℕ, zero, suc, ◌
 use Rattle.clean_signal.proofs.Common.{refl, sym, ap, ◌∙◌, arith, ints, ⊎_elim, ℤ, pos, unsigned_abs, ◌+ℤ◌, ◌-ℤ◌, ◌*ℤ◌, ◌<ℤ◌, All, All-cons}
 use Rattle.clean_signal.proofs.Common.{All-nil, Contains, get_or, of_sample, map, replicate, sign, times, point, Pair, Sample, sum_below}
 use Rattle.clean_signal.proofs.Common.{sum_same, distrib_right, unsigned_abs-mul, mul-le-mul_right, cases_lt, subst, no_sample, sample_with}
-use Rattle.clean_signal.proofs.Common.{pilot_chip, scaled, places, CellPlan, Carrier, amplitude, amplitudes, carriers, sample_of}
-use Rattle.clean_signal.proofs.Common.{samples_of, made_samples, signal_of_carriers, walsh, Form, Sync, Data, soft, soft_is, symbol_chips}
-use Rattle.clean_signal.proofs.Common.{window_chips, symbols, pilot_sum, turned_part, turned_part-is, get_or-map-places, length-map-places}
-use Rattle.clean_signal.proofs.Common.{IsNear, IsCloseSample, HaveSigns, IsFrameOf, IsAligned, level_at, path_finger, IsReceivable, Width}
-use Rattle.clean_signal.proofs.Common.{neg_ℤ}
+use Rattle.clean_signal.proofs.Common.{pilot_chip, scaled, places, CellPlan, Carrier, amplitude, amplitudes, carriers, sample_of, walsh}
+use Rattle.clean_signal.proofs.Common.{samples_of, made_samples, signal_of_carriers, Form, Sync, Data, soft, soft_is, symbol_chips, symbols}
+use Rattle.clean_signal.proofs.Common.{window_chips, pilot_sum, turned_part, turned_part-is, get_or-map-places, length-map-places, IsNear}
+use Rattle.clean_signal.proofs.Common.{IsCloseSample, HaveSigns, IsFrameOf, IsAligned, level_at, path_finger, IsReceivable, Width, neg_ℤ}
+use Rattle.clean_signal.proofs.Common.{symbol_inside, sum_turned}
 use Rattle.cell_plan.proofs.Amplitudes.{amplitude_most}
-use Rattle.rake_finger.proofs.Sooner.{symbol_inside}
 use Rattle.clean_signal.proofs.frames.ChannelSigns.{noisy_signs}
 use Rattle.clean_signal.proofs.noise.Axes.{below_amplitude, times_none}
 use Rattle.clean_signal.proofs.noise.Near.{near-near, near-self}
 use Rattle.clean_signal.proofs.signal.CarriersApart.{plan_apart}
 use Rattle.clean_signal.proofs.signal.Frames.{Finds, block_begins, channel_level, first_block, own, row_total, softs_none, symbol_blocks}
-use Rattle.chip_core.proofs.IndexSums.{sum_turned}
 use Rattle.clean_signal.proofs.signal.Rows.{chips_sum, level_at-alone, sum_plus}
 use Rattle.clean_signal.proofs.signal.Samples.{AreSentAs}
 use Rattle.clean_signal.specs.BoundedNoise.{channel_loudness, sample_without}

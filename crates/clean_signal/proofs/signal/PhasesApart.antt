@@ -3,8 +3,7 @@
 use Rattle.clean_signal.proofs.Common.{◌≡◌, ◌≢◌, ℕ, zero, suc, ◌+◌, ◌*◌, ◌<◌, ◌≤◌, ◌%◌, Bool, true, false, List, [], ◌∷◌, length, refl, sym}
 use Rattle.clean_signal.proofs.Common.{ap, subst, ◌∙◌, arith, ints, ℤ, pos, negsuc, unsigned_abs, ◌+ℤ◌, ◌*ℤ◌, Pair, Sample, times, plus}
 use Rattle.clean_signal.proofs.Common.{conjugate, of_sample, scaled, sum_of, despread, code_point, pilot_chip, distrib_right, same_parts}
-use Rattle.clean_signal.proofs.Common.{⊎_elim, ◌⊎◌, inl, inr, cases_lt, sum_below, sum_append, sum_same}
-use Rattle.chip_core.proofs.IndexSums.{sum_front}
+use Rattle.clean_signal.proofs.Common.{⊎_elim, ◌⊎◌, inl, inr, cases_lt, sum_below, sum_append, sum_same, sum_front}
 use Rattle.chip_core.proofs.Magnitudes.{abs_sum}
 use Rattle.short_code.proofs.CodeWindows.{odd_of, odd_step, one_phase, true_false, way_of, way_step}
 use Rattle.clean_signal.proofs.signal.OwnPhase.{AreSpread, amount_to, scaled_size, spread_first, spread_rest, times_plus, turn}

@@ -1,11 +1,10 @@
 -- What a Walsh row finds of channels that are sent together.
-use Rattle.clean_signal.proofs.Common.{◌≡◌, ℕ, zero, suc, ◌+◌, ◌-◌, ◌*◌, ◌/◌, ◌%◌, ◌<◌, ◌≤◌, Bool, true, false, List, [], ◌∷◌, All, refl}
-use Rattle.clean_signal.proofs.Common.{sym, ap, ◌∙◌, arith, ⊎_elim, ℤ, pos, ◌+ℤ◌, ◌*ℤ◌, ◌==◌, if◌then◌else◌, div-div-eq-div-mul}
-use Rattle.clean_signal.proofs.Common.{mod-eq-sub-mul-div, cases_lt, lt-ltb, le-ltb, ints, All-head, All-tail, sign, sum_below, sum_same}
-use Rattle.clean_signal.proofs.Common.{sum_append, sum_none, distrib, mul_assoc_ℤ, split, diff-times, diff-same, walsh, row_sum, orthogonal}
-use Rattle.clean_signal.proofs.Common.{Carrier, amplitude, amplitudes, level, level_of, symbol_at, IsAligned, level_at, row_level, ◌≢◌}
-use Rattle.clean_signal.proofs.Common.{length, get_or, subst, Some, Contains, +ℤ_idl, +ℤ_idr, ne_eqb, eq-eqb, All-get_or, div-mul-add}
-use Rattle.clean_signal.proofs.Common.{mod-mul-add, HaveOwnRows}
+use Rattle.clean_signal.proofs.Common.{div-div-eq-div-mul, mod-eq-sub-mul-div, if◌then◌else◌, mul_assoc_ℤ, div-mul-add, mod-mul-add, ⊎_elim}
+use Rattle.clean_signal.proofs.Common.{HaveOwnRows, sum_append, diff-times, orthogonal, amplitudes, All-get_or, sum_below, diff-same, false}
+use Rattle.clean_signal.proofs.Common.{amplitude, symbol_at, IsAligned, row_level, cases_lt, All-head, All-tail, sum_same, sum_none, lt-ltb}
+use Rattle.clean_signal.proofs.Common.{level_of, level_at, Contains, distrib, row_sum, Carrier, le-ltb, length, get_or, +ℤ_idl, +ℤ_idr, ◌≡◌}
+use Rattle.clean_signal.proofs.Common.{ne_eqb, eq-eqb, arith, split, walsh, level, subst, zero, Bool, true, List, refl, ◌+ℤ◌, ◌*ℤ◌, ◌==◌, ℕ}
+use Rattle.clean_signal.proofs.Common.{ints, sign, Some, suc, ◌+◌, ◌-◌, ◌*◌, ◌/◌, ◌%◌, ◌<◌, ◌≤◌, ◌∷◌, All, sym, ◌∙◌, pos, ◌≢◌, [], ap, ℤ}
 
 -- ---- sums by index
 

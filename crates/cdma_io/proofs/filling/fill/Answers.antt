@@ -1,13 +1,5 @@
--- Why `fill` of `filling` keeps its contract.
-use Rattle.std.proofs.lemmas.Grind.{elements}
-use Rattle.std.proofs.lemmas.Int.{ints}
-use Rattle.std.proofs.Common.{◌≡◌, ℕ, ◌-◌, ◌<◌, List, Option, subst, rules, arith, length, take}
-use Rattle.std.specs.Io.KnownBytes.{Consumes, Keeps}
-use Rattle.std.proofs.KnownBytes.{Consumes-kept, Consumes-trans}
-use Rattle.std.proofs.lemmas.List.{length-take-le}
-use Rattle.std.proofs.lemmas.Slice.{overwrites}
-use Rattle.std.proofs.lemmas.Result.{err_from_is_err_and}
-use Rattle.cdma_io.specs.Outside.{ConsumesFewer}
+use Rattle.cdma_io.proofs.Common.{elements, ints, ◌≡◌, ℕ, ◌-◌, ◌<◌, List, Option, subst, rules, arith, length, take, Consumes, Keeps}
+use Rattle.cdma_io.proofs.Common.{Consumes-kept, Consumes-trans, length-take-le, overwrites, err_from_is_err_and, ConsumesFewer}
 use Rattle.cdma_io.proofs.Moves.{filled_more, taken_to_end}
 use Rattle.cdma_io.proofs.Reading.{fewer_at_most}
 use Rattle.cdma_io.proofs.filling.fill.Goals as goal

@@ -1,6 +1,4 @@
--- Why `header_bytes` of `header` keeps its contract.
-use Rattle.std.proofs.Common.{refl}
-use Rattle.cdma_io.specs.SampleFile.{header_spelling}
+use Rattle.cdma_io.proofs.Common.{refl, header_spelling}
 use Rattle.cdma_io.proofs.header.header_bytes.Goals as goal
 
 pub returns : goal.returns

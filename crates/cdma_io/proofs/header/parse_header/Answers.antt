@@ -1,8 +1,4 @@
--- Why `parse_header` of `header` keeps its contract.
-use Rattle.std.proofs.lemmas.Grind.{common_steps}
-use Rattle.std.proofs.lemmas.Int.{ints}
-use Rattle.std.proofs.Common.{sym, ap, ◌∙◌, arith, rules}
-use Rattle.cdma_io.specs.SampleFile.{most_samples}
+use Rattle.cdma_io.proofs.Common.{common_steps, ints, sym, ap, ◌∙◌, arith, rules, most_samples}
 use Rattle.cdma_io.proofs.ByteNumbers.{AreBytes}
 use Rattle.cdma_io.proofs.Opening.{parsed_count, parsed_flags, parsed_header, parsed_magic, parsed_spelling, parsed_version}
 use Rattle.cdma_io.proofs.header.parse_header.Goals as goal

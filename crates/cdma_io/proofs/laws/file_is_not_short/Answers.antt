@@ -1,4 +1,3 @@
--- Why the law `file_is_not_short` holds.
 use Rattle.cdma_io.proofs.Files.{no_short}
 use Rattle.cdma_io.proofs.laws.file_is_not_short.Goals as goal
 

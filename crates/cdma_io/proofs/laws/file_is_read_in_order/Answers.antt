@@ -1,4 +1,3 @@
--- Why the law `file_is_read_in_order` holds.
 use Rattle.cdma_io.proofs.Files.{read_next}
 use Rattle.cdma_io.proofs.laws.file_is_read_in_order.Goals as goal
 

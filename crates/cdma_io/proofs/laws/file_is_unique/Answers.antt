@@ -1,4 +1,3 @@
--- Why the law `file_is_unique` holds.
 use Rattle.cdma_io.proofs.Uniqueness.{file_unique}
 use Rattle.cdma_io.proofs.laws.file_is_unique.Goals as goal
 

@@ -1,4 +1,3 @@
--- Why the law `file_opens` holds.
 use Rattle.cdma_io.proofs.Files.{opens_file}
 use Rattle.cdma_io.proofs.laws.file_opens.Goals as goal
 

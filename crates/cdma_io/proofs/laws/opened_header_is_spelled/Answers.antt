@@ -1,5 +1,4 @@
--- Why the law `opened_header_is_spelled` holds.
-use Rattle.std.proofs.Common.{drop}
+use Rattle.cdma_io.proofs.Common.{drop}
 use Rattle.cdma_io.proofs.ByteNumbers.{AreBytes-from_all}
 use Rattle.cdma_io.proofs.Opening.{opening-ok}
 use Rattle.cdma_io.proofs.laws.opened_header_is_spelled.Goals as goal

@@ -1,4 +1,3 @@
--- Why the law `spelled_header_opens` holds.
 use Rattle.cdma_io.proofs.Opening.{opening-spelled}
 use Rattle.cdma_io.proofs.laws.spelled_header_opens.Goals as goal
 

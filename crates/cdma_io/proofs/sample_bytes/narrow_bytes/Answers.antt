@@ -1,7 +1,4 @@
--- Why `narrow_bytes` of `sample_bytes` keeps its contract.
-use Rattle.std.proofs.Common.{◌<◌, ap, ◌∙◌, arith, rules}
-use Rattle.std.specs.Int.{w8, w16, cast_unsigned}
-use Rattle.std.proofs.lemmas.Int.{to_z-of_z}
+use Rattle.cdma_io.proofs.Common.{◌<◌, ap, ◌∙◌, arith, rules, w8, w16, cast_unsigned, to_z-of_z}
 use mir.Val.{SFits}
 use Rattle.cdma_io.proofs.Spelling.{spelled_by_bytes}
 use Rattle.cdma_io.proofs.sample_bytes.narrow_bytes.Goals as goal

@@ -1,9 +1,5 @@
--- Why `wide_bytes` of `sample_bytes` keeps its contract.
-use Rattle.std.proofs.Common.{refl, rules}
-use Rattle.std.specs.Int.{w16}
-use Rattle.std.proofs.lemmas.Int.{to_z-of_z}
+use Rattle.cdma_io.proofs.Common.{refl, rules, w16, to_z-of_z, sample_spelling}
 use mir.Val.{SFits}
-use Rattle.cdma_io.specs.SampleFile.{sample_spelling}
 use Rattle.cdma_io.proofs.sample_bytes.wide_bytes.Goals as goal
 
 pub returns : goal.returns

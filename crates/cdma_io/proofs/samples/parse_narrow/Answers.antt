@@ -1,5 +1,4 @@
--- Why `parse_narrow` of `samples` keeps its contract.
-use Rattle.std.proofs.Common.{get_or, rules, arith}
+use Rattle.cdma_io.proofs.Common.{get_or, rules, arith}
 use Rattle.cdma_io.proofs.ByteNumbers.{AreBytes}
 use Rattle.cdma_io.proofs.Spelling.{spelled_narrow, widened}
 use Rattle.cdma_io.proofs.samples.parse_narrow.Goals as goal

@@ -1,8 +1,4 @@
--- Why `parse_samples` of `samples` keeps its contract.
-use Rattle.std.proofs.Common.{arith}
-use Rattle.std.proofs.lemmas.Grind.{common_steps}
-use Rattle.std.proofs.lemmas.Int.{ints}
-use Rattle.std.proofs.Common.{◌<◌, length, rules}
+use Rattle.cdma_io.proofs.Common.{arith, common_steps, ints, ◌<◌, length, rules}
 use Rattle.cdma_io.proofs.Spelling.{in_range_more, samples_more}
 use Rattle.cdma_io.proofs.samples.parse_samples.Goals as goal
 

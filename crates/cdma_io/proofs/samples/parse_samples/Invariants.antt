@@ -1,7 +1,4 @@
--- What each pass of the loops in `parse_samples` of `samples` keeps, and why they end.
-use Rattle.std.proofs.Common.{◌≡◌, ◌*◌, take, All}
-use Rattle.std.specs.List.{flat_map}
-use Rattle.cdma_io.specs.SampleFile.{HasBits, sample_len, sample_spelling}
+use Rattle.cdma_io.proofs.Common.{◌≡◌, ◌*◌, take, All, flat_map, HasBits, sample_len, sample_spelling}
 use Rattle.cdma_io.proofs.samples.parse_samples.Given as goal
 
 abbrev pub invariant-loop-k : goal.invariant-loop-k

@@ -1,5 +1,4 @@
--- Why `parse_wide` of `samples` keeps its contract.
-use Rattle.std.proofs.Common.{rules, arith}
+use Rattle.cdma_io.proofs.Common.{rules, arith}
 use Rattle.cdma_io.proofs.ByteNumbers.{AreBytes}
 use Rattle.cdma_io.proofs.Spelling.{spelled_wide}
 use Rattle.cdma_io.proofs.samples.parse_wide.Goals as goal

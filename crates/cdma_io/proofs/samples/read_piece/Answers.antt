@@ -1,8 +1,4 @@
--- Why `read_piece` of `samples` keeps its contract.
-use Rattle.std.proofs.Common.{◌≡◌, ◌+◌, ◌*◌, ◌<◌, length, refl, arith, rules}
-use Rattle.std.proofs.lemmas.Grind.{common_steps, elements}
-use Rattle.std.proofs.lemmas.Int.{ints}
-use Rattle.cdma_io.specs.SampleFile.{sample_len}
+use Rattle.cdma_io.proofs.Common.{◌≡◌, ◌+◌, ◌*◌, ◌<◌, length, refl, arith, rules, common_steps, elements, ints, sample_len}
 use Rattle.cdma_io.proofs.Reading.{fewer_at_most, fewer_taken, piece_cut_short, short_is_no_failure}
 use Rattle.cdma_io.proofs.samples.read_piece.Goals as goal
 

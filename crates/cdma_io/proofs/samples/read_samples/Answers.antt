@@ -1,9 +1,5 @@
--- Why `read_samples` of `samples` keeps its contract.
-use Rattle.std.proofs.Common.{◌≡◌, ◌+◌, ◌-◌, ◌*◌, ◌≤◌, ℕ, length, take, drop, sym, ap, ◌∙◌, rules}
-use Rattle.cdma_io.specs.SampleFile.{sample_len}
-use Rattle.std.proofs.lemmas.List.{length-take-le, take_all}
-use Rattle.std.proofs.lemmas.Slice.{overwrites}
-use Rattle.std.proofs.lemmas.Result.{err_from_is_err_and}
+use Rattle.cdma_io.proofs.Common.{◌≡◌, ◌+◌, ◌-◌, ◌*◌, ◌≤◌, ℕ, length, take, drop, sym, ap, ◌∙◌, rules, sample_len, length-take-le, take_all}
+use Rattle.cdma_io.proofs.Common.{overwrites, err_from_is_err_and}
 use Rattle.cdma_io.proofs.Reading.{cuts_short_whole, pieces_in_range, pieces_more, samples_taken, samples_taken_fewer, fewer_at_most}
 use Rattle.cdma_io.proofs.samples.read_samples.Goals as goal
 

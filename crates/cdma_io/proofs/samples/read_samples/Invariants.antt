@@ -1,8 +1,4 @@
--- What each pass of the loops in `read_samples` of `samples` keeps, and why they end.
-use Rattle.std.proofs.Common.{◌-◌, ◌≤◌, take, length, All}
-use Rattle.std.specs.List.{flat_map}
-use Rattle.std.specs.Io.KnownBytes.{Consumes}
-use Rattle.cdma_io.specs.SampleFile.{HasBits, sample_spelling}
+use Rattle.cdma_io.proofs.Common.{◌-◌, ◌≤◌, take, length, All, flat_map, Consumes, HasBits, sample_spelling}
 use Rattle.cdma_io.proofs.samples.read_samples.Given as goal
 
 abbrev pub invariant-loop-done : goal.invariant-loop-done

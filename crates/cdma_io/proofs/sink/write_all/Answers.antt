@@ -1,5 +1,4 @@
--- Why `write_all` of `sink` keeps its contract.
-use Rattle.std.proofs.Common.{rules}
+use Rattle.cdma_io.proofs.Common.{rules}
 use Rattle.cdma_io.proofs.Moves.{appended_more}
 use Rattle.cdma_io.proofs.sink.write_all.Goals as goal
 

@@ -1,6 +1,4 @@
--- What each pass of the loops in `write_all` of `sink` keeps, and why they end.
-use Rattle.std.proofs.Common.{◌-◌, ◌≤◌, length, take}
-use Rattle.std.specs.Io.KnownBytes.{Appends}
+use Rattle.cdma_io.proofs.Common.{◌-◌, ◌≤◌, length, take, Appends}
 use Rattle.cdma_io.proofs.sink.write_all.Given as goal
 
 abbrev pub invariant-loop-given : goal.invariant-loop-given

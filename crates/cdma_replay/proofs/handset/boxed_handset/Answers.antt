@@ -1,4 +1,3 @@
--- Why `boxed_handset` of `handset` keeps its contract.
 use Rattle.cdma_replay.proofs.Common.{rules, ◌≡◌}
 use Rattle.cdma_replay.proofs.handset.boxed_handset.Goals as goal
 

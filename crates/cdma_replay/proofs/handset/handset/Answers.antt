@@ -1,4 +1,3 @@
--- Why `handset` of `handset` keeps its contract.
 use Rattle.cdma_replay.proofs.Common.{rules, refl, length, ◌≡◌, [], merely}
 use Rattle.cdma_replay.proofs.Hearings.{fresh_given, if_ok}
 use Rattle.cdma_replay.proofs.handset.handset.Goals as goal

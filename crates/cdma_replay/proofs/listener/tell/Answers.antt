@@ -1,6 +1,5 @@
--- Why `tell` of `listener` keeps its contract.
-use Rattle.cdma_replay.proofs.Common.{◌≡◌, ◌-◌, ◌++◌, List, length, take, None, Some, sym, ap, ◌∙◌, subst, append-nil, rules, arith}
-use Rattle.cdma_replay.proofs.Common.{take_rest, err_from_is_err_and, Sample, KeptTap, run_taps, events, StandsFor, Tuning, Event, HasTold}
+use Rattle.cdma_replay.proofs.Common.{◌≡◌, ◌-◌, ◌++◌, List, length, take, None, Some, sym, ap, ◌∙◌, subst, append-nil, rules, arith, Sample}
+use Rattle.cdma_replay.proofs.Common.{take_rest, err_from_is_err_and, KeptTap, run_taps, events, StandsFor, Tuning, Event, HasTold}
 use Rattle.cdma_replay.proofs.Hearings.{step_stands, told_all, told_more, told_none, told_part}
 use Rattle.cdma_replay.proofs.listener.tell.Goals as goal
 

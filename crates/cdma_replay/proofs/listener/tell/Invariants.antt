@@ -1,4 +1,3 @@
--- What each pass of the loops in `tell` of `listener` keeps, and why they end.
 use Rattle.cdma_replay.proofs.Common.{◌≡◌, ◌≤◌, ◌+◌, ◌++◌, All, List, length, take, Sample, IsKept, KeptTap, run_taps, StandsFor, has_room}
 use Rattle.cdma_replay.proofs.Common.{steps_left, Tuning, Event, HasTold}
 use Rattle.cdma_replay.proofs.listener.tell.Given as goal

@@ -1,4 +1,3 @@
--- Why `tell_pilot` of `listener` keeps its contract.
 use Rattle.cdma_replay.proofs.Common.{◌≡◌, None, Some, arith, rules, on_err}
 use Rattle.cdma_replay.proofs.Hearings.{on_ok_both, pilot_begins, pilot_part, pilot_there}
 use Rattle.cdma_replay.proofs.listener.tell_pilot.Goals as goal

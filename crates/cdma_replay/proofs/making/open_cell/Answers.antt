@@ -1,7 +1,5 @@
--- Why `open_cell` of `making` keeps its contract.
 use Rattle.cdma_replay.proofs.Common.{IfSome, ◌≡◌, ◌≢◌, sym, ap, ◌∙◌, subst, rules, Ok, Err, take, length, plan_named, ScriptFault}
-use Rattle.cdma_replay.proofs.Common.{OutOfMemory, script_status}
-use Rattle.owed_replies.proofs.Files.{ended_by}
+use Rattle.cdma_replay.proofs.Common.{OutOfMemory, script_status, ended_by}
 use Rattle.cdma_replay.proofs.MadeFiles.{bad_script_is, memory_is, read_lawful, read_named, read_names, read_to_end}
 use Rattle.cdma_replay.proofs.making.open_cell.Given.{Over}
 use Rattle.cdma_replay.proofs.making.open_cell.Goals.{In-Ok}

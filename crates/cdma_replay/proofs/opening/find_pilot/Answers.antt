@@ -1,4 +1,3 @@
--- Why `find_pilot` of `opening` keeps its contract.
 use Rattle.cdma_replay.proofs.Common.{rules}
 use Rattle.cdma_replay.proofs.Lines.{pilot_text}
 use Rattle.cdma_replay.proofs.opening.find_pilot.Goals as goal

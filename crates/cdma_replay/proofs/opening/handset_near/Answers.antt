@@ -1,4 +1,3 @@
--- Why `handset_near` of `opening` keeps its contract.
 use Rattle.cdma_replay.proofs.Common.{refl, rules, subst, ap, ◌∙◌, [], AreNearTo, Settings, StandsFor, tuning_for}
 use Rattle.cdma_replay.proofs.opening.handset_near.Goals as goal
 

@@ -1,4 +1,3 @@
--- Why `listener_for` of `opening` keeps its contract.
 use Rattle.cdma_replay.proofs.opening.listener_for.Goals as goal
 
 pub returns-in-Find : goal.returns-in-Find

@@ -1,4 +1,3 @@
--- Why `rank_pilots` of `opening` keeps its contract.
 use Rattle.cdma_replay.proofs.Common.{rules}
 use Rattle.cdma_replay.proofs.Lines.{survey_is}
 use Rattle.cdma_replay.proofs.opening.rank_pilots.Goals as goal

@@ -1,4 +1,3 @@
--- Why `tuned_listener` of `opening` keeps its contract.
 use Rattle.cdma_replay.proofs.Common.{◌≡◌, length, refl, rules, sym, best_phase-only, tuning_for}
 use Rattle.cdma_replay.proofs.Hearings.{near_taken}
 use Rattle.cdma_replay.proofs.opening.tuned_listener.Goals as goal

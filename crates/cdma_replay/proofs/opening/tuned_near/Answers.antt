@@ -1,4 +1,3 @@
--- Why `tuned_near` of `opening` keeps its contract.
 use Rattle.cdma_replay.proofs.Common.{refl, rules, subst, ap, ◌∙◌, [], AreNearTo, ListensTuned, Settings, tuning_for}
 use Rattle.cdma_replay.proofs.opening.tuned_near.Goals as goal
 

@@ -1,6 +1,4 @@
--- Why `report` of `program` keeps its contract.
-use Rattle.cdma_replay.proofs.Common.{◌∙◌}
-use Rattle.owed_replies.proofs.Runs.{line_told}
+use Rattle.cdma_replay.proofs.Common.{◌∙◌, line_told}
 use Rattle.cdma_replay.proofs.program.report.Goals as goal
 
 pub returns : goal.returns

@@ -1,6 +1,4 @@
--- Why `run_args` of `program` keeps its contract.
-use Rattle.cdma_replay.proofs.Common.{refl}
-use Rattle.owed_replies.proofs.Runs.{by_vtable, four_forms, run_with}
+use Rattle.cdma_replay.proofs.Common.{refl, by_vtable, four_forms, run_with}
 use Rattle.cdma_replay.proofs.program.run_args.OwnLists.{own-1}
 use Rattle.cdma_replay.proofs.program.run_args.Goals as goal
 

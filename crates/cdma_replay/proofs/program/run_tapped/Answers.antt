@@ -1,6 +1,4 @@
--- Why `run_tapped` of `program` keeps its contract.
-use Rattle.cdma_replay.proofs.Common.{ap, ◌∙◌}
-use Rattle.owed_replies.proofs.Runs.{passed_run, run_passed}
+use Rattle.cdma_replay.proofs.Common.{ap, ◌∙◌, passed_run, run_passed}
 use Rattle.cdma_replay.proofs.program.run_tapped.Goals as goal
 
 pub returns-clause-ran : goal.returns-clause-ran

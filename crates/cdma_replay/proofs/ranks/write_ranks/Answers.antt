@@ -1,4 +1,3 @@
--- Why `write_ranks` of `ranks` keeps its contract.
 use Rattle.cdma_replay.proofs.Common.{◌≡◌, ◌<◌, ℕ, arith, subst, take, err_from_is_err_and, Appends, ranks_text}
 use Rattle.cdma_replay.proofs.RankLines.{lines_cut, lines_more, no_lines}
 use Rattle.cdma_replay.proofs.ranks.write_ranks.Goals as goal

@@ -1,4 +1,3 @@
--- What each pass of the loops in `write_ranks` of `ranks` keeps, and why they end.
 use Rattle.cdma_replay.proofs.Common.{◌≤◌, take, Appends, ranks_text}
 use Rattle.cdma_replay.proofs.ranks.write_ranks.Given as goal
 

@@ -1,14 +1,9 @@
--- Why `hear_rest` of `receiving` keeps its contract.
 use Rattle.cdma_replay.proofs.Common.{◌≡◌, ◌≤◌, ◌+◌, ◌-◌, ◌*◌, ℕ, min, IfSome, IsNone, length, length-take-le, take, ap, ◌∙◌, refl, subst}
 use Rattle.cdma_replay.proofs.Common.{arith, rules, Reading, width_of, sample_len, FileFault, ConsumesAtMost, Header, sample_len-mono}
-use Rattle.cdma_replay.proofs.Common.{IsEnd, IsLong, IsRestFault, file_status, HasRoom}
-use Rattle.owed_replies.proofs.CutFiles.{has_bytes, no_long_cut}
-use Rattle.owed_replies.proofs.Faults.{rest_cut_fault, rest_extra_fault}
-use Rattle.owed_replies.proofs.Files.{blamed, ended_by, wrong_length}
+use Rattle.cdma_replay.proofs.Common.{IsEnd, IsLong, IsRestFault, file_status, HasRoom, has_bytes, no_long_cut, rest_cut_fault, blamed}
+use Rattle.cdma_replay.proofs.Common.{rest_extra_fault, ended_by, wrong_length, lost_not_bad, lost_not_misread, passed_most, piece_most}
 use Rattle.cdma_replay.proofs.HeardRest.{hears_all, hears_first, hears_more, hears_nothing, hears_part, hears_stopped}
 use Rattle.cdma_replay.proofs.Hearings.{room_for}
-use Rattle.owed_replies.proofs.Stopped.{lost_not_bad, lost_not_misread}
-use Rattle.owed_replies.proofs.Bounds.{passed_most, piece_most}
 use Rattle.cdma_replay.proofs.receiving.hear_rest.Given.{Over}
 use Rattle.cdma_replay.proofs.receiving.hear_rest.Goals.{After-finish, After-read}
 use Rattle.cdma_replay.proofs.receiving.hear_rest.Goals as goal

@@ -1,4 +1,3 @@
--- What each pass of the loops in `hear_rest` of `receiving` keeps, and why they end.
 use Rattle.cdma_replay.proofs.Common.{◌≡◌, ◌-◌, ◌≤◌, All, None, length, width_of, IsKept, HasRoom}
 use Rattle.cdma_replay.proofs.HeardRest.{Hears}
 use Rattle.cdma_replay.proofs.receiving.hear_rest.Given as goal

@@ -1,12 +1,6 @@
--- Why `open_span` of `receiving` keeps its contract.
-use Rattle.std.proofs.lemmas.Grind.{common_steps}
-use Rattle.std.proofs.lemmas.Int.{ints}
-use Rattle.cdma_replay.proofs.Common.{arith}
-use Rattle.cdma_replay.proofs.Common.{length, rules, ◌≡◌, ◌≤◌, IsNone, None, ap, refl, err_from_is_err_and, Reading}
-use Rattle.owed_replies.proofs.CutFiles.{no_long_cut, opening_few, span_few, unopened}
-use Rattle.owed_replies.proofs.Faults.{fault_of_opening, fault_of_count, fault_of_span}
-use Rattle.owed_replies.proofs.Files.{no_file, unsearchable}
-use Rattle.owed_replies.proofs.Bounds.{opening_most, span_most}
+use Rattle.cdma_replay.proofs.Common.{common_steps, ints, arith, length, rules, ◌≡◌, ◌≤◌, IsNone, None, ap, refl, err_from_is_err_and}
+use Rattle.cdma_replay.proofs.Common.{Reading, no_long_cut, opening_few, span_few, unopened, fault_of_opening, fault_of_count, no_file}
+use Rattle.cdma_replay.proofs.Common.{fault_of_span, unsearchable, opening_most, span_most}
 use Rattle.cdma_replay.proofs.receiving.open_span.Goals as goal
 
 pub returns-in_err-reader-clause-place : goal.returns-in_err-reader-clause-place

@@ -1,7 +1,5 @@
--- Why `receive_untapped` of `replaying` keeps its contract.
-use Rattle.cdma_replay.proofs.Common.{◌∙◌, [], ◌∷◌, None}
+use Rattle.cdma_replay.proofs.Common.{◌∙◌, [], ◌∷◌, None, file_run, with_taps}
 use Rattle.owed_replies.proofs.Replies.{none_kept}
-use Rattle.owed_replies.proofs.TaskRuns.{file_run, with_taps}
 use Rattle.cdma_replay.proofs.replaying.receive_untapped.Goals as goal
 
 pub returns : goal.returns

@@ -1,4 +1,3 @@
--- Why `replay` of `replaying` keeps its contract.
 use Rattle.cdma_replay.proofs.Common.{refl, rules}
 use Rattle.cdma_replay.proofs.Refused.{refused_run, starved_run}
 use Rattle.owed_replies.proofs.Commands.{command_run}

@@ -1,6 +1,4 @@
--- Why `run_task` of `replaying` keeps its contract.
-use Rattle.cdma_replay.proofs.Common.{Some, refl}
-use Rattle.owed_replies.proofs.TaskRuns.{file_run, made_run, trial_run, with_taps}
+use Rattle.cdma_replay.proofs.Common.{Some, refl, file_run, made_run, trial_run, with_taps}
 use Rattle.cdma_replay.proofs.replaying.run_task.Goals as goal
 
 -- where taps hear nothing, and where they do

@@ -1,4 +1,3 @@
--- Why `cell_for` of `trial` keeps its contract.
 use Rattle.cdma_replay.proofs.Common.{◌≡◌, ◌∙◌, ap, sym, Ok, rules, Sixteen, plan_named, trial_plan, trial_named}
 use Rattle.cdma_replay.proofs.Counting.{state_is}
 use Rattle.cdma_replay.proofs.trial.cell_for.Goals as goal

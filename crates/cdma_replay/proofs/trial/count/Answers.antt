@@ -1,4 +1,3 @@
--- Why `count` of `trial` keeps its contract.
 use Rattle.cdma_replay.proofs.Common.{◌≡◌, ◌+◌, ◌-◌, ◌≤◌, ◌++◌, List, length, take, Option, None, Some, sym, ap, ◌∙◌, subst, append-nil}
 use Rattle.cdma_replay.proofs.Common.{rules, arith, take_rest, Sample, event_list, StandsFor, steps_left, Event, LeavesRoom, counts_with}
 use Rattle.cdma_replay.proofs.Common.{Counts, events}

@@ -1,4 +1,3 @@
--- What each pass of the loops in `count` of `trial` keeps, and why they end.
 use Rattle.cdma_replay.proofs.Common.{◌≡◌, ◌≤◌, ◌+◌, ◌++◌, List, length, take, Sample, StandsFor, has_room, steps_left, Tuning, Event}
 use Rattle.cdma_replay.proofs.Common.{LeavesRoom, counts_of}
 use Rattle.cdma_replay.proofs.trial.count.Given as goal

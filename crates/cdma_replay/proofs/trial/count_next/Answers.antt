@@ -1,4 +1,3 @@
--- Why `count_next` of `trial` keeps its contract.
 use Rattle.cdma_replay.proofs.Common.{◌≡◌, List, length, subst, take, Sample, made_samples, events, StandsFor, counts_of}
 use Rattle.cdma_replay.proofs.Counting.{made_more, next_made}
 use Rattle.cdma_replay.proofs.trial.count_next.Goals as goal

@@ -1,4 +1,3 @@
--- Why `count_rest` of `trial` keeps its contract.
 use Rattle.cdma_replay.proofs.Common.{◌≤◌, ◌∙◌, List, ap, arith, rules, Sample, CellPlan, events, counts_of}
 use Rattle.cdma_replay.proofs.Counting.{counted_next, made_all}
 use Rattle.cdma_replay.proofs.trial.count_rest.Goals as goal

@@ -1,6 +1,5 @@
--- What each pass of the loops in `count_rest` of `trial` keeps, and why they end.
-use Rattle.cdma_replay.proofs.Common.{◌≡◌, ◌-◌, ◌+◌, length, take, made_samples, events, StandsFor, has_room, steps_left, Tuning}
-use Rattle.cdma_replay.proofs.Common.{LeavesRoom, counts_of}
+use Rattle.cdma_replay.proofs.Common.{◌≡◌, ◌-◌, ◌+◌, length, take, made_samples, events, StandsFor, has_room, steps_left, Tuning, counts_of}
+use Rattle.cdma_replay.proofs.Common.{LeavesRoom}
 use Rattle.cdma_replay.proofs.trial.count_rest.Given as goal
 
 abbrev pub invariant-loop-cell : goal.invariant-loop-cell

@@ -1,4 +1,3 @@
--- Why `follow_cell` of `trial` keeps its contract.
 use Rattle.cdma_replay.proofs.Common.{◌≡◌, ◌∙◌, List, [], ap, arith, length, rules, subst, sym, Sample, Header, Sixteen, made_samples}
 use Rattle.cdma_replay.proofs.Common.{CellState, header_of, trial_plan, CellPlan, IsBestIn, best_phase, best_phase-only, events, StandsFor}
 use Rattle.cdma_replay.proofs.Common.{Tuning, AreNearTo, Settings, tuning_for, counts_of, trial_settings, trial_span, trial_tuning}

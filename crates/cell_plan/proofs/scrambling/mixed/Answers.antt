@@ -1,4 +1,3 @@
--- Why `mixed` of `scrambling` keeps its contract.
 use Rattle.cell_plan.proofs.Common.{◌≡◌, ◌∷◌, [], ◌++◌, length, get_or, false, refl, ap, ◌∙◌, arith, length-append, xor}
 use Rattle.cell_plan.proofs.PageCycles.{differ_is, mixed_all, mixed_more}
 use Rattle.cell_plan.proofs.scrambling.mixed.Goals as goal

@@ -1,4 +1,3 @@
--- What each pass of the loops in `mixed` of `scrambling` keeps, and why they end.
 use Rattle.cell_plan.proofs.Common.{◌≡◌, length, take, xor, zip_with}
 use Rattle.cell_plan.proofs.scrambling.mixed.Given as goal
 

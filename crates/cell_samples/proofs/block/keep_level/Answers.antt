@@ -1,4 +1,3 @@
--- Why `keep_level` of `block` keeps its contract.
 use Rattle.cell_samples.proofs.Common.{SFits, get_or, pos, rules, w64}
 use Rattle.cell_samples.proofs.KeptBlocks.{same_level}
 use Rattle.cell_samples.proofs.block.keep_level.Goals as goal

@@ -1,7 +1,5 @@
--- Why `keep_levels` of `block` keeps its contract.
-use Rattle.std.proofs.lemmas.Grind.{common_steps}
-use Rattle.cell_samples.proofs.Common.{◌≡◌, ◌<◌, List, length, map, get_or, set, refl, sym, ap, ◌∙◌, arith, rules, get_or-map, read64, ints}
-use Rattle.cell_samples.proofs.Common.{ChannelState, carrier_of}
+use Rattle.cell_samples.proofs.Common.{common_steps, ◌≡◌, ◌<◌, List, length, map, get_or, set, refl, sym, ap, ◌∙◌, arith, rules, get_or-map}
+use Rattle.cell_samples.proofs.Common.{read64, ints, ChannelState, carrier_of}
 use Rattle.std.proofs.lemmas.List as lists
 use Rattle.cell_samples.proofs.KeptBlocks as kept
 use Rattle.cell_samples.proofs.block.keep_levels.Goals as goal

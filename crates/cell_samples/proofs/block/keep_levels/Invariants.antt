@@ -1,4 +1,3 @@
--- What each pass of the loops in `keep_levels` of `block` keeps, and why they end.
 use Rattle.cell_samples.proofs.Common.{◌≡◌, length, map, true, AreFirstLevels, IsLevel, carrier_of}
 use Rattle.std.specs.List.{All}
 use Rattle.cell_samples.proofs.block.keep_levels.Given as goal

@@ -1,4 +1,3 @@
--- What each pass of the loops in `narrow` of `block` keeps, and why they end.
 use Rattle.cell_samples.proofs.Common.{◌≡◌, ◌<◌, ℕ, length, get_or, of_sample, origin, no_sample}
 use Rattle.cell_samples.proofs.block.narrow.Given as goal
 

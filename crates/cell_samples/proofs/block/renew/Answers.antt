@@ -1,4 +1,3 @@
--- Why `renew` of `block` keeps its contract.
 use Rattle.cell_samples.proofs.Common.{map, carrier_of}
 use Rattle.cell_samples.proofs.KeptBlocks.{chips_made, chips_stand, same_sums, sum_quiet}
 use Rattle.cell_samples.proofs.block.renew.Goals as goal

@@ -1,9 +1,6 @@
--- Why `sums_of` of `block` keeps its contract.
-use Rattle.cell_samples.proofs.Common.{ints}
-use Rattle.std.proofs.lemmas.Grind.{common_steps}
-use Rattle.cell_samples.proofs.Common.{◌≡◌, ◌≤◌, ◌<◌, ◌*◌, ◌^◌, length, map, get_or, refl, sym, ap, ◌∙◌, ◌+◌, arith, ℤ, pos, to_z, of_z}
-use Rattle.cell_samples.proofs.Common.{unsigned_abs, get_or-map, All-get_or, origin, plus, IsWithin, IsLevel, ChannelState, carrier_of}
-use Rattle.cell_samples.proofs.Common.{level, scaled, read64}
+use Rattle.cell_samples.proofs.Common.{ints, common_steps, ◌≡◌, ◌≤◌, ◌<◌, ◌*◌, ◌^◌, length, map, get_or, refl, sym, ap, ◌∙◌, ◌+◌, arith, ℤ}
+use Rattle.cell_samples.proofs.Common.{pos, to_z, of_z, unsigned_abs, get_or-map, All-get_or, origin, plus, IsWithin, IsLevel, ChannelState}
+use Rattle.cell_samples.proofs.Common.{carrier_of, level, scaled, read64}
 use Rattle.std.specs.Int.{w64}
 use Rattle.std.proofs.lemmas.List as lists
 use Rattle.cell_samples.proofs.Blocks as blocks

@@ -1,4 +1,3 @@
--- What each pass of the loops in `sums_of` of `block` keeps, and why they end.
 use Rattle.cell_samples.proofs.Common.{◌≡◌, ◌*◌, ◌%◌, ◌^◌, ℕ, length, map, IsWithin, AreLevels, carrier_of}
 use Rattle.std.specs.List.{All}
 use Rattle.cell_samples.proofs.Blocks.{IsSummed}

@@ -1,4 +1,3 @@
--- Why `turn` of `block` keeps its contract.
 use Rattle.cell_samples.proofs.Common.{◌<◌, length, get_or, ◌∙◌, arith, length-set, of_sample, no_sample}
 use Rattle.cell_samples.proofs.KeptBlocks.{one_turned}
 use Rattle.cell_samples.proofs.block.turn.Goals as goal

@@ -1,4 +1,3 @@
--- What each pass of the loops in `turn` of `block` keeps, and why they end.
 use Rattle.cell_samples.proofs.Common.{◌≡◌, length, get_or, of_sample, AreTurned, no_sample}
 use Rattle.cell_samples.proofs.block.turn.Given as goal
 

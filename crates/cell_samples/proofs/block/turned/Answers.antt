@@ -1,6 +1,4 @@
--- Why `turned` of `block` keeps its contract.
-use Rattle.cell_samples.proofs.Common.{arith, ints}
-use Rattle.std.proofs.lemmas.Grind.{common_steps}
+use Rattle.cell_samples.proofs.Common.{arith, ints, common_steps}
 use Rattle.cell_samples.proofs.TurnedChips.{difference_fits, sum_fits, turned_is}
 use Rattle.cell_samples.proofs.block.turned.Goals as goal
 

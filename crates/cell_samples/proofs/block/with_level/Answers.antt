@@ -1,4 +1,3 @@
--- Why `with_level` of `block` keeps its contract.
 use Rattle.cell_samples.proofs.Common.{refl, level_added}
 use Rattle.cell_samples.proofs.Blocks.{level_part_fits, level_sum_fits}
 use Rattle.cell_samples.proofs.block.with_level.Goals as goal

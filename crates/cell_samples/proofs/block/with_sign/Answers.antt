@@ -1,4 +1,3 @@
--- Why `with_sign` of `block` keeps its contract.
 use Rattle.cell_samples.proofs.TurnedChips.{signed_within, with_sign_fits, with_sign_is}
 use Rattle.cell_samples.proofs.block.with_sign.Goals as goal
 

@@ -1,4 +1,3 @@
--- Why `state_before` of `continued` keeps its contract.
 use Rattle.cell_samples.proofs.Common.{◌≡◌, ◌+◌, ◌-◌, ap, sym, ◌∙◌, arith, frame_bits_of, bits_before, before-first, last_before}
 use Rattle.cell_samples.proofs.SentFrames.{eight_bits}
 use Rattle.cell_samples.proofs.continued.state_before.Goals as goal

@@ -1,7 +1,4 @@
--- Why `fill_up` of `page_cycle` keeps its contract.
-use Rattle.cell_samples.proofs.Common.{ints}
-use Rattle.std.proofs.lemmas.Grind.{common_steps}
-use Rattle.cell_samples.proofs.Common.{◌≡◌, ℕ, ◌++◌, false, replicate, ap, ◌∙◌, arith, fill}
+use Rattle.cell_samples.proofs.Common.{ints, common_steps, ◌≡◌, ℕ, ◌++◌, false, replicate, ap, ◌∙◌, arith, fill}
 use Rattle.cell_samples.proofs.page_cycle.fill_up.Goals as goal
 
 pub returns : goal.returns

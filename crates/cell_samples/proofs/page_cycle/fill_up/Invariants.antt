@@ -1,4 +1,3 @@
--- What each pass of the loops in `fill_up` of `page_cycle` keeps, and why they end.
 use Rattle.cell_samples.proofs.Common.{◌≡◌, ◌++◌, replicate, false, length, ◌+◌}
 use Rattle.cell_samples.proofs.page_cycle.fill_up.Given as goal
 

@@ -1,4 +1,3 @@
--- Why `laid` of `page_cycle` keeps its contract.
 use Rattle.cell_samples.proofs.Common.{◌≡◌, length, ap, arith, get_or, ◌∙◌, M30, length-capsule, half_frame_body, any_default}
 use Rattle.cell_plan.proofs.LaidPages as pages
 use Rattle.cell_samples.proofs.page_cycle.laid.Goals as goal

@@ -1,4 +1,3 @@
--- What each pass of the loops in `laid` of `page_cycle` keeps, and why they end.
 use Rattle.cell_samples.proofs.Common.{half_frame_body, IsLaying}
 use Rattle.cell_samples.proofs.page_cycle.laid.Given as goal
 

@@ -1,6 +1,4 @@
--- Why `channels_for` of `samples` keeps its contract.
-use Rattle.cell_samples.proofs.Common.{arith, ints}
-use Rattle.std.proofs.lemmas.Grind.{common_steps}
+use Rattle.cell_samples.proofs.Common.{arith, ints, common_steps}
 use Rattle.cell_samples.proofs.samples.channels_for.Goals as goal
 
 pub with_traffic-requires-clause-traffic : goal.with_traffic-requires-clause-traffic

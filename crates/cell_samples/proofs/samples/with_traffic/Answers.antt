@@ -1,6 +1,4 @@
--- Why `with_traffic` of `samples` keeps its contract.
-use Rattle.cell_samples.proofs.Common.{arith, ints}
-use Rattle.std.proofs.lemmas.Grind.{common_steps}
+use Rattle.cell_samples.proofs.Common.{arith, ints, common_steps}
 use Rattle.cell_samples.proofs.samples.with_traffic.Goals as goal
 
 pub loop-channel-preserved : goal.loop-channel-preserved

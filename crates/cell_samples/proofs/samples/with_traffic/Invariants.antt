@@ -1,4 +1,3 @@
--- What each pass of the loops in `with_traffic` of `samples` keeps, and why they end.
 use Rattle.cell_samples.proofs.Common.{◌≡◌, ◌++◌, map, take, carrier_of, traffic_carrier}
 use Rattle.cell_samples.proofs.samples.with_traffic.Given as goal
 

@@ -1,4 +1,3 @@
--- Why `message_for` of `sendings` keeps its contract.
 use Rattle.cell_samples.proofs.Common.{◌≡◌, ◌+◌, ◌*◌, ◌<◌, ◌^◌, ℕ, ap, ◌∙◌, after, message_of, told_superframes, refilled, refilled_is}
 use Rattle.cell_samples.proofs.Common.{told_early}
 use Rattle.cell_samples.proofs.sendings.message_for.Goals as goal

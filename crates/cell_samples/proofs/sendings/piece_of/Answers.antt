@@ -1,7 +1,4 @@
--- Why `piece_of` of `sendings` keeps its contract.
-use Rattle.cell_samples.proofs.Common.{ints}
-use Rattle.std.proofs.lemmas.Grind.{common_steps}
-use Rattle.cell_samples.proofs.Common.{◌==◌, ◌∷◌, [], length, ap, ◌∙◌, arith, length-append, piece_more}
+use Rattle.cell_samples.proofs.Common.{ints, common_steps, ◌==◌, ◌∷◌, [], length, ap, ◌∙◌, arith, length-append, piece_more}
 use Rattle.cell_samples.proofs.sendings.piece_of.Goals as goal
 
 pub loop-k-preserved : goal.loop-k-preserved

@@ -1,4 +1,3 @@
--- What each pass of the loops in `piece_of` of `sendings` keeps, and why they end.
 use Rattle.cell_samples.proofs.Common.{◌≡◌, ◌+◌, ◌*◌, ◌==◌, ◌∷◌, length, take, drop, padded}
 use Rattle.cell_samples.proofs.sendings.piece_of.Given as goal
 

@@ -1,4 +1,3 @@
--- Why `symbols_in_turn` of `traffic_cycle` keeps its contract.
 use Rattle.cell_samples.proofs.Common.{traffic_symbols, made_of}
 use Rattle.cell_samples.proofs.traffic_cycle.symbols_in_turn.Goals as goal
 

@@ -1,4 +1,3 @@
--- Why `add_frame` of `build` keeps its contract.
 use Rattle.cell_script.proofs.Common.{List, ap, one_frame_more, TrafficFrame}
 use Rattle.cell_script.proofs.LastChanged.{push_changed}
 use Rattle.cell_script.proofs.build.add_frame.Goals as goal

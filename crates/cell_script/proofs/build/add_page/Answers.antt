@@ -1,4 +1,3 @@
--- Why `add_page` of `build` keeps its contract.
 use Rattle.cell_script.proofs.Common.{List, ap, one_page_more, Page}
 use Rattle.cell_script.proofs.LastChanged.{push_changed}
 use Rattle.cell_script.proofs.build.add_page.Goals as goal

@@ -1,4 +1,3 @@
--- Why `unsigned_line` of `fields` keeps its contract.
 use Rattle.cell_script.proofs.Common.{arith, length-set, refl, sym, ◌∙◌}
 use Rattle.cell_script.proofs.UnsignedLines.{not_at_its_end, read_to_its_end, value_in_form, value_missing, value_read, values_read}
 use Rattle.cell_script.proofs.fields.unsigned_line.Goals as goal

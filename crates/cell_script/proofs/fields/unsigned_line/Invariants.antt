@@ -1,4 +1,3 @@
--- What each pass of the loops in `unsigned_line` of `fields` keeps, and why they end.
 use Rattle.cell_script.proofs.Common.{◌≡◌, ◌≤◌, length}
 use Rattle.cell_script.proofs.UnsignedLines.{AreValuesRead}
 use Rattle.cell_script.specs.ScriptFields.{AreOfForms}

@@ -1,4 +1,3 @@
--- Why `judged` of `reading` keeps its contract.
 use Rattle.cell_script.proofs.Common.{sym, ◌∙◌}
 use Rattle.cell_script.proofs.ScriptReading.{all_read, faulty_line, missing_line, none_read, one_read, refused_line}
 use Rattle.cell_script.proofs.ScriptSplits.{is_left, none_left}

@@ -1,4 +1,3 @@
--- What each pass of the loops in `judged` of `reading` keeps, and why they end.
 use Rattle.cell_script.proofs.Common.{length}
 use Rattle.cell_script.proofs.ScriptReading.{HasRead}
 use Rattle.cell_script.proofs.reading.judged.Given as goal

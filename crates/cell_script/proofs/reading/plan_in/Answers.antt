@@ -1,4 +1,3 @@
--- Why `plan_in` of `reading` keeps its contract.
 use Rattle.cell_script.proofs.Common.{sym, subst, CellPlan}
 use Rattle.cell_script.proofs.ScriptReading.{all_made, none_made, one_made, HasMade}
 use Rattle.cell_script.proofs.reading.plan_in.Goals as goal

@@ -1,4 +1,3 @@
--- What each pass of the loops in `plan_in` of `reading` keeps, and why they end.
 use Rattle.cell_script.proofs.Common.{length}
 use Rattle.cell_script.proofs.ScriptReading.{HasMade}
 use Rattle.cell_script.proofs.reading.plan_in.Given as goal

@@ -1,4 +1,3 @@
--- Why `plan_of` of `reading` keeps its contract.
 use Rattle.cell_script.proofs.Common.{sym}
 use Rattle.cell_script.proofs.ScriptAnswers.{fault_named, line_named, link_stated, names_lawful, names_plan, names_some, too_big}
 use Rattle.cell_script.proofs.reading.plan_of.Goals as goal

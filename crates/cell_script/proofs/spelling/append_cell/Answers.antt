@@ -1,6 +1,4 @@
--- Why `append_cell` of `spelling` keeps its contract.
-use Rattle.cell_script.proofs.Common.{arith, codes, ints, refl, written_cell}
-use Rattle.std.proofs.lemmas.Grind.{common_steps}
+use Rattle.cell_script.proofs.Common.{arith, codes, ints, refl, written_cell, common_steps}
 use Rattle.cell_script.proofs.ScriptKeys.{ascii_key}
 use Rattle.cell_script.proofs.spelling.append_cell.Goals as goal
 

@@ -1,6 +1,4 @@
--- Why `append_frame` of `spelling` keeps its contract.
-use Rattle.cell_script.proofs.Common.{written_frame, arith, ints}
-use Rattle.std.proofs.lemmas.Grind.{common_steps}
+use Rattle.cell_script.proofs.Common.{written_frame, arith, ints, common_steps}
 use Rattle.cell_script.proofs.spelling.append_frame.Goals as goal
 
 pub returns : goal.returns

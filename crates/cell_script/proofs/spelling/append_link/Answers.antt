@@ -1,9 +1,6 @@
--- Why `append_link` of `spelling` keeps its contract.
-use Rattle.cell_script.proofs.Common.{arith, ints}
-use Rattle.std.proofs.lemmas.Grind.{common_steps}
-use Rattle.cell_script.proofs.Common.{ap, codes, decimal, refl, rules, signed_decimal, w64, written_link, ℤ, ◌++◌, ◌∙◌}
+use Rattle.cell_script.proofs.Common.{arith, ints, common_steps, ap, codes, decimal, refl, rules, signed_decimal, w64, written_link, ℤ, ◌∙◌}
+use Rattle.cell_script.proofs.Common.{◌++◌, to_z-of_z}
 use mir.Val.{SFits}
-use Rattle.std.proofs.lemmas.Int.{to_z-of_z}
 use Rattle.cell_script.proofs.ScriptKeys.{ascii_key}
 use Rattle.cell_script.proofs.SpelledFields.{four_fields_added}
 use Rattle.cell_script.proofs.spelling.append_link.Goals as goal

@@ -1,6 +1,4 @@
--- Why `append_network` of `spelling` keeps its contract.
-use Rattle.cell_script.proofs.Common.{arith, ints}
-use Rattle.std.proofs.lemmas.Grind.{common_steps}
+use Rattle.cell_script.proofs.Common.{arith, ints, common_steps}
 use Rattle.cell_script.proofs.spelling.append_network.Goals as goal
 
 pub returns-clause-value : goal.returns-clause-value

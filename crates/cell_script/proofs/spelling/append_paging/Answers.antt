@@ -1,4 +1,3 @@
--- Why `append_paging` of `spelling` keeps its contract.
 use Rattle.cell_script.proofs.Common.{codes, refl}
 use Rattle.cell_script.proofs.ScriptKeys.{ascii_key}
 use Rattle.cell_script.proofs.spelling.append_paging.Goals as goal

@@ -1,6 +1,4 @@
--- Why `append_traffic` of `spelling` keeps its contract.
-use Rattle.cell_script.proofs.Common.{arith, codes, ints, refl, written_traffic}
-use Rattle.std.proofs.lemmas.Grind.{common_steps}
+use Rattle.cell_script.proofs.Common.{arith, codes, ints, refl, written_traffic, common_steps}
 use Rattle.cell_script.proofs.ScriptKeys.{ascii_key}
 use Rattle.cell_script.proofs.spelling.append_traffic.Goals as goal
 

@@ -1,4 +1,3 @@
--- Why `bits_left` of `stage` keeps its contract.
 use Rattle.cell_script.proofs.Common.{rules, bits_left, fill}
 use Rattle.cell_script.proofs.stage.bits_left.Goals as goal
 

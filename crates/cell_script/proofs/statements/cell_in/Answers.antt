@@ -1,4 +1,3 @@
--- Why `cell_in` of `statements` keeps its contract.
 use Rattle.cell_script.proofs.Common.{ap, option_map, sym, ◌∙◌}
 use Rattle.cell_script.proofs.UnsignedLines.{cell_by_table, cell_made, cell_of}
 use Rattle.cell_script.proofs.statements.cell_in.Goals as goal

@@ -1,6 +1,4 @@
--- Why `first_rate` of `statements` keeps its contract.
-use Rattle.cell_script.proofs.Common.{arith, ints}
-use Rattle.std.proofs.lemmas.Grind.{common_steps}
+use Rattle.cell_script.proofs.Common.{arith, ints, common_steps}
 use Rattle.cell_script.proofs.statements.first_rate.Goals as goal
 
 pub loop-rate-preserved : goal.loop-rate-preserved

@@ -1,4 +1,3 @@
--- What each pass of the loops in `first_rate` of `statements` keeps, and why they end.
 use Rattle.cell_script.proofs.Common.{◌≡◌, drop, rate_by}
 use Rattle.cell_script.proofs.statements.first_rate.Given as goal
 

@@ -1,4 +1,3 @@
--- Why `is_body` of `statements` keeps its contract.
 use Rattle.cell_script.proofs.Common.{◌∙◌}
 use Rattle.cell_script.proofs.ScriptPages.{body_found}
 use Rattle.cell_script.proofs.statements.is_body.Goals as goal

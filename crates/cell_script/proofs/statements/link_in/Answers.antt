@@ -1,7 +1,4 @@
--- Why `link_in` of `statements` keeps its contract.
-use Rattle.cell_script.proofs.Common.{arith, ints}
-use Rattle.std.proofs.lemmas.Grind.{common_steps}
-use Rattle.cell_script.proofs.Common.{refl, sym, ap, ◌∙◌, link_in, link_statement}
+use Rattle.cell_script.proofs.Common.{arith, ints, common_steps, refl, sym, ap, ◌∙◌, link_in, link_statement}
 use Rattle.cell_script.proofs.ScriptTables.{left_over, link_held, link_read, link_told, unlawful, whole_line}
 use Rattle.cell_script.proofs.statements.link_in.Goals as goal
 

@@ -1,4 +1,3 @@
--- Why `message_with` of `statements` keeps its contract.
 use Rattle.cell_script.proofs.Common.{Some, sym, ap, ◌∙◌}
 use Rattle.cell_script.proofs.ScriptMessages.{is_message, no_message}
 use Rattle.cell_script.proofs.statements.message_with.Goals as goal

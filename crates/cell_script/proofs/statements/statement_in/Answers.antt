@@ -1,6 +1,4 @@
--- Why `statement_in` of `statements` keeps its contract.
-use Rattle.cell_script.proofs.Common.{arith, ints}
-use Rattle.std.proofs.lemmas.Grind.{common_steps}
+use Rattle.cell_script.proofs.Common.{arith, ints, common_steps}
 use Rattle.cell_script.proofs.statements.statement_in.Goals as goal
 
 pub returns-in_err-sync_in-clause-row : goal.returns-in_err-sync_in-clause-row

@@ -1,4 +1,3 @@
--- Why `sync_in` of `statements` keeps its contract.
 use Rattle.cell_script.proofs.Common.{local_rows, network_rows, sym}
 use Rattle.cell_script.proofs.ScriptBounds.{numbers_up_to}
 use Rattle.cell_script.proofs.statements.sync_in.Goals as goal

@@ -1,7 +1,4 @@
--- Why `traffic_in` of `statements` keeps its contract.
-use Rattle.cell_script.proofs.Common.{arith, ints}
-use Rattle.std.proofs.lemmas.Grind.{common_steps}
-use Rattle.cell_script.proofs.Common.{ap, option_map, sym, ◌∙◌}
+use Rattle.cell_script.proofs.Common.{arith, ints, common_steps, ap, option_map, sym, ◌∙◌}
 use Rattle.cell_script.proofs.UnsignedLines.{traffic_by_table, traffic_of}
 use Rattle.cell_script.proofs.statements.traffic_in.Goals as goal
 

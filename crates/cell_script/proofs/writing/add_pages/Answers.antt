@@ -1,4 +1,3 @@
--- Why `add_pages` of `writing` keeps its contract.
 use Rattle.cell_script.proofs.Common.{arith, map}
 use Rattle.cell_script.proofs.WrittenLines.{item_written, items_written, none_written}
 use Rattle.cell_script.specs.declared.statements.Statement.TheVariants as statements

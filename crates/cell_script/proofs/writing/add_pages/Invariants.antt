@@ -1,4 +1,3 @@
--- What each pass of the loops in `add_pages` of `writing` keeps, and why they end.
 use Rattle.cell_script.proofs.Common.{◌≡◌, ◌++◌, take, lines_of, map}
 use Rattle.cell_script.specs.declared.statements.Statement.TheVariants as statements
 use Rattle.cell_script.proofs.writing.add_pages.Given as goal

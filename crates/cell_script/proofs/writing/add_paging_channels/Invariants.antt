@@ -1,4 +1,3 @@
--- What each pass of the loops in `add_paging_channels` of `writing` keeps, and why they end.
 use Rattle.cell_script.proofs.Common.{◌≡◌, ◌++◌, take, lines_of, flat_map, paging_statements}
 use Rattle.cell_script.proofs.writing.add_paging_channels.Given as goal
 

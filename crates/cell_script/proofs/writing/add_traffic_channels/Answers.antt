@@ -1,4 +1,3 @@
--- Why `add_traffic_channels` of `writing` keeps its contract.
 use Rattle.cell_script.proofs.Common.{◌∷◌, List, TrafficFrame, ap, arith, flat_map, line_of_traffic, map, traffic_statements, sym}
 use Rattle.cell_script.proofs.WrittenLines.{channel_written, items_written, none_written}
 use Rattle.cell_script.specs.declared.statements.Statement.TheVariants as statements

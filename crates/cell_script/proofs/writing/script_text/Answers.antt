@@ -1,6 +1,4 @@
--- Why `script_text` of `writing` keeps its contract.
-use Rattle.cell_script.proofs.Common.{script_of, arith, ints}
-use Rattle.std.proofs.lemmas.Grind.{common_steps}
+use Rattle.cell_script.proofs.Common.{script_of, arith, ints, common_steps}
 use Rattle.cell_script.proofs.writing.script_text.Goals as goal
 
 pub returns : goal.returns

@@ -1,4 +1,3 @@
--- Why `with_bit` of `bit_list` keeps its contract.
 use Rattle.chip_core.proofs.WordBits.{set_here, set_others}
 use Rattle.chip_core.proofs.bit_list.with_bit.Goals as goal
 

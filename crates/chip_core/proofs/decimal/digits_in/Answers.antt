@@ -1,5 +1,4 @@
--- Why `digits_in` of `decimal` keeps its contract.
-use Rattle.std.proofs.Common.{refl, sym, ◌∙◌, arith}
+use Rattle.chip_core.proofs.Common.{refl, sym, ◌∙◌, arith}
 use Rattle.chip_core.proofs.DecimalTexts.{digit_missing, digit_more, digit_read, digits_read, few_digits}
 use Rattle.chip_core.proofs.decimal.digits_in.Goals as goal
 

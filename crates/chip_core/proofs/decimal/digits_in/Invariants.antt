@@ -1,6 +1,4 @@
--- What each pass of the loops in `digits_in` of `decimal` keeps, and why they end.
-use Rattle.std.proofs.Common.{◌≡◌, ◌<◌, ◌^◌, drop}
-use Rattle.chip_core.specs.Decimals.{digits_from}
+use Rattle.chip_core.proofs.Common.{◌≡◌, ◌<◌, ◌^◌, drop, digits_from}
 use Rattle.chip_core.proofs.decimal.digits_in.Given as goal
 
 abbrev pub invariant-loop-digit : goal.invariant-loop-digit

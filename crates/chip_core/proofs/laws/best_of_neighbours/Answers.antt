@@ -1,4 +1,3 @@
--- Why the law `best_of_neighbours` holds.
 use Rattle.chip_core.proofs.Greatest.{lower_of_neighbours, higher_of_neighbours}
 use Rattle.chip_core.proofs.laws.best_of_neighbours.Goals as goal
 

@@ -1,4 +1,3 @@
--- Why the law `first_greatest_is_the_only_one` holds.
 use Rattle.chip_core.proofs.Greatest.{first_greatest-is, only}
 use Rattle.chip_core.proofs.laws.first_greatest_is_the_only_one.Goals as goal
 

@@ -1,4 +1,3 @@
--- Why the law `half_frames_end_whole_pages` holds.
 use Rattle.clean_frames.proofs.pages.CyclesBack.{page_sendings_back, whole_pages_back}
 use Rattle.clean_frames.proofs.laws.half_frames_end_whole_pages.Goals as goal
 

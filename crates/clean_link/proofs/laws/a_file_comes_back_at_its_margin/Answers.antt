@@ -1,4 +1,3 @@
--- Why the law `a_file_comes_back_at_its_margin` holds.
 use Rattle.clean_link.proofs.noise.FileAtMargin.{comes_back}
 use Rattle.clean_link.proofs.laws.a_file_comes_back_at_its_margin.Goals as goal
 

@@ -1,4 +1,3 @@
--- Why the law `a_file_meets_the_premises_of_noise` holds.
 use Rattle.clean_link.proofs.noise.MarginFile.{meets_premises}
 use Rattle.clean_link.proofs.laws.a_file_meets_the_premises_of_noise.Goals as goal
 

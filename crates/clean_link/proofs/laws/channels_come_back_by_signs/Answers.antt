@@ -1,4 +1,3 @@
--- Why the law `channels_come_back_by_signs` holds.
 use Rattle.clean_link.proofs.messages.EachChannel.{channels_by_signs, tells_the_mark}
 use Rattle.clean_link.proofs.messages.MessagesBack.{all_by_signs}
 use Rattle.clean_link.proofs.laws.channels_come_back_by_signs.Goals as goal

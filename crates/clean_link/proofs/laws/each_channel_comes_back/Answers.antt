@@ -1,4 +1,3 @@
--- Why the law `each_channel_comes_back` holds.
 use Rattle.clean_link.proofs.messages.EachChannel.{each_channel}
 use Rattle.clean_link.proofs.laws.each_channel_comes_back.Goals as goal
 

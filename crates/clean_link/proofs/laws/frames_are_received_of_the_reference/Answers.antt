@@ -1,4 +1,3 @@
--- Why the law `frames_are_received_of_the_reference` holds.
 use Rattle.clean_link.proofs.traffic.Received.{each_frame_received, frames_after_mark, frames_show_power_bits, frames_show_symbols}
 use Rattle.clean_link.proofs.traffic.Received.{set_two_back, set_two_after_mark, signed_received, signed_set_two_back}
 use Rattle.clean_link.proofs.traffic.Signs.{set_one_sends, set_two_sends}

@@ -1,4 +1,3 @@
--- Why the law `frames_come_back` holds.
 use Rattle.clean_link.proofs.frames.ChannelFrames.{channel_frames, frames_back, frames_zero, paging_frames_back, silent_paging_back}
 use Rattle.clean_link.proofs.laws.frames_come_back.Goals as goal
 

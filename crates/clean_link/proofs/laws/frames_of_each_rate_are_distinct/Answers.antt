@@ -1,4 +1,3 @@
--- Why the law `frames_of_each_rate_are_distinct` holds.
 use Rattle.clean_link.proofs.traffic.DistinctPlan.{has_mark, has_set_one, has_set_two}
 use Rattle.clean_link.proofs.traffic.SharedFrames.{distinct_by_sharing, distinct_by_sharing2}
 use Rattle.clean_link.proofs.laws.frames_of_each_rate_are_distinct.Goals as goal

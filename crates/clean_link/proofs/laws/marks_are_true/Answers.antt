@@ -1,4 +1,3 @@
--- Why the law `marks_are_true` holds.
 use Rattle.clean_link.proofs.marks.MarksTrue.{marked_where_heard, marks_rate, marks_true, unmarked}
 use Rattle.clean_link.proofs.laws.marks_are_true.Goals as goal
 

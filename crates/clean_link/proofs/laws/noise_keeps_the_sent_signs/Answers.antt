@@ -1,4 +1,3 @@
--- Why the law `noise_keeps_the_sent_signs` holds.
 use Rattle.clean_link.proofs.frames.ChannelFrames.{clean_signs, near_channels, near_syncs}
 use Rattle.clean_link.proofs.laws.noise_keeps_the_sent_signs.Goals as goal
 

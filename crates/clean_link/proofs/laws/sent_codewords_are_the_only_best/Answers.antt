@@ -1,4 +1,3 @@
--- Why the law `sent_codewords_are_the_only_best` holds.
 use Rattle.clean_link.proofs.frames.ChannelFrames.{codewords_alone, paging_codewords_alone}
 use Rattle.clean_link.proofs.laws.sent_codewords_are_the_only_best.Goals as goal
 

@@ -1,4 +1,3 @@
--- Why the law `soft_values_have_the_sent_signs` holds.
 use Rattle.clean_link.proofs.frames.ChannelFrames.{paging_signs, sent_signs, silent_paging_zero, zero_without_sync}
 use Rattle.clean_link.proofs.laws.soft_values_have_the_sent_signs.Goals as goal
 

@@ -1,4 +1,3 @@
--- Why the law `some_frames_are_distinct` holds.
 use Rattle.clean_link.proofs.traffic.HiddenCodewords.{full_rate_distinct, full_rate_frame_distinct, zeros_shared}
 use Rattle.clean_link.proofs.laws.some_frames_are_distinct.Goals as goal
 

@@ -1,4 +1,3 @@
--- Why the law `traffic_frames_come_back` holds.
 use Rattle.clean_link.proofs.traffic.Signs.{power_bits_back, sixteen_sent, traffic_shows, traffic_signs}
 use Rattle.clean_link.proofs.traffic.Frames.{each_frame_heard, frame_back, frames_decoded, sent_frames_back, none_directed}
 use Rattle.clean_link.proofs.traffic.Frames.{sent_messages_back}

@@ -1,4 +1,3 @@
--- Why the law `whole_messages_come_back` holds.
 use Rattle.clean_link.proofs.messages.MessagesBack.{messages_back}
 use Rattle.clean_link.proofs.messages.EachChannel.{no_event_directed}
 use Rattle.clean_link.proofs.laws.whole_messages_come_back.Goals as goal

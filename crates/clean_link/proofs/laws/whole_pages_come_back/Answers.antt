@@ -1,4 +1,3 @@
--- Why the law `whole_pages_come_back` holds.
 use Rattle.clean_link.proofs.pages.Back.{pages_back, signed_pages}
 use Rattle.clean_link.proofs.laws.whole_pages_come_back.Goals as goal
 

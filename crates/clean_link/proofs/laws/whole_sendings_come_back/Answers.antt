@@ -1,4 +1,3 @@
--- Why the law `whole_sendings_come_back` holds.
 use Rattle.clean_link.proofs.sendings.Heard.{sendings_back}
 use Rattle.clean_link.proofs.laws.whole_sendings_come_back.Goals as goal
 

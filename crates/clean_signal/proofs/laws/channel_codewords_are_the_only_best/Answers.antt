@@ -1,4 +1,3 @@
--- Why the law `channel_codewords_are_the_only_best` holds.
 use Rattle.clean_signal.proofs.frames.ChannelSigns.{channel_codewords}
 use Rattle.clean_signal.proofs.laws.channel_codewords_are_the_only_best.Goals as goal
 

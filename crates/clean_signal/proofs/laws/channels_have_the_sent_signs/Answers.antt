@@ -1,4 +1,3 @@
--- Why the law `channels_have_the_sent_signs` holds.
 use Rattle.clean_signal.proofs.frames.ChannelSigns.{channel_signs, early_frames, silent_rows, stream_symbols, strength_some}
 use Rattle.clean_signal.proofs.laws.channels_have_the_sent_signs.Goals as goal
 

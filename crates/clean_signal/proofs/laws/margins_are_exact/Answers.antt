@@ -1,4 +1,3 @@
--- Why the law `margins_are_exact` holds.
 use Rattle.clean_signal.proofs.noise.TakenAway.{exact, taken_away}
 use Rattle.clean_signal.proofs.laws.margins_are_exact.Goals as goal
 

@@ -1,4 +1,3 @@
--- Why the law `rounding_is_noise` holds.
 use Rattle.clean_signal.proofs.noise.Near.{near-near}
 use Rattle.clean_signal.proofs.noise.Rounding.{louder_links, none_same, other_paths, rounding}
 use Rattle.clean_signal.proofs.laws.rounding_is_noise.Goals as goal

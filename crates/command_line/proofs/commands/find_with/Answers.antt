@@ -1,7 +1,4 @@
--- Why `find_with` of `commands` keeps its contract.
-use Rattle.command_line.proofs.Common.{arith}
-use Rattle.std.proofs.lemmas.Grind.{common_steps}
-use Rattle.std.proofs.lemmas.Int.{ints}
+use Rattle.command_line.proofs.Common.{arith, common_steps, ints}
 use Rattle.command_line.proofs.commands.find_with.Goals as goal
 
 pub returns-in_err-span-clause-lawful : goal.returns-in_err-span-clause-lawful

@@ -1,4 +1,3 @@
--- Why `command_of` of `job` keeps its contract.
 use Rattle.command_line.proofs.Common.{◌≡◌, ◌∙◌, Option, ap, map, option_and_then, refl, string_bytes, sym, IfOk-weaker, CommandEntry}
 use Rattle.command_line.proofs.Common.{command_entry, job_after, job_by}
 use Rattle.command_line.proofs.job.command_of.Goals as goal

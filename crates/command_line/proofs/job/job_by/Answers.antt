@@ -1,10 +1,6 @@
--- Why `job_by` of `job` keeps its contract.
-use Rattle.command_line.proofs.Common.{arith}
-use Rattle.std.proofs.lemmas.Grind.{common_steps}
-use Rattle.std.proofs.lemmas.Int.{ints}
-use Rattle.command_line.proofs.Common.{◌≡◌, ◌∙◌, List, [], Option, Some, Err, ap, is_some, map, refl, not, ok_or, rules, string_bytes, sym}
-use Rattle.command_line.proofs.Common.{found_of, Job, Bad, OutOfMemory, OptionEntry, command_entry, given_after, job_by}
-use Rattle.clap.specs.Words.{first_value}
+use Rattle.command_line.proofs.Common.{arith, common_steps, ints, ◌≡◌, ◌∙◌, List, [], Option, Some, Err, ap, is_some, map, refl, not, ok_or}
+use Rattle.command_line.proofs.Common.{rules, string_bytes, sym, found_of, Job, Bad, OutOfMemory, OptionEntry, command_entry, given_after}
+use Rattle.command_line.proofs.Common.{job_by, first_value}
 use Rattle.command_line.proofs.ArgJobs.{AreLawful, bad_where, job_found, job_none, job_read, job_where, none_where, not_bad}
 use Rattle.command_line.proofs.job.job_by.Goals.{After-is_none, After-ok_or}
 use Rattle.command_line.proofs.job.job_by.Goals as goal

@@ -1,4 +1,3 @@
--- Why `words_of` of `job` keeps its contract.
 use Rattle.command_line.proofs.Common.{◌≡◌, ◌∙◌, ap, map, refl, rules, string_bytes, sym, IfOk-weaker, Text, job_after, job_named}
 use Rattle.command_line.proofs.ArgJobs.{command_first, no_args}
 use Rattle.command_line.proofs.job.words_of.Goals as goal

@@ -1,4 +1,3 @@
--- Why `command_by` of `matching` keeps its contract.
 use Rattle.command_line.proofs.Common.{◌≡◌, ◌+◌, ◌∙◌, drop, get_or, map, sym, ap, rules, arith, drop_all, length-map, App, app_of, rule_of}
 use Rattle.command_line.proofs.Common.{with_rule, app_from, entry_of, rule_by}
 use Rattle.command_line.proofs.ArgTests.{item_first, no_rule}

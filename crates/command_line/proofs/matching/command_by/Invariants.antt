@@ -1,4 +1,3 @@
--- What each pass of the loops in `command_by` of `matching` keeps, and why they end.
 use Rattle.command_line.proofs.Common.{◌≡◌, drop, map, app_of, app_from, bare_app, entry_of}
 use Rattle.command_line.proofs.matching.command_by.Given as goal
 

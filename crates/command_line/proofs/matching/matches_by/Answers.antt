@@ -1,7 +1,5 @@
--- Why `matches_by` of `matching` keeps its contract.
 use Rattle.command_line.proofs.Common.{◌≡◌, ◌∙◌, map, ap, string_bytes, IfErr-weaker, IfOk-weaker, is_simple, matches_of, App, app_of}
-use Rattle.command_line.proofs.Common.{found_of, entry_of}
-use Rattle.clap.specs.Words.{takes}
+use Rattle.command_line.proofs.Common.{found_of, entry_of, takes}
 use Rattle.command_line.proofs.ArgApps.{app_bare, app_built, app_simple, arg_app}
 use Rattle.command_line.proofs.ArgJobs.{given_of}
 use Rattle.command_line.proofs.ArgWalks.{finds_args, takes_args, value_is}

@@ -1,7 +1,4 @@
--- Why `channel_with` of `receiving` keeps its contract.
-use Rattle.command_line.proofs.Common.{arith}
-use Rattle.std.proofs.lemmas.Grind.{common_steps}
-use Rattle.std.proofs.lemmas.Int.{ints}
+use Rattle.command_line.proofs.Common.{arith, common_steps, ints}
 use Rattle.command_line.proofs.receiving.channel_with.Goals as goal
 
 pub returns-clause-lawful : goal.returns-clause-lawful

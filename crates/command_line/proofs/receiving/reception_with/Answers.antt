@@ -1,7 +1,4 @@
--- Why `reception_with` of `receiving` keeps its contract.
-use Rattle.command_line.proofs.Common.{arith}
-use Rattle.std.proofs.lemmas.Grind.{common_steps}
-use Rattle.std.proofs.lemmas.Int.{ints}
+use Rattle.command_line.proofs.Common.{arith, common_steps, ints}
 use Rattle.command_line.proofs.receiving.reception_with.Goals as goal
 
 pub returns-in_err-fingers-clause-lawful : goal.returns-in_err-fingers-clause-lawful

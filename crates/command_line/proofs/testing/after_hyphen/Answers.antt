@@ -1,4 +1,3 @@
--- Why `after_hyphen` of `testing` keeps its contract.
 use Rattle.command_line.proofs.Common.{arith, strip_prefix_char, strip_byte-from}
 use Rattle.command_line.proofs.testing.after_hyphen.Goals as goal
 

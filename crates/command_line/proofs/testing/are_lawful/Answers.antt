@@ -1,8 +1,5 @@
--- Why `are_lawful` of `testing` keeps its contract.
-use Rattle.std.proofs.lemmas.Grind.{common_steps}
-use Rattle.std.proofs.lemmas.Int.{ints}
-use Rattle.command_line.proofs.Common.{◌≡◌, ◌∙◌, ◌<◌, ◌≤◌, None, Some, arith, ap, drop, length, map, refl, string_bytes, sym}
-use Rattle.command_line.proofs.Common.{length-drop, length-map, is_named_in, part_of, entry_of}
+use Rattle.command_line.proofs.Common.{common_steps, ints, ◌≡◌, ◌∙◌, ◌<◌, ◌≤◌, None, Some, arith, ap, drop, length, map, refl, string_bytes}
+use Rattle.command_line.proofs.Common.{sym, length-drop, length-map, is_named_in, part_of, entry_of}
 use Rattle.command_line.proofs.ArgTests.{Part, stands_last, stands_missing, stands_next, stands_refused, stands_twice, texts_before}
 use Rattle.command_line.proofs.ArgTests.{texts_after}
 use Rattle.command_line.proofs.testing.are_lawful.Goals.{In-Some}

@@ -1,4 +1,3 @@
--- What each pass of the loops in `are_lawful` of `testing` keeps, and why they end.
 use Rattle.command_line.proofs.Common.{length, ◌-◌, map, string_bytes, entry_of}
 use Rattle.command_line.proofs.ArgTests.{Stands}
 use Rattle.command_line.proofs.testing.are_lawful.Given as goal

@@ -1,7 +1,4 @@
--- Why `first_part` of `testing` keeps its contract.
-use Rattle.command_line.proofs.Common.{arith}
-use Rattle.std.proofs.lemmas.Grind.{common_steps}
-use Rattle.std.proofs.lemmas.Int.{ints}
+use Rattle.command_line.proofs.Common.{arith, common_steps, ints}
 use Rattle.command_line.proofs.testing.first_part.Goals as goal
 
 pub returns-clause-value : goal.returns-clause-value

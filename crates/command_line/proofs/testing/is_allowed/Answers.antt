@@ -1,8 +1,5 @@
--- Why `is_allowed` of `testing` keeps its contract.
-use Rattle.command_line.proofs.Common.{arith}
-use Rattle.std.proofs.lemmas.Grind.{common_steps}
-use Rattle.std.proofs.lemmas.Int.{ints}
-use Rattle.command_line.proofs.Common.{◌+◌, ◌∙◌, List, ap, drop, is_some, map, sym, OptionEntry, is_allowed, entry_of}
+use Rattle.command_line.proofs.Common.{arith, common_steps, ints, ◌+◌, ◌∙◌, List, ap, drop, is_some, map, sym, OptionEntry, is_allowed}
+use Rattle.command_line.proofs.Common.{entry_of}
 use Rattle.command_line.proofs.ArgTests.{item_first, no_rule, rule_elsewhere, rule_here}
 use Rattle.command_line.proofs.testing.is_allowed.Goals as goal
 

@@ -1,4 +1,3 @@
--- What each pass of the loops in `is_allowed` of `testing` keeps, and why they end.
 use Rattle.command_line.proofs.Common.{◌≡◌, drop, map, is_allowed, entry_of}
 use Rattle.command_line.proofs.testing.is_allowed.Given as goal
 

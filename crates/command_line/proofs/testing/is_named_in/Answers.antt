@@ -1,4 +1,3 @@
--- Why `is_named_in` of `testing` keeps its contract.
 use Rattle.command_line.proofs.Common.{◌+◌, ◌∙◌, ◌||◌, Bool, String, Global, drop, map, string_bytes, sym, ap, is_named_in, names}
 use Rattle.command_line.proofs.ArgTests.{item_first}
 use Rattle.command_line.proofs.testing.is_named_in.Goals as goal

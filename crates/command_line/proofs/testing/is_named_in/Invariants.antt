@@ -1,4 +1,3 @@
--- What each pass of the loops in `is_named_in` of `testing` keeps, and why they end.
 use Rattle.command_line.proofs.Common.{◌≡◌, drop, map, string_bytes, is_named_in}
 use Rattle.command_line.proofs.testing.is_named_in.Given as goal
 

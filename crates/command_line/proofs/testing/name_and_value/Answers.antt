@@ -1,7 +1,4 @@
--- Why `name_and_value` of `testing` keeps its contract.
-use Rattle.std.proofs.lemmas.Grind.{common_steps}
-use Rattle.std.proofs.lemmas.Int.{ints}
-use Rattle.command_line.proofs.Common.{None, arith, sym, split_parts, name_and_value-without}
+use Rattle.command_line.proofs.Common.{common_steps, ints, None, arith, sym, split_parts, name_and_value-without}
 use Rattle.command_line.proofs.testing.name_and_value.Goals as goal
 
 pub returns-in-None : goal.returns-in-None

@@ -1,6 +1,5 @@
--- Why `text_in` of `testing` keeps its contract.
-use Rattle.command_line.proofs.Common.{◌≡◌, ◌∙◌, ◌<◌, ◌≤◌, List, ap, arith, length, map, option_map, string_bytes, sym, true, false}
-use Rattle.command_line.proofs.Common.{drop_all, length-map, Text, names, part_of, text_in}
+use Rattle.command_line.proofs.Common.{◌≡◌, ◌∙◌, ◌<◌, ◌≤◌, List, ap, arith, length, map, option_map, string_bytes, sym, true, false, Text}
+use Rattle.command_line.proofs.Common.{drop_all, length-map, names, part_of, text_in}
 use Rattle.command_line.proofs.ArgTests.{text_here, text_there, texts_after}
 use Rattle.command_line.proofs.testing.text_in.Goals as goal
 

@@ -1,4 +1,3 @@
--- What each pass of the loops in `text_in` of `testing` keeps, and why they end.
 use Rattle.command_line.proofs.Common.{◌≡◌, drop, map, string_bytes, text_in}
 use Rattle.command_line.proofs.testing.text_in.Given as goal
 

@@ -1,8 +1,6 @@
--- Why `encode_into` of `encoding` keeps its contract.
-use Rattle.std.proofs.lemmas.Grind.{common_steps}
-use Rattle.std.proofs.lemmas.Int.{ints}
-use Rattle.conv_code.proofs.Common.{◌≡◌, ◌+◌, ◌++◌, [], ◌∷◌, take, length, length-append, sym, ap, ◌∙◌, arith, binary, code_symbols}
+use Rattle.conv_code.proofs.Common.{ints, ◌≡◌, ◌+◌, ◌++◌, [], ◌∷◌, take, length, length-append, sym, ap, ◌∙◌, arith, binary, code_symbols}
 use Rattle.conv_code.proofs.Common.{state_after, taken_more}
+use Rattle.std.proofs.lemmas.Grind.{common_steps}
 use Rattle.conv_code.proofs.Continued.{code_symbols-none, state_after-none}
 use Rattle.conv_code.proofs.Loops.{symbols_more, state_more, two_appended}
 use Rattle.conv_code.proofs.encoding.encode_into.Goals as goal

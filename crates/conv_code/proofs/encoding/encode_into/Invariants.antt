@@ -1,4 +1,3 @@
--- What each pass of the loops in `encode_into` of `encoding` keeps, and why they end.
 use Rattle.conv_code.proofs.Common.{◌≡◌, ◌*◌, length, take, binary, code_symbols, state_after}
 use Rattle.conv_code.proofs.encoding.encode_into.Given as goal
 

@@ -1,4 +1,3 @@
--- Why `bit_for` of `inversion` keeps its contract.
 use Rattle.conv_code.proofs.Common.{binary, length-binary}
 use Rattle.conv_code.proofs.Loops.{bit_for}
 use Rattle.conv_code.proofs.inversion.bit_for.Goals as goal

@@ -1,8 +1,6 @@
--- Why `bits_from` of `inversion` keeps its contract.
-use Rattle.std.proofs.lemmas.Grind.{common_steps}
-use Rattle.std.proofs.lemmas.Int.{ints}
-use Rattle.conv_code.proofs.Common.{◌≡◌, ◌*◌, ◌+◌, ◌<◌, ◌++◌, Bool, List, false, [], ◌∷◌, take, length, get_or, sym, ap, ◌∙◌, arith}
+use Rattle.conv_code.proofs.Common.{ints, ◌≡◌, ◌*◌, ◌+◌, ◌<◌, ◌++◌, Bool, List, false, [], ◌∷◌, take, length, get_or, sym, ap, ◌∙◌, arith}
 use Rattle.conv_code.proofs.Common.{length_push, take_more, get_or_from_slice_get, binary, g0, g1, symbol, code_symbols, state_after}
+use Rattle.std.proofs.lemmas.Grind.{common_steps}
 use Rattle.conv_code.proofs.Continued.{code_symbols-none, state_after-none}
 use Rattle.conv_code.proofs.Pairs.{AreAt, take_pair}
 use Rattle.conv_code.proofs.Loops.{symbols_more, state_more, codeword_at, both_same, not_both, within_codeword}

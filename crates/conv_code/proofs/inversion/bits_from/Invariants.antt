@@ -1,4 +1,3 @@
--- What each pass of the loops in `bits_from` of `inversion` keeps, and why they end.
 use Rattle.conv_code.proofs.Common.{◌≡◌, ◌*◌, Bool, List, length, take, binary, code_symbols, state_after}
 use Rattle.conv_code.proofs.inversion.bits_from.Given as goal
 

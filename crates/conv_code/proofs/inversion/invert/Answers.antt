@@ -1,4 +1,3 @@
--- Why `invert` of `inversion` keeps its contract.
 use Rattle.conv_code.proofs.Common.{◌≡◌, ◌∙◌, ap, sym, List, Bool, binary, code_symbols, length-binary}
 use Rattle.conv_code.proofs.inversion.invert.Goals as goal
 

@@ -1,4 +1,3 @@
--- Why `start_of` of `inversion` keeps its contract.
 use Rattle.conv_code.proofs.Common.{◌≡◌, ◌∙◌, ◌<◌, ℕ, [], map, sym, ap, arith, false, get_or, binary, parity, length-binary}
 use Rattle.conv_code.proofs.Solved.{solutions}
 use Rattle.conv_code.proofs.Starts.{start_entry, eight_entries, eight_pushed}

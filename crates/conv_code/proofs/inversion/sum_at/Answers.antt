@@ -1,4 +1,3 @@
--- Why `sum_at` of `inversion` keeps its contract.
 use Rattle.conv_code.proofs.Common.{◌∙◌, ℕ, false, get_or, parity_done}
 use Rattle.conv_code.proofs.Loops.{sum_more}
 use Rattle.conv_code.proofs.inversion.sum_at.Goals as goal

@@ -1,4 +1,3 @@
--- What each pass of the loops in `sum_at` of `inversion` keeps, and why they end.
 use Rattle.conv_code.proofs.Common.{◌≡◌, false, get_or, drop, map, xor, parity}
 use Rattle.conv_code.proofs.inversion.sum_at.Given as goal
 

@@ -1,4 +1,3 @@
--- Why the law `symbols_continue` holds.
 use Rattle.conv_code.proofs.Continued.{continued}
 use Rattle.conv_code.proofs.laws.symbols_continue.Goals as goal
 

@@ -1,4 +1,3 @@
--- Why the law `symbols_fix_the_bits` holds.
 use Rattle.conv_code.proofs.Distinct.{distinct}
 use Rattle.conv_code.proofs.laws.symbols_fix_the_bits.Goals as goal
 

@@ -1,9 +1,5 @@
--- Why `append_items` of `items` keeps its contract.
-use Rattle.std.proofs.lemmas.Grind.{common_steps}
-use Rattle.std.proofs.lemmas.Int.{ints}
-use Rattle.std.proofs.Common.{◌<◌, ◌++◌, length, get_or, take, [], sym, ap, ◌∙◌, arith}
-use Rattle.std.proofs.lemmas.List.{length-take-le, take_more}
-use Rattle.event_tap.specs.Parts.{commas}
+use Rattle.event_tap.proofs.Common.{common_steps, ints, ◌<◌, ◌++◌, length, get_or, take, [], sym, ap, ◌∙◌, arith, length-take-le, take_more}
+use Rattle.event_tap.proofs.Common.{commas}
 use Rattle.event_tap.proofs.PartTexts.{comma_item, no_items}
 use Rattle.event_tap.proofs.items.append_items.Goals as goal
 

@@ -1,6 +1,4 @@
--- What each pass of the loops in `append_items` of `items` keeps, and why they end.
-use Rattle.std.proofs.Common.{◌≡◌, ◌≤◌, ◌+◌, ◌*◌, ◌++◌, length, take}
-use Rattle.event_tap.specs.Parts.{commas}
+use Rattle.event_tap.proofs.Common.{◌≡◌, ◌≤◌, ◌+◌, ◌*◌, ◌++◌, length, take, commas}
 use Rattle.event_tap.proofs.items.append_items.Given as goal
 
 abbrev pub invariant-loop-i : goal.invariant-loop-i

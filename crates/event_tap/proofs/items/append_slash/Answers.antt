@@ -1,7 +1,4 @@
--- Why `append_slash` of `items` keeps its contract.
-use Rattle.std.proofs.Common.{arith}
-use Rattle.std.proofs.lemmas.Grind.{elements}
-use Rattle.std.proofs.lemmas.Int.{ints}
+use Rattle.event_tap.proofs.Common.{arith, elements, ints}
 use Rattle.event_tap.proofs.items.append_slash.Goals as goal
 
 pub returns-then-i-len-clause-value : goal.returns-then-i-len-clause-value

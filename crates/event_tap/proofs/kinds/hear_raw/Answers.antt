@@ -1,7 +1,4 @@
--- Why `hear_raw` of `kinds` keeps its contract.
-use Rattle.std.proofs.Common.{arith}
-use Rattle.std.proofs.lemmas.Grind.{common_steps}
-use Rattle.std.proofs.lemmas.Int.{ints}
+use Rattle.event_tap.proofs.Common.{arith, common_steps, ints}
 use Rattle.event_tap.proofs.kinds.hear_raw.Goals as goal
 
 pub returns-clause-left : goal.returns-clause-left

@@ -1,4 +1,3 @@
--- Why the law `no_tap_writes_nothing` holds.
 use Rattle.event_tap.proofs.Runs.{run_text-no_taps}
 use Rattle.event_tap.proofs.laws.no_tap_writes_nothing.Goals as goal
 

@@ -1,4 +1,3 @@
--- Why the law `plain_taps_write_each_line_once` holds.
 use Rattle.event_tap.proofs.Runs.{plain_text-forms}
 use Rattle.event_tap.proofs.laws.plain_taps_write_each_line_once.Goals as goal
 

@@ -1,4 +1,3 @@
--- Why the law `taps_hear_the_first_events` holds.
 use Rattle.event_tap.proofs.Runs.{run_text-single}
 use Rattle.event_tap.proofs.laws.taps_hear_the_first_events.Goals as goal
 

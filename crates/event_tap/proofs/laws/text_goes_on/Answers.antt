@@ -1,4 +1,3 @@
--- Why the law `text_goes_on` holds.
 use Rattle.event_tap.proofs.Runs.{run_taps-append, run_text-append}
 use Rattle.event_tap.proofs.laws.text_goes_on.Goals as goal
 

@@ -1,7 +1,4 @@
--- Why `append_pilot` of `line` keeps its contract.
-use Rattle.std.proofs.Common.{arith}
-use Rattle.std.proofs.lemmas.Grind.{common_steps}
-use Rattle.std.proofs.lemmas.Int.{ints}
+use Rattle.event_tap.proofs.Common.{arith, common_steps, ints}
 use Rattle.event_tap.proofs.line.append_pilot.Goals as goal
 
 pub append_named-requires-clause-ascii : goal.append_named-requires-clause-ascii

@@ -1,7 +1,4 @@
--- Why `append_paging` of `paging` keeps its contract.
-use Rattle.std.proofs.Common.{arith}
-use Rattle.std.proofs.lemmas.Grind.{common_steps}
-use Rattle.std.proofs.lemmas.Int.{ints}
+use Rattle.event_tap.proofs.Common.{arith, common_steps, ints}
 use Rattle.paging_message.specs.Messages.{paging_kind_of}
 use Rattle.event_tap.proofs.SaidTexts.{paging_lines}
 use Rattle.event_tap.proofs.paging.append_paging.Goals as goal

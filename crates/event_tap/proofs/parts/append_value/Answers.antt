@@ -1,7 +1,4 @@
--- Why `append_value` of `parts` keeps its contract.
-use Rattle.std.proofs.lemmas.Grind.{common_steps}
-use Rattle.std.proofs.lemmas.Int.{ints}
-use Rattle.std.proofs.Common.{length, ap, arith}
+use Rattle.event_tap.proofs.Common.{common_steps, ints, length, ap, arith}
 use Rattle.event_tap.proofs.PartTexts.{length-named}
 use Rattle.event_tap.proofs.parts.append_value.Goals as goal
 

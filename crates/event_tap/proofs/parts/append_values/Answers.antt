@@ -1,9 +1,4 @@
--- Why `append_values` of `parts` keeps its contract.
-use Rattle.std.proofs.lemmas.Grind.{common_steps}
-use Rattle.std.proofs.lemmas.Int.{ints}
-use Rattle.std.proofs.Common.{length, map, sym, ap, subst, arith}
-use Rattle.std.proofs.lemmas.List.{length-map}
-use Rattle.std.specs.Str.{IsAscii}
+use Rattle.event_tap.proofs.Common.{common_steps, ints, length, map, sym, ap, subst, arith, length-map, IsAscii}
 use Rattle.event_tap.proofs.PartTexts.{name_ascii, name_short, no_values, value_after, value_short}
 use Rattle.event_tap.proofs.parts.append_values.Goals as goal
 

@@ -1,6 +1,4 @@
--- What each pass of the loops in `append_values` of `parts` keeps, and why they end.
-use Rattle.std.proofs.Common.{◌≡◌, ◌≤◌, ◌+◌, ◌*◌, ◌++◌, length, map, take}
-use Rattle.event_tap.specs.Parts.{named_values}
+use Rattle.event_tap.proofs.Common.{◌≡◌, ◌≤◌, ◌+◌, ◌*◌, ◌++◌, length, map, take, named_values}
 use Rattle.event_tap.proofs.parts.append_values.Given as goal
 
 abbrev pub invariant-loop-i : goal.invariant-loop-i

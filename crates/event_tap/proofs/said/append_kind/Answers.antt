@@ -1,8 +1,4 @@
--- Why `append_kind` of `said` keeps its contract.
-use Rattle.std.proofs.Common.{arith}
-use Rattle.std.proofs.lemmas.Grind.{common_steps}
-use Rattle.std.proofs.lemmas.Int.{ints}
-use Rattle.event_tap.specs.SaidTexts.{kind_text}
+use Rattle.event_tap.proofs.Common.{arith, common_steps, ints, kind_text}
 use Rattle.event_tap.proofs.said.append_kind.Goals as goal
 
 pub returns-clause-value : goal.returns-clause-value

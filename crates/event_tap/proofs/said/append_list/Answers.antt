@@ -1,14 +1,8 @@
--- Why `append_list` of `said` keeps its contract.
-use Rattle.std.proofs.lemmas.Grind.{common_steps}
-use Rattle.std.proofs.lemmas.Int.{ints}
-use Rattle.std.proofs.Common.{◌*◌, ◌≤◌, length, map, ap, arith}
+use Rattle.event_tap.proofs.Common.{common_steps, ints, ◌*◌, ◌≤◌, length, map, ap, arith, height_at, height, record_bytes}
 use Rattle.std.proofs.Math.Nat.{mul-le-mul_left}
-use Rattle.message_layout.proofs.Columns.{height_at}
-use Rattle.message_layout.specs.Contents.{height}
 use Rattle.event_tap.proofs.PartTexts.{length-named}
-use Rattle.event_tap.specs.SaidTexts.{record_bytes}
-use Rattle.event_tap.proofs.said.append_list.Goals as goal
 use Rattle.event_tap.proofs.said.append_list.Goals.{After-append_name}
+use Rattle.event_tap.proofs.said.append_list.Goals as goal
 
 -- there are at most 128 records
 few : (c : After-append_name) →

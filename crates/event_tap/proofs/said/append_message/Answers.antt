@@ -1,4 +1,3 @@
--- Why `append_message` of `said` keeps its contract.
 use Rattle.event_tap.proofs.SaidTexts.{is_shown}
 use Rattle.event_tap.proofs.said.append_message.Goals as goal
 

@@ -1,11 +1,5 @@
--- Why `append_said` of `said` keeps its contract.
-use Rattle.std.proofs.Common.{arith}
-use Rattle.std.proofs.lemmas.Grind.{common_steps}
-use Rattle.std.proofs.lemmas.Int.{ints}
-use Rattle.std.proofs.Common.{◌++◌, ap, ◌∙◌, codes}
+use Rattle.event_tap.proofs.Common.{arith, common_steps, ints, ◌++◌, ap, ◌∙◌, codes, named_values, rest_text, list_text, said_text}
 use Rattle.event_tap.proofs.SaidTexts.{in_front}
-use Rattle.event_tap.specs.Parts.{named_values, rest_text}
-use Rattle.event_tap.specs.SaidTexts.{list_text, said_text}
 use Rattle.message_layout.specs.Shapes.{line_names, shape}
 use Rattle.event_tap.proofs.said.append_said.Goals as goal
 

@@ -1,7 +1,4 @@
--- Why `append_time` of `sync` keeps its contract.
-use Rattle.std.proofs.Common.{arith}
-use Rattle.std.proofs.lemmas.Grind.{common_steps}
-use Rattle.std.proofs.lemmas.Int.{ints}
+use Rattle.event_tap.proofs.Common.{arith, common_steps, ints}
 use Rattle.event_tap.proofs.sync.append_time.Goals as goal
 
 pub returns-clause-value : goal.returns-clause-value

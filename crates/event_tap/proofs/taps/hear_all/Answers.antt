@@ -1,7 +1,4 @@
--- Why `hear_all` of `taps` keeps its contract.
-use Rattle.std.proofs.lemmas.Grind.{common_steps}
-use Rattle.std.proofs.lemmas.Int.{ints}
-use Rattle.std.proofs.Common.{rules, ◌≤◌, ◌<◌, arith, length, None}
+use Rattle.event_tap.proofs.Common.{common_steps, ints, rules, ◌≤◌, ◌<◌, arith, length, None}
 use Rattle.std.proofs.lemmas.Result.{err_from_is_err_and}
 use Rattle.event_tap.proofs.TapLists.{has_heard, hearing_kept, hearing_done, hearing_failed, hearing_none, unwritten, All-seen-back}
 use Rattle.event_tap.proofs.taps.hear_all.Goals.{in-Keep, in-Done}

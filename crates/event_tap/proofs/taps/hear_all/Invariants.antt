@@ -1,5 +1,4 @@
--- What each pass of the loops in `hear_all` of `taps` keeps, and why they end.
-use Rattle.std.proofs.Common.{◌-◌, ◌≤◌, length}
+use Rattle.event_tap.proofs.Common.{◌-◌, ◌≤◌, length}
 use Rattle.event_tap.proofs.TapLists.{IsHearing}
 use Rattle.event_tap.proofs.taps.hear_all.Given as goal
 

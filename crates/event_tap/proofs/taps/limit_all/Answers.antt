@@ -1,7 +1,4 @@
--- Why `limit_all` of `taps` keeps its contract.
-use Rattle.std.proofs.Common.{arith}
-use Rattle.std.proofs.lemmas.Grind.{common_steps}
-use Rattle.std.proofs.lemmas.Int.{ints}
+use Rattle.event_tap.proofs.Common.{arith, common_steps, ints}
 use Rattle.event_tap.proofs.taps.limit_all.Goals as goal
 
 pub loop-place-smaller-then-has_limit : goal.loop-place-smaller-then-has_limit

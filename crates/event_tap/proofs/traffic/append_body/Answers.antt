@@ -1,4 +1,3 @@
--- Why `append_body` of `traffic` keeps its contract.
 use Rattle.traffic_message.proofs.ByLayout.{laid}
 use Rattle.event_tap.proofs.TrafficTexts.{traffic_lines}
 use Rattle.event_tap.proofs.traffic.append_body.Goals as goal

@@ -1,7 +1,4 @@
--- Why `append_direction` of `traffic` keeps its contract.
-use Rattle.std.proofs.Common.{arith}
-use Rattle.std.proofs.lemmas.Grind.{common_steps}
-use Rattle.std.proofs.lemmas.Int.{ints}
+use Rattle.event_tap.proofs.Common.{arith, common_steps, ints}
 use Rattle.traffic_message.proofs.ByLayout.{search_fits}
 use Rattle.event_tap.proofs.TrafficTexts.{listed_records}
 use Rattle.event_tap.proofs.traffic.append_direction.Goals as goal

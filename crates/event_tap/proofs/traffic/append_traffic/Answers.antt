@@ -1,5 +1,4 @@
--- Why `append_traffic` of `traffic` keeps its contract.
-use Rattle.std.proofs.Common.{sym}
+use Rattle.event_tap.proofs.Common.{sym}
 use Rattle.event_tap.proofs.TrafficTexts.{few_records_in}
 use Rattle.event_tap.proofs.traffic.append_traffic.Goals as goal
 

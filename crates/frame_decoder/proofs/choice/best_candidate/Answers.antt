@@ -1,4 +1,3 @@
--- Why `best_candidate` of `choice` keeps its contract.
 use Rattle.frame_decoder.proofs.Common.{◌≤◌, ◌∙◌, arith, refl, sym, subst, length, get_or, IsFormat, bits_in, candidate_in}
 use Rattle.frame_decoder.proofs.FormatChoice.{candidate_is, rising_more, rising_end}
 use Rattle.frame_decoder.proofs.choice.best_candidate.Goals as goal

@@ -1,4 +1,3 @@
--- What each pass of the loops in `best_candidate` of `choice` keeps, and why they end.
 use Rattle.frame_decoder.proofs.Common.{◌≡◌, drop, map, None, candidate_in, rising_choice}
 use Rattle.frame_decoder.proofs.choice.best_candidate.Given as goal
 

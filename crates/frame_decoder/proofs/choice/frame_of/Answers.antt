@@ -1,4 +1,3 @@
--- Why `frame_of` of `choice` keeps its contract.
 use Rattle.frame_decoder.proofs.FormatChoice.{candidate_is, frame_is}
 use Rattle.frame_decoder.proofs.choice.frame_of.Goals as goal
 

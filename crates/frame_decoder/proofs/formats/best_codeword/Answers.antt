@@ -1,6 +1,5 @@
--- Why `best_codeword` of `formats` keeps its contract.
-use Rattle.frame_decoder.proofs.Common.{◌≡◌, ◌≤◌, ap, ◌∙◌, length, rules, List, ℤ, FitsSigned, w64, to_z-of_z, Codeword, score_of}
-use Rattle.frame_decoder.proofs.Common.{IsBestCodeword, spelled_codeword, Zero, gathered_in, codeword_in}
+use Rattle.frame_decoder.proofs.Common.{◌≡◌, ◌≤◌, ap, ◌∙◌, length, rules, List, ℤ, FitsSigned, w64, to_z-of_z, Codeword, score_of, Zero}
+use Rattle.frame_decoder.proofs.Common.{IsBestCodeword, spelled_codeword, gathered_in, codeword_in}
 use Rattle.frame_decoder.proofs.Unreplaced.{first_zeros_read}
 use Rattle.frame_decoder.proofs.FormatCodewords.{best_is, gathered_score, length-codeword_in}
 use Rattle.frame_decoder.proofs.formats.best_codeword.Goals as goal

@@ -1,4 +1,3 @@
--- Why `is_right` of `formats` keeps its contract.
 use Rattle.frame_decoder.proofs.Common.{◌-◌, ap, ℕ}
 use Rattle.frame_decoder.proofs.FormatCodewords.{always_right, check_fits, right_is}
 use Rattle.frame_decoder.proofs.formats.is_right.Goals as goal

@@ -1,4 +1,3 @@
--- Why the law `nothing_heard_is_not_good` holds.
 use Rattle.frame_decoder.proofs.NothingHeard.{nothing_good}
 use Rattle.frame_decoder.proofs.laws.nothing_heard_is_not_good.Goals as goal
 

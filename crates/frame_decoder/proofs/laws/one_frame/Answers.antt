@@ -1,4 +1,3 @@
--- Why the law `one_frame` holds.
 use Rattle.frame_decoder.proofs.OneFrame.{one_frame}
 use Rattle.frame_decoder.proofs.laws.one_frame.Goals as goal
 

@@ -1,4 +1,3 @@
--- Why the law `sent_frame_is_decoded` holds.
 use Rattle.frame_decoder.proofs.SentFrames.{sent_frame}
 use Rattle.frame_decoder.proofs.laws.sent_frame_is_decoded.Goals as goal
 

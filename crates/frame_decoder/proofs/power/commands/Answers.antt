@@ -1,4 +1,3 @@
--- Why `commands` of `power` keeps its contract.
 use Rattle.frame_decoder.proofs.Common.{◌<◌, ◌∙◌, ap, ℕ, length, not, false, arith, take, length-set, map-places-all, summed_subchannels}
 use Rattle.frame_decoder.proofs.Common.{is_up, power_bit}
 use Rattle.frame_decoder.proofs.PowerSums.{set_more}

@@ -1,4 +1,3 @@
--- What each pass of the loops in `commands` of `power` keeps, and why they end.
 use Rattle.frame_decoder.proofs.Common.{◌≡◌, ◌<◌, ℕ, length, get_or, false, summed_subchannels, power_bit}
 use Rattle.frame_decoder.proofs.power.commands.Given as goal
 

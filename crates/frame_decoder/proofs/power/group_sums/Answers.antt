@@ -1,4 +1,3 @@
--- Why `group_sums` of `power` keeps its contract.
 use Rattle.frame_decoder.proofs.Common.{◌≡◌, ◌<◌, ◌∙◌, length, get_or, pos, arith, rules, length-set, map-places-all, added_fits, stored_is}
 use Rattle.frame_decoder.proofs.Common.{group_sum}
 use Rattle.frame_decoder.proofs.PowerSums.{set_more, pair_small, pair_is}

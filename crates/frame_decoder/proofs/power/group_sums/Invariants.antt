@@ -1,4 +1,3 @@
--- What each pass of the loops in `group_sums` of `power` keeps, and why they end.
 use Rattle.frame_decoder.proofs.Common.{◌≡◌, ◌<◌, ℕ, length, get_or, pos, group_sum}
 use Rattle.frame_decoder.proofs.power.group_sums.Given as goal
 

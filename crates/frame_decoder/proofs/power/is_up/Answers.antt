@@ -1,4 +1,3 @@
--- Why `is_up` of `power` keeps its contract.
 use Rattle.frame_decoder.proofs.Common.{◌<◌, ◌∙◌, ap, sym, Bool, List, ℤ, [], length, get_or, pos, ◌&&◌, int_lt, list_all_more}
 use Rattle.frame_decoder.proofs.power.is_up.Goals as goal
 

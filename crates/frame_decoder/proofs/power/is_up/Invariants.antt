@@ -1,4 +1,3 @@
--- What each pass of the loops in `is_up` of `power` keeps, and why they end.
 use Rattle.frame_decoder.proofs.Common.{◌≡◌, take, is_up}
 use Rattle.frame_decoder.proofs.power.is_up.Given as goal
 

@@ -1,4 +1,3 @@
--- Why `clear_at` of `replaced` keeps its contract.
 use Rattle.frame_decoder.proofs.Common.{◌≡◌, sym, ap, pos, arith, length, set, rules, set_past}
 use Rattle.frame_decoder.proofs.replaced.clear_at.Goals as goal
 

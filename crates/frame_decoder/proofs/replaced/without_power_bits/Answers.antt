@@ -1,4 +1,3 @@
--- Why `without_power_bits` of `replaced` keeps its contract.
 use Rattle.frame_decoder.proofs.Common.{◌<◌, ℕ, List, ℤ, take, ap, ◌∙◌, arith, pos, sym, set, get_or, length, rules, take_more, unreplaced}
 use Rattle.frame_decoder.proofs.Unreplaced.{none_replaced, one_replaced, one_small}
 use Rattle.frame_decoder.proofs.replaced.without_power_bits.Goals as goal

@@ -1,4 +1,3 @@
--- What each pass of the loops in `without_power_bits` of `replaced` keeps, and why they end.
 use Rattle.frame_decoder.proofs.Common.{◌≡◌, ◌≤◌, sum_by, unsigned_abs, take, unreplaced}
 use Rattle.frame_decoder.proofs.replaced.without_power_bits.Given as goal
 

@@ -1,4 +1,3 @@
--- Why `bits_of` of `span` keeps its contract.
 use Rattle.frame_decoder.proofs.Common.{◌≡◌, ◌*◌, ℕ, length, take, drop, ap, ◌∙◌, arith, rules, IsBestCodeword, spelled_codeword, Codeword}
 use Rattle.frame_decoder.proofs.Common.{Free, channel_of, gathered_span, length-take-le, length-drop}
 use Rattle.frame_decoder.proofs.Gathered.{length-gathered_span}

@@ -1,4 +1,3 @@
--- Why `gather_span` of `span` keeps its contract.
 use Rattle.frame_decoder.proofs.Common.{rules, ◌≡◌, ◌<◌, ◌≤◌, ◌+◌, ◌*◌, ℕ, length, sym, ap, ◌∙◌, arith, ints, shape_of, size, channel_of}
 use Rattle.std.proofs.lemmas.Grind.{common_steps}
 use Rattle.frame_decoder.proofs.Parts.{within}

@@ -1,4 +1,3 @@
--- What each pass of the loops in `gather_span` of `span` keeps, and why they end.
 use Rattle.frame_decoder.proofs.Common.{◌≡◌, ◌≤◌, ◌*◌, take, sum_by, unsigned_abs, shape_of, size, channel_of, gathered_span}
 use Rattle.frame_decoder.proofs.span.gather_span.Given as goal
 

@@ -1,4 +1,3 @@
--- Why `traffic_frame` of `traffic` keeps its contract.
 use Rattle.frame_decoder.proofs.Common.{ap, ◌∙◌, as_decoded, decoded}
 use Rattle.frame_decoder.proofs.Chosen.{by_formats}
 use Rattle.frame_decoder.proofs.traffic.traffic_frame.Goals as goal

@@ -1,7 +1,4 @@
--- Why `fingers_or_none` of `fingers` keeps its contract.
-use Rattle.heard_events.proofs.Common.{arith}
-use Rattle.std.proofs.lemmas.Grind.{common_steps}
-use Rattle.std.proofs.lemmas.Int.{ints}
+use Rattle.heard_events.proofs.Common.{arith, common_steps, ints}
 use Rattle.heard_events.proofs.fingers.fingers_or_none.Goals as goal
 
 pub loop-leg-preserved : goal.loop-leg-preserved

@@ -1,4 +1,3 @@
--- What each pass of the loops in `fingers_or_none` of `fingers` keeps, and why they end.
 use Rattle.heard_events.proofs.Common.{◌≡◌, ◌+◌, ◌≤◌, take, drop, length, true, all_close, fingers_in, places_in, all_fingers}
 use Rattle.heard_events.proofs.fingers.fingers_or_none.Given as goal
 

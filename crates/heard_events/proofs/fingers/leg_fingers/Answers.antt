@@ -1,4 +1,3 @@
--- Why `leg_fingers` of `fingers` keeps its contract.
 use Rattle.heard_events.proofs.Common.{◌≡◌, ◌∙◌, [], ap, arith, length, length-take, take, all_fingers, have_rows}
 use Rattle.heard_events.proofs.LegFingers.{all_rows, all_some}
 use Rattle.heard_events.proofs.fingers.leg_fingers.Goals as goal

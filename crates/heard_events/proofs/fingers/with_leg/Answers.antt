@@ -1,7 +1,4 @@
--- Why `with_leg` of `fingers` keeps its contract.
-use Rattle.heard_events.proofs.Common.{arith}
-use Rattle.std.proofs.lemmas.Grind.{common_steps}
-use Rattle.std.proofs.lemmas.Int.{ints}
+use Rattle.heard_events.proofs.Common.{arith, common_steps, ints}
 use Rattle.heard_events.proofs.fingers.with_leg.Goals as goal
 
 pub loop-i-preserved : goal.loop-i-preserved

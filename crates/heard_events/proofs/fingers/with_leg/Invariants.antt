@@ -1,4 +1,3 @@
--- What each pass of the loops in `with_leg` of `fingers` keeps, and why they end.
 use Rattle.heard_events.proofs.Common.{◌≡◌, ◌+◌, ◌++◌, ◌≤◌, take, length, true, all_close, fingers_in, fingers_of}
 use Rattle.heard_events.proofs.fingers.with_leg.Given as goal
 

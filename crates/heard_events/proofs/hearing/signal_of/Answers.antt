@@ -1,4 +1,3 @@
--- Why `signal_of` of `hearing` keeps its contract.
 use Rattle.heard_events.proofs.SignalParts.{signal_long}
 use Rattle.heard_events.proofs.hearing.signal_of.Goals as goal
 

@@ -1,4 +1,3 @@
--- Why the law `a_frame_hangs_on_its_samples` holds.
 use Rattle.heard_events.proofs.ChannelFrames.{frame_same}
 use Rattle.heard_events.proofs.laws.a_frame_hangs_on_its_samples.Goals as goal
 

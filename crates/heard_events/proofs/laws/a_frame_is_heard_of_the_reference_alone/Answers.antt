@@ -1,4 +1,3 @@
--- Why the law `a_frame_is_heard_of_the_reference_alone` holds.
 use Rattle.heard_events.proofs.FramesAlone.{decoded_alone, power_alone}
 use Rattle.heard_events.proofs.laws.a_frame_is_heard_of_the_reference_alone.Goals as goal
 

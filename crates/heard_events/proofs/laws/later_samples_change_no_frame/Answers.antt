@@ -1,4 +1,3 @@
--- Why the law `later_samples_change_no_frame` holds.
 use Rattle.heard_events.proofs.Common.{frames_within}
 use Rattle.heard_events.proofs.ChannelFrames.{frames_sooner}
 use Rattle.heard_events.proofs.GoesOn.{of_first}

@@ -1,4 +1,3 @@
--- Why the law `later_samples_change_nothing` holds.
 use Rattle.heard_events.proofs.Causality.{same_events, same_mark}
 use Rattle.heard_events.proofs.laws.later_samples_change_nothing.Goals as goal
 

@@ -1,7 +1,4 @@
--- Why `leg_softs` of `leg_softs` keeps its contract.
-use Rattle.heard_events.proofs.Common.{arith}
-use Rattle.std.proofs.lemmas.Grind.{common_steps}
-use Rattle.std.proofs.lemmas.Int.{ints}
+use Rattle.heard_events.proofs.Common.{arith, common_steps, ints}
 use Rattle.heard_events.proofs.leg_softs.leg_softs.Goals as goal
 
 pub combine_into-requires-clause-rows : goal.combine_into-requires-clause-rows

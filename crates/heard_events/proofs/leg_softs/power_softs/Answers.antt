@@ -1,8 +1,5 @@
--- Why `power_softs` of `leg_softs` keeps its contract.
-use Rattle.std.proofs.lemmas.Grind.{common_steps}
-use Rattle.std.proofs.lemmas.Int.{ints}
-use Rattle.heard_events.proofs.Common.{◌≡◌, ◌∙◌, ℕ, ℤ, List, true, false, take, sym, ap, arith, group_sums, sums_on, has_subchannel}
-use Rattle.heard_events.proofs.Common.{places, Sample}
+use Rattle.heard_events.proofs.Common.{common_steps, ints, ◌≡◌, ◌∙◌, ℕ, ℤ, List, true, false, take, sym, ap, arith, group_sums, sums_on}
+use Rattle.heard_events.proofs.Common.{has_subchannel, places, Sample}
 use Rattle.heard_events.proofs.LegSubsets.{sums_more, sums_same}
 use Rattle.heard_events.proofs.leg_softs.power_softs.Goals.{then-has_subchannel, else-has_subchannel}
 use Rattle.heard_events.proofs.leg_softs.power_softs.Goals as goal

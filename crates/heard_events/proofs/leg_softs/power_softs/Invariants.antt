@@ -1,6 +1,4 @@
--- What each pass of the loops in `power_softs` of `leg_softs` keeps, and why they end.
-use Rattle.heard_events.proofs.Common.{◌≡◌, ◌≤◌, List, map, take, Sample, HoldsLast, sums_on}
-use Rattle.frame_decoder.specs.TrafficFrames.{summed_subchannels}
+use Rattle.heard_events.proofs.Common.{◌≡◌, ◌≤◌, List, map, take, Sample, HoldsLast, sums_on, summed_subchannels}
 use Rattle.heard_events.proofs.LegSubsets.{first_subchannels}
 use Rattle.heard_events.proofs.leg_softs.power_softs.Given as goal
 

@@ -1,4 +1,3 @@
--- Why `subchannel_softs` of `leg_softs` keeps its contract.
 use Rattle.heard_events.proofs.Common.{◌≡◌, ◌∙◌, List, length, take, sym, ap, arith, IsInRing, softs, Data, all_fingers, on_subchannel, Leg}
 use Rattle.heard_events.proofs.LegSubsets.{on_all, on_close, on_few, on_rows, on_some, on_whole}
 use Rattle.heard_events.proofs.leg_softs.subchannel_softs.Goals as goal

@@ -1,8 +1,5 @@
--- Why `measure` of `measuring` keeps its contract.
-use Rattle.std.proofs.lemmas.Grind.{common_steps}
-use Rattle.std.proofs.lemmas.Int.{ints}
-use Rattle.heard_events.proofs.Common.{◌≡◌, ◌<◌, ◌≤◌, ◌++◌, ◌∷◌, [], arith, length-append, rules, unsigned_abs, Strength, pilot_strength}
-use Rattle.heard_events.proofs.Common.{All-push}
+use Rattle.heard_events.proofs.Common.{common_steps, ints, ◌≡◌, ◌<◌, ◌≤◌, ◌++◌, ◌∷◌, [], arith, length-append, rules, unsigned_abs}
+use Rattle.heard_events.proofs.Common.{Strength, pilot_strength, All-push}
 use Rattle.heard_events.proofs.LegLists.{all_at, map_at}
 use Rattle.heard_events.proofs.measuring.measure.Goals as goal
 

@@ -1,4 +1,3 @@
--- What each pass of the loops in `measure` of `measuring` keeps, and why they end.
 use Rattle.heard_events.proofs.Common.{◌≡◌, ◌<◌, ◌≤◌, List, length, map, take, All, unsigned_abs, Sample, Strength, HoldsLast}
 use Rattle.heard_events.proofs.Common.{pilot_strength}
 use Rattle.heard_events.proofs.measuring.measure.Given as goal

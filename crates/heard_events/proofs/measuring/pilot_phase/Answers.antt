@@ -1,7 +1,5 @@
--- Why `pilot_phase` of `measuring` keeps its contract.
-use Rattle.std.proofs.Common.{◌≡◌, ℕ, ◌+◌, ◌*◌, ◌<◌, ◌^◌, ℤ, pos, ◌-ℤ◌, ap, ◌∙◌, arith, FitsSigned, to_z, of_z, w16, w64}
-use Rattle.std.proofs.lemmas.Int.{ints}
-use Rattle.rake_finger.specs.Paths.{modulo_code}
+use Rattle.heard_events.proofs.Common.{◌≡◌, ℕ, ◌+◌, ◌*◌, ◌<◌, ◌^◌, ℤ, pos, ◌-ℤ◌, ap, ◌∙◌, arith, FitsSigned, to_z, of_z, w16, w64, ints}
+use Rattle.heard_events.proofs.Common.{modulo_code}
 use Rattle.heard_events.proofs.measuring.pilot_phase.Goals as goal
 
 -- the pilot's offset and the mark's place, taken away together and one after the other

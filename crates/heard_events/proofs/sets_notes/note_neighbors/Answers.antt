@@ -1,4 +1,3 @@
--- Why `note_neighbors` of `sets_notes` keeps its contract.
 use Rattle.paging_message.proofs.ByLayout.{pns_below}
 use Rattle.heard_events.proofs.sets_notes.note_neighbors.Goals as goal
 

@@ -1,8 +1,5 @@
--- Why `bits_in` of `values` keeps its contract.
+use Rattle.line_text.proofs.Common.{arith, ints, common_steps}
 use Rattle.line_text.specs.StatedValues.{bits_in_text}
-use Rattle.std.proofs.Common.{arith}
-use Rattle.std.proofs.lemmas.Int.{ints}
-use Rattle.std.proofs.lemmas.Grind.{common_steps}
 use Rattle.line_text.proofs.values.bits_in.Goals as goal
 
 pub returns : goal.returns

@@ -1,6 +1,4 @@
--- Why `bits_of` of `values` keeps its contract.
-use Rattle.std.proofs.Common.{ℕ, ◌++◌, ap, ◌∙◌}
-use Rattle.chip_core.specs.Bits.{binary}
+use Rattle.line_text.proofs.Common.{ℕ, ◌++◌, ap, ◌∙◌, binary}
 use Rattle.line_text.proofs.StatedTexts.{octet_added, octet_longer}
 use Rattle.line_text.proofs.values.bits_of.Goals as goal
 

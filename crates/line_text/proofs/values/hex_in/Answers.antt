@@ -1,5 +1,4 @@
--- Why `hex_in` of `values` keeps its contract.
-use Rattle.std.proofs.Common.{sym, ◌∙◌, arith}
+use Rattle.line_text.proofs.Common.{sym, ◌∙◌, arith}
 use Rattle.line_text.proofs.StatedTexts.{hex_missing, hex_digit_more, hex_read, hex_read_all, few_hex_digits}
 use Rattle.line_text.proofs.values.hex_in.Goals as goal
 

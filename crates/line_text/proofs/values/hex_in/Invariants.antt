@@ -1,5 +1,4 @@
--- What each pass of the loops in `hex_in` of `values` keeps, and why they end.
-use Rattle.std.proofs.Common.{◌≡◌, ◌<◌, ◌≤◌, ◌^◌, drop, length}
+use Rattle.line_text.proofs.Common.{◌≡◌, ◌<◌, ◌≤◌, ◌^◌, drop, length}
 use Rattle.line_text.specs.StatedValues.{hex_from}
 use Rattle.line_text.proofs.values.hex_in.Given as goal
 

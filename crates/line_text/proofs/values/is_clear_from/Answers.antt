@@ -1,5 +1,4 @@
--- Why `is_clear_from` of `values` keeps its contract.
-use Rattle.std.proofs.Common.{false, ◌∙◌, arith}
+use Rattle.line_text.proofs.Common.{false, ◌∙◌, arith}
 use Rattle.std.proofs.lemmas.Option.{get_or_from_slice_get}
 use Rattle.line_text.proofs.StatedTexts.{clear_bit, set_bit}
 use Rattle.line_text.proofs.values.is_clear_from.Goals as goal

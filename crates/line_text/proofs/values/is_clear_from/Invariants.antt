@@ -1,5 +1,4 @@
--- What each pass of the loops in `is_clear_from` of `values` keeps, and why they end.
-use Rattle.std.proofs.Common.{◌≡◌, drop}
+use Rattle.line_text.proofs.Common.{◌≡◌, drop}
 use Rattle.line_text.specs.StatedValues.{all_clear}
 use Rattle.line_text.proofs.values.is_clear_from.Given as goal
 

@@ -1,5 +1,4 @@
--- Why `length_before` of `values` keeps its contract.
-use Rattle.std.proofs.Common.{◌∙◌, arith}
+use Rattle.line_text.proofs.Common.{◌∙◌, arith}
 use Rattle.line_text.proofs.StatedTexts.{mark_found, mark_later, mark_missing}
 use Rattle.line_text.proofs.values.length_before.Goals as goal
 

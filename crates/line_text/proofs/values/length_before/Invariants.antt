@@ -1,5 +1,4 @@
--- What each pass of the loops in `length_before` of `values` keeps, and why they end.
-use Rattle.std.proofs.Common.{◌≡◌, ◌+◌, drop}
+use Rattle.line_text.proofs.Common.{◌≡◌, ◌+◌, drop}
 use Rattle.line_text.specs.StatedValues.{length_before}
 use Rattle.line_text.proofs.values.length_before.Given as goal
 

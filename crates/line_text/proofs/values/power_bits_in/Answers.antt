@@ -1,6 +1,4 @@
--- Why `power_bits_in` of `values` keeps its contract.
-use Rattle.std.proofs.Common.{sym, ◌∙◌, arith}
-use Rattle.std.proofs.lemmas.List.{length-set}
+use Rattle.line_text.proofs.Common.{sym, ◌∙◌, arith, length-set}
 use Rattle.line_text.proofs.StatedTexts.{digit_missing, digit_read, digits_read, not_sixteen, sixteen}
 use Rattle.line_text.proofs.values.power_bits_in.Goals as goal
 

@@ -1,5 +1,4 @@
--- What each pass of the loops in `power_bits_in` of `values` keeps, and why they end.
-use Rattle.std.proofs.Common.{◌≡◌, length}
+use Rattle.line_text.proofs.Common.{◌≡◌, length}
 use Rattle.line_text.proofs.StatedTexts.{AreBits}
 use Rattle.line_text.proofs.values.power_bits_in.Given as goal
 

@@ -1,4 +1,3 @@
--- What each pass of the loops in `empty_column` of `column` keeps, and why they end.
 use Rattle.list_viterbi.proofs.Common.{◌≡◌, vec_len}
 use Rattle.list_viterbi.proofs.column.empty_column.Given as goal
 

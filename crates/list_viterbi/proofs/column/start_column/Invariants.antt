@@ -1,4 +1,3 @@
--- What each pass of the loops in `start_column` of `column` keeps, and why they end.
 use Rattle.list_viterbi.proofs.Common.{◌≡◌, ◌<◌, ℕ, [], length, get_or, start_scores}
 use Rattle.list_viterbi.proofs.column.start_column.Given as goal
 

@@ -1,4 +1,3 @@
--- Why `finds_of` of `finds` keeps its contract.
 use Rattle.list_viterbi.proofs.Common.{◌∷◌, ◌++◌, [], ap, ◌∙◌, rules, arith, ℤ, w64, to_z-of_z, SFits}
 use Rattle.list_viterbi.proofs.Found.{finds_count, finds_more}
 use Rattle.list_viterbi.proofs.finds.finds_of.Goals as goal

@@ -1,4 +1,3 @@
--- What each pass of the loops in `finds_of` of `finds` keeps, and why they end.
 use Rattle.list_viterbi.proofs.Common.{◌≡◌, take, finds_from}
 use Rattle.list_viterbi.proofs.finds.finds_of.Given as goal
 

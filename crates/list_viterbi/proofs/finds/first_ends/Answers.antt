@@ -1,4 +1,3 @@
--- Why `first_ends` of `finds` keeps its contract.
 use Rattle.list_viterbi.proofs.Common.{[], ◌∙◌, add-one, end_read, first_finds}
 use Rattle.list_viterbi.proofs.finds.first_ends.Goals as goal
 

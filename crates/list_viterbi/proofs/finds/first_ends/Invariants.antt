@@ -1,4 +1,3 @@
--- What each pass of the loops in `first_ends` of `finds` keeps, and why they end.
 use Rattle.list_viterbi.proofs.Common.{◌≡◌, first_finds}
 use Rattle.list_viterbi.proofs.finds.first_ends.Given as goal
 

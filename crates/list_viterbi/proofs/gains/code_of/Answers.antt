@@ -1,4 +1,3 @@
--- Why `code_of` of `gains` keeps its contract.
 use Rattle.list_viterbi.proofs.Common.{◌≡◌, ◌<◌, ◌+◌, ◌*◌, ◌/◌, ◌%◌, ℕ, get_or, ap, arith, subst, sym, lane_code_of, patterns, lane_codes}
 use Rattle.list_viterbi.proofs.StateCodes.{code_small}
 use Rattle.list_viterbi.proofs.gains.code_of.Goals as goal

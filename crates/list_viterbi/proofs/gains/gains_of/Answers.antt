@@ -1,4 +1,3 @@
--- Why `gains_of` of `gains` keeps its contract.
 use Rattle.list_viterbi.proofs.Common.{◌+◌, ◌*◌, ◌/◌, ◌%◌, ◌∙◌, ℕ, get_or, pos, arith, ap, w64, SFits, gains_read, pattern_small}
 use Rattle.list_viterbi.proofs.gains.gains_of.Goals as goal
 

@@ -1,4 +1,3 @@
--- Why `choice_sums` of `lanes` keeps its contract.
 use Rattle.list_viterbi.proofs.Common.{ap, arith, unsigned_abs, lane_sum}
 use Rattle.list_viterbi.proofs.LaneSums.{sums_passed, added_up, sum_read, sum_cast, lane_up}
 use Rattle.list_viterbi.proofs.lanes.choice_sums.Goals as goal

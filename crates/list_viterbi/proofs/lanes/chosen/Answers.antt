@@ -1,4 +1,3 @@
--- Why `chosen` of `lanes` keeps its contract.
 use Rattle.list_viterbi.proofs.LaneChoices.{chosen_lanes}
 use Rattle.list_viterbi.proofs.lanes.chosen.Goals as goal
 

@@ -1,4 +1,3 @@
--- What each pass of the loops in `has_four` of `lanes` keeps, and why they end.
 use Rattle.list_viterbi.proofs.Common.{◌≡◌, ◌<◌, ℕ, [], length, get_or}
 use Rattle.list_viterbi.proofs.lanes.has_four.Given as goal
 

@@ -1,4 +1,3 @@
--- Why `lowered` of `lanes` keeps its contract.
 use Rattle.list_viterbi.proofs.Common.{taken_lanes}
 use Rattle.list_viterbi.proofs.LaneChoices.{heads_are}
 use Rattle.list_viterbi.proofs.lanes.lowered.Goals as goal

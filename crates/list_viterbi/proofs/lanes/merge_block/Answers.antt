@@ -1,4 +1,3 @@
--- Why `merge_block` of `lanes` keeps its contract.
 use Rattle.list_viterbi.proofs.Common.{sym, subst, HeadsFit, AreWeights}
 use Rattle.list_viterbi.proofs.LaneMerges.{scores_fit, weights_small}
 use Rattle.list_viterbi.proofs.lanes.merge_block.Goals as goal

@@ -1,4 +1,3 @@
--- Why `merge_pair` of `lanes` keeps its contract.
 use Rattle.list_viterbi.proofs.Common.{◌≡◌, ℕ, ◌+◌, ◌*◌, List, ℤ, ◌+ℤ◌, ◌-ℤ◌, arith, Heads, four_choices, four_scores, put_choices, abs_sum}
 use Rattle.list_viterbi.proofs.Common.{put_heads, abs_difference}
 use Rattle.list_viterbi.proofs.LaneBlocks.{with_both, chosen_both, pair_lower, pair_upper, pair_others}

@@ -1,4 +1,3 @@
--- Why `merged` of `lanes` keeps its contract.
 use Rattle.list_viterbi.proofs.Common.{pos, rules, ◌∙◌}
 use Rattle.list_viterbi.proofs.LaneChoices.{heads_are, taken_is, weights_fit}
 use Rattle.list_viterbi.proofs.LaneRounds.{Turns, choices_of_turns, scores_of_turns}

@@ -1,4 +1,3 @@
--- Why `parted` of `lanes` keeps its contract.
 use Rattle.list_viterbi.proofs.Common.{◌≡◌, ◌+◌, ◌∙◌, ◌∷◌, [], arith, ℤ, lane_read}
 use Rattle.list_viterbi.proofs.LanePuts.{read_at}
 use Rattle.list_viterbi.proofs.lanes.parted.Goals as goal

@@ -1,4 +1,3 @@
--- Why `put` of `lanes` keeps its contract.
 use Rattle.list_viterbi.proofs.Common.{refl, kept}
 use Rattle.list_viterbi.proofs.lanes.put.Goals as goal
 

@@ -1,4 +1,3 @@
--- Why `put_scores` of `lanes` keeps its contract.
 use Rattle.list_viterbi.proofs.Common.{◌∙◌, rules, w64, to_z-of_z, SFits}
 use Rattle.list_viterbi.proofs.ColumnLayouts.{four_here, four_read}
 use Rattle.list_viterbi.proofs.lanes.put_scores.Goals as goal

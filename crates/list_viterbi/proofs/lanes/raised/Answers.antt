@@ -1,4 +1,3 @@
--- Why `raised` of `lanes` keeps its contract.
 use Rattle.list_viterbi.proofs.Common.{added_lanes}
 use Rattle.list_viterbi.proofs.LaneChoices.{heads_are}
 use Rattle.list_viterbi.proofs.lanes.raised.Goals as goal

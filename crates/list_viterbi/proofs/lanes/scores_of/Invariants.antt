@@ -1,4 +1,3 @@
--- What each pass of the loops in `scores_of` of `lanes` keeps, and why they end.
 use Rattle.list_viterbi.proofs.Common.{◌≡◌, ◌<◌, ℕ, [], length, get_or, four_of}
 use Rattle.list_viterbi.proofs.lanes.scores_of.Given as goal
 

@@ -1,7 +1,5 @@
--- Why `step_four` of `lanes` keeps its contract.
-use Rattle.list_viterbi.proofs.Common.{arith, ints}
-use Rattle.std.proofs.lemmas.Grind.{common_steps}
-use Rattle.list_viterbi.proofs.Common.{◌≡◌, get_or, sym, subst, w64, to_z-of_z, SFits, lane_codes, passed, gain_fits, PairPicked}
+use Rattle.list_viterbi.proofs.Common.{arith, ints, common_steps, ◌≡◌, get_or, sym, subst, w64, to_z-of_z, SFits, lane_codes, passed}
+use Rattle.list_viterbi.proofs.Common.{gain_fits, PairPicked}
 use Rattle.list_viterbi.proofs.LaneGains.{pair_more}
 use Rattle.list_viterbi.proofs.LanePairs.{two_gains, gains_kept, gains_room}
 use Rattle.list_viterbi.proofs.StateCodes.{gain_passed}

@@ -1,4 +1,3 @@
--- What each pass of the loops in `step_four` of `lanes` keeps, and why they end.
 use Rattle.list_viterbi.proofs.Common.{◌≡◌, ◌/◌, ◌%◌, ◌<◌, ℕ, length, get_or, four_of, column_of, HasPicks, picks_into}
 use Rattle.list_viterbi.proofs.lanes.step_four.Given as goal
 

@@ -1,4 +1,3 @@
--- Why `summed` of `lanes` keeps its contract.
 use Rattle.list_viterbi.proofs.Common.{added_lanes}
 use Rattle.list_viterbi.proofs.lanes.summed.Goals as goal
 

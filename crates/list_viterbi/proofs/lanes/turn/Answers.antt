@@ -1,4 +1,3 @@
--- Why `turn` of `lanes` keeps its contract.
 use Rattle.list_viterbi.proofs.Common.{[], ◌∷◌, pos, rules, subst, sym, FitsSigned, w64, kept, HeadsFit}
 use Rattle.list_viterbi.proofs.LaneChoices.{chosen_is, heads_are, even_fits, odd_fits}
 use Rattle.list_viterbi.proofs.lanes.turn.Goals as goal

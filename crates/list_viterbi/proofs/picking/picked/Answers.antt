@@ -1,4 +1,3 @@
--- Why `picked` of `picking` keeps its contract.
 use Rattle.list_viterbi.proofs.Common.{◌≡◌, ◌+◌, ◌*◌, ◌<◌, ◌≤◌, ◌∷◌, ◌++◌, [], true, false, drop, length, refl, sym, ◌∙◌, arith, to_z, of_z}
 use Rattle.list_viterbi.proofs.Common.{length-append, w64, to_z-of_z, second_is_next, pick_score, picks_from}
 use Rattle.list_viterbi.proofs.Masks.{weight_most, weight_next}

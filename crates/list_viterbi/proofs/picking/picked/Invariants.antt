@@ -1,4 +1,3 @@
--- What each pass of the loops in `picked` of `picking` keeps, and why they end.
 use Rattle.list_viterbi.proofs.Common.{◌≡◌, ◌<◌, ◌≤◌, ◌^◌, length, picks_from}
 use Rattle.list_viterbi.proofs.Picks.{IsPicked}
 use Rattle.list_viterbi.proofs.picking.picked.Given as goal

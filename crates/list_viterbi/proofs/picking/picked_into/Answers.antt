@@ -1,4 +1,3 @@
--- Why `picked_into` of `picking` keeps its contract.
 use Rattle.list_viterbi.proofs.Common.{◌+◌, ◌*◌, ◌%◌, ◌-ℤ◌, pos, refl, arith, rules, w64, ints, to_z-of_z, fits_signed_from_abs, SFits}
 use Rattle.list_viterbi.proofs.PickSteps.{item_room, turned_room, by_made}
 use Rattle.list_viterbi.proofs.picking.picked_into.Goals as goal

@@ -1,4 +1,3 @@
--- Why `picked_of_full` of `picking` keeps its contract.
 use Rattle.list_viterbi.proofs.Common.{◌≡◌, ◌+◌, ◌-◌, ◌*◌, ◌∷◌, ◌++◌, [], ℕ, length, get_or, refl, sym, ap, ◌∙◌, arith, rules, to_z, of_z}
 use Rattle.list_viterbi.proofs.Common.{pos, ◌+ℤ◌, ℤ, Bool, w64, length-append, int_lt, to_z-of_z, SFits, digit, taken_of, digit_le}
 use Rattle.list_viterbi.proofs.Common.{bool_byte-digit}

@@ -1,4 +1,3 @@
--- Why `step` of `picking` keeps its contract.
 use Rattle.list_viterbi.proofs.Common.{◌∙◌, arith, w64, to_z-of_z, length-set, SFits, lane_code_of, HasPicks, picks_into}
 use Rattle.list_viterbi.proofs.StateCodes.{code_small, gain_passed, given_gain_size}
 use Rattle.list_viterbi.proofs.PickSteps.{gain_room, each_more}

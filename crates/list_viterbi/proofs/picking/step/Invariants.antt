@@ -1,4 +1,3 @@
--- What each pass of the loops in `step` of `picking` keeps, and why they end.
 use Rattle.list_viterbi.proofs.Common.{◌≡◌, ◌<◌, ℕ, [], length, get_or, HasPicks, picks_into}
 use Rattle.list_viterbi.proofs.picking.step.Given as goal
 

@@ -1,4 +1,3 @@
--- Why `sum_at` of `picking` keeps its contract.
 use Rattle.list_viterbi.proofs.Common.{◌≡◌, ◌+ℤ◌, ℤ, get_or, pos, ap, ◌∙◌, sym, rules, arith, w64, ints, to_z-of_z, fits_signed_from_abs}
 use Rattle.list_viterbi.proofs.Common.{get_or_from_slice_get, SFits, sum_fits}
 use Rattle.list_viterbi.proofs.picking.sum_at.Goals as goal

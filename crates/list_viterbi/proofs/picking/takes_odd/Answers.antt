@@ -1,4 +1,3 @@
--- Why `takes_odd` of `picking` keeps its contract.
 use Rattle.list_viterbi.proofs.Common.{sym, arith, rules, w64, to_z-of_z, SFits}
 use Rattle.list_viterbi.proofs.Picks.{odd_over, odd_only, odd_by_sum}
 use Rattle.list_viterbi.proofs.picking.takes_odd.Goals as goal

@@ -1,6 +1,5 @@
--- Why `merged` of `ranked` keeps its contract.
-use Rattle.std.proofs.lemmas.Grind.{common_steps}
-use Rattle.list_viterbi.proofs.Common.{◌≡◌, ◌<◌, ◌≤◌, ◌∷◌, [], true, false, drop, length, sym, arith, length-append, second_is_next, ints}
+use Rattle.list_viterbi.proofs.Common.{common_steps, ◌≡◌, ◌<◌, ◌≤◌, ◌∷◌, [], true, false, drop, length, sym, arith, length-append, ints}
+use Rattle.list_viterbi.proofs.Common.{second_is_next}
 use Rattle.list_viterbi.proofs.Walks.{second_has, took_second, took_first, took_none, all_taken}
 use Rattle.list_viterbi.proofs.ranked.merged.Goals.{then-takes_second, else-takes_second+then-i-len, else-takes_second+else-i-len}
 use Rattle.list_viterbi.proofs.ranked.merged.Goals as goal

@@ -1,4 +1,3 @@
--- What each pass of the loops in `merged` of `ranked` keeps, and why they end.
 use Rattle.list_viterbi.proofs.Common.{◌≤◌, length}
 use Rattle.list_viterbi.proofs.Walks.{IsPart}
 use Rattle.list_viterbi.proofs.ranked.merged.Given as goal

@@ -1,6 +1,4 @@
--- Why `takes_second` of `ranked` keeps its contract.
-use Rattle.std.proofs.lemmas.Grind.{common_steps}
-use Rattle.list_viterbi.proofs.Common.{sym, arith, rules, w64, to_z-of_z, SFits, ints}
+use Rattle.list_viterbi.proofs.Common.{common_steps, sym, arith, rules, w64, to_z-of_z, SFits, ints}
 use Rattle.list_viterbi.proofs.Walks.{second_only, second_by_score}
 use Rattle.list_viterbi.proofs.ranked.takes_second.Goals as goal
 

@@ -1,6 +1,4 @@
--- Why `all_traced` of `tracing` keeps its contract.
-use Rattle.std.proofs.lemmas.Grind.{common_steps}
-use Rattle.list_viterbi.proofs.Common.{◌++◌, ◌∷◌, [], ap, ◌∙◌, arith, Entry, entry_at, ints}
+use Rattle.list_viterbi.proofs.Common.{common_steps, ◌++◌, ◌∷◌, [], ap, ◌∙◌, arith, Entry, entry_at, ints}
 use Rattle.list_viterbi.proofs.Walks.{map_more}
 use Rattle.list_viterbi.proofs.tracing.all_traced.Goals as goal
 

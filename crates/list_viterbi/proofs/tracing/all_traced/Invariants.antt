@@ -1,4 +1,3 @@
--- What each pass of the loops in `all_traced` of `tracing` keeps, and why they end.
 use Rattle.list_viterbi.proofs.Common.{◌≡◌, map, take, entry_at}
 use Rattle.list_viterbi.proofs.tracing.all_traced.Given as goal
 

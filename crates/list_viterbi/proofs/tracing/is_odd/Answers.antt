@@ -1,4 +1,3 @@
--- Why `is_odd` of `tracing` keeps its contract.
 use Rattle.list_viterbi.proofs.Common.{◌/◌, ◌^◌, ℕ, ap, nat_eq, and_mask}
 use Rattle.list_viterbi.proofs.tracing.is_odd.Goals as goal
 

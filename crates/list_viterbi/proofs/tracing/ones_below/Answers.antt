@@ -1,4 +1,3 @@
--- Why `ones_below` of `tracing` keeps its contract.
 use Rattle.list_viterbi.proofs.Common.{◌≡◌, ◌∙◌, sym, arith, digit, digit_le, bool_byte-digit}
 use Rattle.list_viterbi.proofs.Masks.{ones_none, ones_next}
 use Rattle.list_viterbi.proofs.tracing.ones_below.Goals as goal

@@ -1,4 +1,3 @@
--- What each pass of the loops in `ones_below` of `tracing` keeps, and why they end.
 use Rattle.list_viterbi.proofs.Common.{◌≡◌, ◌≤◌, ones_below}
 use Rattle.list_viterbi.proofs.tracing.ones_below.Given as goal
 

@@ -1,4 +1,3 @@
--- Why `trace_back` of `tracing` keeps its contract.
 use Rattle.list_viterbi.proofs.Common.{◌≡◌, ◌+◌, ◌-◌, ◌*◌, ◌/◌, ◌%◌, ℕ, suc, length, arith, sym, ap, ◌∙◌, rules, back_of, list_state_before}
 use Rattle.list_viterbi.proofs.Common.{place_before, list_origin, less_none}
 use Rattle.list_viterbi.proofs.Tracings.{origin-back, path-back, origin_left, all_left, none_left}

@@ -1,4 +1,3 @@
--- What each pass of the loops in `trace_back` of `tracing` keeps, and why they end.
 use Rattle.list_viterbi.proofs.Common.{◌≡◌, ◌-◌, ◌<◌, ◌++◌, length, drop, list_path, list_origin}
 use Rattle.list_viterbi.proofs.tracing.trace_back.Given as goal
 

@@ -1,6 +1,4 @@
--- Why `traced` of `tracing` keeps its contract.
-use Rattle.list_viterbi.proofs.Common.{arith, ints}
-use Rattle.std.proofs.lemmas.Grind.{common_steps}
+use Rattle.list_viterbi.proofs.Common.{arith, ints, common_steps}
 use Rattle.list_viterbi.proofs.tracing.traced.Goals as goal
 
 pub bits_of-requires : goal.bits_of-requires

@@ -1,12 +1,6 @@
--- Why `candidate` of `frame` keeps its contract.
-use Rattle.std.proofs.lemmas.Grind.{elements}
-use Rattle.std.proofs.lemmas.Grind.{common_steps}
-use Rattle.std.proofs.lemmas.Int.{ints}
-use Rattle.std.proofs.Common.{◌<◌, Some, sym, ap, ◌∙◌, arith, length, rules, FitsSigned}
-use Rattle.std.specs.Int.{w64}
-use Rattle.std.proofs.lemmas.Int.{to_z-of_z}
+use Rattle.listed_frame.proofs.Common.{elements, common_steps, ints, ◌<◌, Some, sym, ap, ◌∙◌, arith, length, rules, FitsSigned, w64}
+use Rattle.listed_frame.proofs.Common.{to_z-of_z, is_right, frame_in}
 use Rattle.std.specs.Option.{option_map}
-use Rattle.frame_decoder.specs.Formats.{is_right, frame_in}
 use Rattle.chip_core.proofs.Finds.{found_here, found_later}
 use Rattle.listed_frame.proofs.frame.candidate.Goals as goal
 

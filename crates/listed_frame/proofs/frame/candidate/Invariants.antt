@@ -1,7 +1,4 @@
--- What each pass of the loops in `candidate` of `frame` keeps, and why they end.
-use Rattle.std.proofs.Common.{◌≡◌, drop}
-use Rattle.std.specs.List.{find}
-use Rattle.frame_decoder.specs.Formats.{is_right}
+use Rattle.listed_frame.proofs.Common.{◌≡◌, drop, find, is_right}
 use Rattle.listed_frame.proofs.frame.candidate.Given as goal
 
 abbrev pub invariant-loop-i : goal.invariant-loop-i

@@ -1,7 +1,4 @@
--- Why `candidate_of` of `frame` keeps its contract.
-use Rattle.std.proofs.Common.{ap, ◌∙◌}
-use Rattle.frame_decoder.specs.Formats.{candidate_of}
-use Rattle.listed_frame.specs.ListedFrames.{codewords_in}
+use Rattle.listed_frame.proofs.Common.{ap, ◌∙◌, candidate_of, codewords_in}
 use Rattle.listed_frame.proofs.Candidates.{candidate_is}
 use Rattle.listed_frame.proofs.frame.candidate_of.Goals as goal
 

@@ -1,5 +1,4 @@
--- Why `codewords_in` of `frame` keeps its contract.
-use Rattle.std.proofs.Common.{rules}
+use Rattle.listed_frame.proofs.Common.{rules}
 use Rattle.frame_decoder.proofs.Unreplaced.{first_zeros_read}
 use Rattle.listed_frame.proofs.FirstCodewords.{are_found, found_bits, found_scores, found_codewords}
 use Rattle.listed_frame.proofs.frame.codewords_in.Goals as goal

@@ -1,9 +1,4 @@
--- Why `listed_frame` of `frame` keeps its contract.
-use Rattle.std.proofs.lemmas.Grind.{common_steps}
-use Rattle.std.proofs.lemmas.Int.{ints}
-use Rattle.std.proofs.Common.{arith, rules, FitsSigned, ◌∙◌}
-use Rattle.std.specs.Int.{w64}
-use Rattle.std.proofs.lemmas.Int.{to_z-of_z}
+use Rattle.listed_frame.proofs.Common.{common_steps, ints, arith, rules, FitsSigned, ◌∙◌, w64, to_z-of_z}
 use Rattle.listed_frame.proofs.Candidates.{first_bits}
 use Rattle.listed_frame.proofs.Choice.{decoded_by}
 use Rattle.listed_frame.proofs.frame.listed_frame.Goals as goal

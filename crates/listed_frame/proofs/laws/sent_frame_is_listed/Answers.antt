@@ -1,4 +1,3 @@
--- Why the law `sent_frame_is_listed` holds.
 use Rattle.listed_frame.proofs.SentFrames.{sent_frame_listed}
 use Rattle.listed_frame.proofs.laws.sent_frame_is_listed.Goals as goal
 

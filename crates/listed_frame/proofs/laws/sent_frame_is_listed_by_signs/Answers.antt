@@ -1,4 +1,3 @@
--- Why the law `sent_frame_is_listed_by_signs` holds.
 use Rattle.listed_frame.proofs.SentFrames.{signs_frame_listed}
 use Rattle.listed_frame.proofs.laws.sent_frame_is_listed_by_signs.Goals as goal
 

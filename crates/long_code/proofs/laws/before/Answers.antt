@@ -1,4 +1,3 @@
--- Why the law `before` holds.
 use Rattle.long_code.proofs.Period.{after-rest, before_is_later}
 use Rattle.long_code.proofs.laws.before.Goals as goal
 

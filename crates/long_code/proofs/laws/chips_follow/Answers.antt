@@ -1,4 +1,3 @@
--- Why the law `chips_follow` holds.
 use Rattle.long_code.proofs.Chips.{long_chip-after}
 use Rattle.long_code.proofs.laws.chips_follow.Goals as goal
 

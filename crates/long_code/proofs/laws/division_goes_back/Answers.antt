@@ -1,4 +1,3 @@
--- Why the law `division_goes_back` holds.
 use Rattle.long_code.proofs.Before.{after-before}
 use Rattle.long_code.proofs.Period.{IsState-before}
 use Rattle.long_code.proofs.laws.division_goes_back.Goals as goal

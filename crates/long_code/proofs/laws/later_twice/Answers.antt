@@ -1,4 +1,3 @@
--- Why the law `later_twice` holds.
 use Rattle.long_code.proofs.After.{after-after}
 use Rattle.long_code.proofs.laws.later_twice.Goals as goal
 

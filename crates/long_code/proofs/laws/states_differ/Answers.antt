@@ -1,4 +1,3 @@
--- Why the law `states_differ` holds.
 use Rattle.long_code.proofs.Period.{after-injective}
 use Rattle.long_code.proofs.laws.states_differ.Goals as goal
 

@@ -1,4 +1,3 @@
--- Why the law `states_return` holds.
 use Rattle.long_code.proofs.Period.{after-period}
 use Rattle.long_code.proofs.laws.states_return.Goals as goal
 

@@ -1,4 +1,3 @@
--- Why the law `states_stay` holds.
 use Rattle.long_code.proofs.Period.{IsState-after}
 use Rattle.long_code.proofs.laws.states_stay.Goals as goal
 

@@ -1,4 +1,3 @@
--- Why `paging_mask` of `masks` keeps its contract.
 use Rattle.long_code.proofs.Common.{◌≡◌, ◌<◌, ◌+◌, ◌*◌, ◌%◌, ℕ, bit_or, sym, ap, ◌∙◌, arith}
 use Rattle.long_code.proofs.Fields.{paging_mask_is, paging_word}
 use Rattle.long_code.proofs.masks.paging_mask.Goals as goal

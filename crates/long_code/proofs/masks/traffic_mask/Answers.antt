@@ -1,4 +1,3 @@
--- Why `traffic_mask` of `masks` keeps its contract.
 use Rattle.long_code.proofs.Common.{◌≡◌, ℕ, refl, ap, ◌∙◌, arith, number, binary}
 use Rattle.long_code.proofs.Fields.{place_below, first_bits, first_bits_lt, first_bits-more, traffic_mask_is}
 use Rattle.long_code.proofs.masks.traffic_mask.Goals as goal

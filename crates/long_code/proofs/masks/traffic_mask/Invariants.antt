@@ -1,4 +1,3 @@
--- What each pass of the loops in `traffic_mask` of `masks` keeps, and why they end.
 use Rattle.long_code.proofs.Common.{◌≡◌, number}
 use Rattle.long_code.proofs.Fields.{first_bits}
 use Rattle.long_code.proofs.masks.traffic_mask.Given as goal

@@ -1,4 +1,3 @@
--- Why `product` of `state` keeps its contract.
 use Rattle.long_code.proofs.Common.{◌≡◌, ◌-◌, ◌/◌, ◌^◌, ℕ, true, false, sym, ap, ◌∙◌, arith, eq-eqb, bit_and, bit_xor, ne_eqb, xor_lt}
 use Rattle.long_code.proofs.Common.{after}
 use Rattle.long_code.proofs.Product.{after-zero, product_more}

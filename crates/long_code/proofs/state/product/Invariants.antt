@@ -1,4 +1,3 @@
--- What each pass of the loops in `product` of `state` keeps, and why they end.
 use Rattle.long_code.proofs.Common.{◌≡◌, ◌<◌, ◌/◌, ◌^◌, ℕ, after}
 use Rattle.long_code.proofs.state.product.Given as goal
 

@@ -1,4 +1,3 @@
--- Why `times_x` of `state` keeps its contract.
 use Rattle.long_code.proofs.Common.{◌≡◌, ◌/◌, ◌%◌, ◌*◌, ◌^◌, ◌<◌, ℕ, true, false, sym, ◌∙◌, arith, eq-eqb, bit_and, and_mask, xor_lt}
 use Rattle.long_code.proofs.Common.{ne_eqb, bit_of}
 use Rattle.long_code.proofs.After.{after_one}

@@ -1,4 +1,3 @@
--- Why `times_x64` of `symbol_step` keeps its contract.
 use Rattle.long_code.proofs.Common.{◌≡◌, ◌<◌, ◌%◌, ◌^◌, ℕ, arith, refl, sym, ap, subst, ◌∙◌, binary, places, after}
 use Rattle.long_code.proofs.After.{after_lt}
 use Rattle.long_code.proofs.Product.{after-zero}

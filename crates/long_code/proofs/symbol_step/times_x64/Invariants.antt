@@ -1,4 +1,3 @@
--- What each pass of the loops in `times_x64` of `symbol_step` keeps, and why they end.
 use Rattle.long_code.proofs.Common.{◌≡◌, ◌*◌, ◌/◌, ◌%◌, ◌^◌, after}
 use Rattle.long_code.proofs.symbol_step.times_x64.Given as goal
 

@@ -1,4 +1,3 @@
--- Why the law `reading_turns_spelling_back` holds.
 use Rattle.message_layout.proofs.Common.{ap, ◌∙◌, reading}
 use Rattle.message_layout.proofs.Round.{reading_again, reading_there}
 use Rattle.message_layout.proofs.laws.reading_turns_spelling_back.Goals as goal

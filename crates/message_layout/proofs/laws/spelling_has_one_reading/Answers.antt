@@ -1,4 +1,3 @@
--- Why the law `spelling_has_one_reading` holds.
 use Rattle.message_layout.proofs.Round.{one_reading}
 use Rattle.message_layout.proofs.laws.spelling_has_one_reading.Goals as goal
 

@@ -1,7 +1,4 @@
--- Why `is_rest_of` of `reading` keeps its contract.
-use Rattle.message_layout.proofs.Common.{arith}
-use Rattle.std.proofs.lemmas.Grind.{common_steps}
-use Rattle.std.proofs.lemmas.Int.{ints}
+use Rattle.message_layout.proofs.Common.{arith, common_steps, ints}
 use Rattle.message_layout.proofs.reading.is_rest_of.Goals as goal
 
 pub returns-in-Some : goal.returns-in-Some

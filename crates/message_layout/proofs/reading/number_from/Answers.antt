@@ -1,4 +1,3 @@
--- Why `number_from` of `reading` keeps its contract.
 use Rattle.message_layout.proofs.Common.{◌≡◌, ◌+◌, Some, slice_get, bool_byte-digit, digit_below, read_more}
 use Rattle.message_layout.proofs.reading.number_from.Goals as goal
 

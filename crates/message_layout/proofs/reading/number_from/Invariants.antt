@@ -1,4 +1,3 @@
--- What each pass of the loops in `number_from` of `reading` keeps, and why they end.
 use Rattle.message_layout.proofs.Common.{◌≡◌, ◌<◌, ◌^◌, take, drop, number}
 use Rattle.message_layout.proofs.reading.number_from.Given as goal
 

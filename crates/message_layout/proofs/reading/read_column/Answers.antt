@@ -1,7 +1,4 @@
--- Why `read_column` of `reading` keeps its contract.
-use Rattle.std.proofs.lemmas.Grind.{common_steps}
-use Rattle.std.proofs.lemmas.Int.{ints}
-use Rattle.message_layout.proofs.Common.{◌<◌, length, arith}
+use Rattle.message_layout.proofs.Common.{common_steps, ints, ◌<◌, length, arith}
 use Rattle.message_layout.proofs.Loops.{column_read, widths_taken}
 use Rattle.message_layout.proofs.reading.read_column.Goals as goal
 

@@ -1,4 +1,3 @@
--- Why `read_fields` of `reading` keeps its contract.
 use Rattle.message_layout.proofs.Common.{◌≡◌, ◌<◌, ◌≤◌, drop, length, map, arith, None, length-map, width_within}
 use Rattle.message_layout.proofs.Loops.{fields_end, fields_few, fields_more, fields_stop, number_short, number_taken}
 use Rattle.message_layout.proofs.reading.read_fields.Goals as goal

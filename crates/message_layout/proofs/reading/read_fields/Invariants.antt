@@ -1,4 +1,3 @@
--- What each pass of the loops in `read_fields` of `reading` keeps, and why they end.
 use Rattle.message_layout.proofs.Common.{◌≤◌, drop, length, map}
 use Rattle.message_layout.proofs.Loops.{FieldsRead}
 use Rattle.message_layout.proofs.reading.read_fields.Given as goal

@@ -1,4 +1,3 @@
--- Why `read_from` of `reading` keeps its contract.
 use Rattle.message_layout.proofs.Common.{ap, ◌∙◌, drop, reading, shape}
 use Rattle.message_layout.proofs.Round.{read_found, reading_again}
 use Rattle.message_layout.proofs.reading.read_from.Goals as goal

@@ -1,4 +1,3 @@
--- Why `read_parts` of `reading` keeps its contract.
 use Rattle.message_layout.proofs.Common.{drop, length, arith, shape}
 use Rattle.message_layout.proofs.Lawful.{count_below, fixed_few, group_few, lawful, records_few}
 use Rattle.message_layout.proofs.Parts.{octets_left}

@@ -1,4 +1,3 @@
--- Why `read_places` of `reading` keeps its contract.
 use Rattle.message_layout.proofs.Common.{◌+◌, length, refl, arith}
 use Rattle.message_layout.proofs.Loops.{number_small, place_within, places_few, places_more}
 use Rattle.message_layout.proofs.reading.read_places.Goals as goal

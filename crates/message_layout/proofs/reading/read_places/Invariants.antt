@@ -1,4 +1,3 @@
--- What each pass of the loops in `read_places` of `reading` keeps, and why they end.
 use Rattle.message_layout.proofs.Loops.{PlacesRead}
 use Rattle.message_layout.proofs.reading.read_places.Given as goal
 

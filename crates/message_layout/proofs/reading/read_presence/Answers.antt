@@ -1,7 +1,4 @@
--- Why `read_presence` of `reading` keeps its contract.
-use Rattle.std.proofs.lemmas.Grind.{common_steps}
-use Rattle.std.proofs.lemmas.Int.{ints}
-use Rattle.message_layout.proofs.Common.{arith, presence_at}
+use Rattle.message_layout.proofs.Common.{common_steps, ints, arith, presence_at}
 use Rattle.message_layout.proofs.reading.read_presence.Goals as goal
 
 pub returns-in-UnlessLeft-clause-presence : goal.returns-in-UnlessLeft-clause-presence

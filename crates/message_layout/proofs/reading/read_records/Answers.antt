@@ -1,11 +1,8 @@
--- Why `read_records` of `reading` keeps its contract.
-use Rattle.std.proofs.lemmas.Grind.{common_steps}
-use Rattle.std.proofs.lemmas.Int.{ints}
-use Rattle.message_layout.proofs.Common.{◌≡◌, ℕ, ◌+◌, ◌*◌, ◌<◌, ◌≤◌, Bool, List, [], ◌∷◌, Some, None, drop, length, map, refl, arith}
-use Rattle.message_layout.proofs.Common.{column_in, count_in, drop-drop, le-leb, length-drop, lt-leb, records_at, total_width}
+use Rattle.message_layout.proofs.Common.{common_steps, ints, ◌≡◌, ℕ, ◌+◌, ◌*◌, ◌<◌, ◌≤◌, Bool, List, [], ◌∷◌, Some, None, drop, length, map}
+use Rattle.message_layout.proofs.Common.{refl, arith, column_in, count_in, drop-drop, le-leb, length-drop, lt-leb, records_at, total_width}
 use Rattle.message_layout.proofs.Loops.{records_end}
-use Rattle.message_layout.proofs.reading.read_records.Goals as goal
 use Rattle.message_layout.proofs.reading.read_records.Goals.{After-records_within-count}
+use Rattle.message_layout.proofs.reading.read_records.Goals as goal
 
 -- what is read where too few records fit
 records_short : (ws : List ℕ) (least count all : ℕ) (bits : List Bool) → count ≡ count_in ws all →

@@ -1,4 +1,3 @@
--- Why `size_of` of `reading` keeps its contract.
 use Rattle.message_layout.proofs.Common.{◌<◌, ◌+◌, length, map, ap, arith, length-map}
 use Rattle.message_layout.proofs.Loops.{summed_more}
 use Rattle.message_layout.proofs.reading.size_of.Goals as goal

@@ -1,4 +1,3 @@
--- What each pass of the loops in `size_of` of `reading` keeps, and why they end.
 use Rattle.message_layout.proofs.Common.{map}
 use Rattle.message_layout.proofs.Loops.{Summed}
 use Rattle.message_layout.proofs.reading.size_of.Given as goal

@@ -1,4 +1,3 @@
--- Why `append` of `writing` keeps its contract.
 use Rattle.message_layout.proofs.Common.{shape}
 use Rattle.message_layout.proofs.Lawful.{fixed_few, group_few, lawful, records_few}
 use Rattle.message_layout.proofs.Written.{room_after, room_first, room_of_part, written}

@@ -1,8 +1,4 @@
--- Why `append_group` of `writing` keeps its contract.
-use Rattle.message_layout.proofs.Common.{arith}
-use Rattle.std.proofs.lemmas.Grind.{common_steps}
-use Rattle.std.proofs.lemmas.Int.{ints}
-use Rattle.message_layout.proofs.Common.{length, map}
+use Rattle.message_layout.proofs.Common.{arith, common_steps, ints, length, map}
 use Rattle.message_layout.proofs.Written.{flagged_room}
 use Rattle.message_layout.proofs.writing.append_group.Goals as goal
 

@@ -1,7 +1,4 @@
--- Why `append_octets` of `writing` keeps its contract.
-use Rattle.std.proofs.lemmas.Grind.{common_steps}
-use Rattle.std.proofs.lemmas.Int.{ints}
-use Rattle.message_layout.proofs.Common.{length, ap, arith, length-append, binary, length-binary}
+use Rattle.message_layout.proofs.Common.{common_steps, ints, length, ap, arith, length-append, binary, length-binary}
 use Rattle.message_layout.proofs.Parts.{length-octets}
 use Rattle.message_layout.proofs.writing.append_octets.Goals as goal
 

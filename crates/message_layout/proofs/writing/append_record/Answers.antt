@@ -1,8 +1,5 @@
--- Why `append_record` of `writing` keeps its contract.
-use Rattle.std.proofs.lemmas.Grind.{common_steps}
-use Rattle.std.proofs.lemmas.Int.{ints}
-use Rattle.message_layout.proofs.Common.{◌≡◌, ◌≤◌, ◌++◌, length, get_or, map, take, sym, ap, ◌∙◌, arith, length-append, length-map, binary}
-use Rattle.message_layout.proofs.Common.{spelled, in_widths, fit_value, width_within, written_more, height, record_at}
+use Rattle.message_layout.proofs.Common.{common_steps, ints, ◌≡◌, ◌≤◌, ◌++◌, length, get_or, map, take, sym, ap, ◌∙◌, arith, length-append}
+use Rattle.message_layout.proofs.Common.{length-map, binary, spelled, in_widths, fit_value, width_within, written_more, height, record_at}
 use Rattle.message_layout.proofs.Columns.{number_in_record, number_room, sent_all, three_long}
 use Rattle.message_layout.proofs.writing.append_record.Goals as goal
 

@@ -1,4 +1,3 @@
--- What each pass of the loops in `append_record` of `writing` keeps, and why they end.
 use Rattle.message_layout.proofs.Common.{◌≡◌, ◌++◌, map, take, spelled, in_widths, record_at}
 use Rattle.message_layout.proofs.writing.append_record.Given as goal
 

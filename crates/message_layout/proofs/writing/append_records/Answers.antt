@@ -1,4 +1,3 @@
--- Why `append_records` of `writing` keeps its contract.
 use Rattle.message_layout.proofs.Common.{length, map, ap, arith, length-append, length-map, spelled, height, record_fields}
 use Rattle.message_layout.proofs.Columns.{height_at, record_fit, record_room, record_written, three_long}
 use Rattle.message_layout.proofs.writing.append_records.Goals as goal

@@ -1,4 +1,3 @@
--- What each pass of the loops in `append_records` of `writing` keeps, and why they end.
 use Rattle.message_layout.proofs.Common.{◌≡◌, ◌++◌, map, spelled, record_fields}
 use Rattle.message_layout.proofs.writing.append_records.Given as goal
 

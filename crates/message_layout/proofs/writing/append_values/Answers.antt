@@ -1,4 +1,3 @@
--- Why `append_values` of `writing` keeps its contract.
 use Rattle.message_layout.proofs.Common.{◌<◌, ◌++◌, length, get_or, map, take, ap, ◌∙◌, arith, length-append, length-map, binary, spelled}
 use Rattle.message_layout.proofs.Common.{in_widths, fit_value, length-in_widths, width_within, write_room, written_more}
 use Rattle.message_layout.proofs.writing.append_values.Goals as goal

@@ -1,4 +1,3 @@
--- What each pass of the loops in `append_values` of `writing` keeps, and why they end.
 use Rattle.message_layout.proofs.Common.{◌≡◌, ◌++◌, map, take, spelled, in_widths}
 use Rattle.message_layout.proofs.writing.append_values.Given as goal
 

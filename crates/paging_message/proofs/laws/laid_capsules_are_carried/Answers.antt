@@ -1,4 +1,3 @@
--- Why the law `laid_capsules_are_carried` holds.
 use Rattle.paging_message.proofs.Common.{◌++◌, length, replicate, false, sym, ap, ◌∙◌, half_frame_body, fill}
 use Rattle.paging_message.proofs.Carried.{laid_is_carried, rate_large}
 use Rattle.paging_message.proofs.Layings.{padded_framed}

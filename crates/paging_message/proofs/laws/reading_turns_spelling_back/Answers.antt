@@ -1,4 +1,3 @@
--- Why the law `reading_turns_spelling_back` holds.
 use Rattle.paging_message.proofs.Common.{ap, ◌∙◌, body_reading, turned_back}
 use Rattle.paging_message.proofs.Readings.{are_read, body_is_read, reads_body}
 use Rattle.paging_message.proofs.laws.reading_turns_spelling_back.Goals as goal

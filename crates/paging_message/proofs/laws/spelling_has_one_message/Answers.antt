@@ -1,4 +1,3 @@
--- Why the law `spelling_has_one_message` holds.
 use Rattle.paging_message.proofs.Common.{one_message}
 use Rattle.paging_message.proofs.Readings.{are_read}
 use Rattle.paging_message.proofs.laws.spelling_has_one_message.Goals as goal

@@ -1,4 +1,3 @@
--- Why the law `type_and_length_admit` holds.
 use Rattle.paging_message.proofs.Messages.{admits_message, message_fills, message_is_admitted}
 use Rattle.paging_message.proofs.laws.type_and_length_admit.Goals as goal
 

@@ -1,7 +1,5 @@
--- Why `fields_of` of `system` keeps its contract.
-use Rattle.chip_core.proofs.ValueLists.{fit_value}
+use Rattle.paging_message.proofs.Common.{fit_value, ℕ, List, [], ◌<◌, ◌^◌, get_or, arith, system_of, system_values, system_widths}
 use Rattle.chip_core.specs.Fields.{FieldsFit, in_widths}
-use Rattle.paging_message.proofs.Common.{ℕ, List, [], ◌<◌, ◌^◌, get_or, arith, system_of, system_values, system_widths}
 use Rattle.paging_message.proofs.system.fields_of.Goals as goal
 
 -- Each value has at most as many bits as its field. A search that finds this from the requirement

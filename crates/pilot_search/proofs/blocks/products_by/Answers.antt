@@ -1,4 +1,3 @@
--- Why `products_by` of `blocks` keeps its contract.
 use Rattle.pilot_search.proofs.Common.{map, ap, sample_at, signs_at, across, both, AreUnits}
 use Rattle.pilot_search.proofs.LaneLemmas.{all_units, are_products, keep, kept16, kept_short, kept_units, point_signs, turned_signs}
 use Rattle.pilot_search.proofs.LaneLemmas.{units_across}

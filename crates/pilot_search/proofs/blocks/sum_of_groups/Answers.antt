@@ -1,6 +1,4 @@
--- Why `sum_of_groups` of `blocks` keeps its contract.
-use Rattle.pilot_search.proofs.Common.{ints, common_steps}
-use Rattle.pilot_search.proofs.Common.{◌≡◌, ◌≤◌, ◌+◌, ◌*◌, ◌/◌, arith, length, length-map, map, to_z, w32, both}
+use Rattle.pilot_search.proofs.Common.{ints, common_steps, ◌≡◌, ◌≤◌, ◌+◌, ◌*◌, ◌/◌, arith, length, length-map, map, to_z, w32, both}
 use Rattle.pilot_search.proofs.LaneSums.{kept_near, products_kept, sums_kept, sums_whole}
 use Rattle.pilot_search.proofs.blocks.sum_of_groups.Goals as goal
 

@@ -1,4 +1,3 @@
--- What each pass of the loops in `sum_of_groups` of `blocks` keeps, and why they end.
 use Rattle.pilot_search.proofs.Common.{map, to_z, w32, both, AreSums}
 use Rattle.pilot_search.proofs.blocks.sum_of_groups.Given as goal
 

@@ -1,4 +1,3 @@
--- Why `correlate` of `correlation` keeps its contract.
 use Rattle.pilot_search.proofs.Common.{◌∙◌, ◌+◌, ◌*◌, ◌≤◌, arith, ap, length, List, ℤ, plus, unsigned_abs, Sample, correlation_with}
 use Rattle.pilot_search.proofs.KeptSums.{kept_sum_fits, kept_sum_within, plus_kept}
 use Rattle.pilot_search.proofs.correlation.correlate.Goals as goal

@@ -1,4 +1,3 @@
--- Why `correlate_plainly` of `correlation` keeps its contract.
 use Rattle.pilot_search.proofs.Common.{rules, ◌<◌, ◌≤◌, ◌+◌, ◌*◌, ◌^◌, arith, length, ◌∙◌, sym, unsigned_abs}
 use Rattle.pilot_search.proofs.CorrelationSums.{correlation_with-more, correlation_with-all}
 use Rattle.pilot_search.proofs.KeptSums.{kept_sum_back, kept_sum_fits, kept_sum_within}

@@ -1,4 +1,3 @@
--- What each pass of the loops in `correlate_plainly` of `correlation` keeps, and why they end.
 use Rattle.pilot_search.proofs.Common.{◌≡◌, ◌≤◌, ◌*◌, unsigned_abs, drop, plus, correlation_with}
 use Rattle.pilot_search.proofs.correlation.correlate_plainly.Given as goal
 

@@ -1,6 +1,5 @@
--- Why `correlation_at` of `correlation` keeps its contract.
-use Rattle.pilot_search.proofs.Common.{◌≡◌, ◌*◌, ◌≤◌, ◌∙◌, arith, rules, ap, take, drop, length, All-drop, plus, Pair, pilot_signs}
-use Rattle.pilot_search.proofs.Common.{correlation_with, IsUnit, List, ℕ, ℤ, Sample}
+use Rattle.pilot_search.proofs.Common.{◌≡◌, ◌*◌, ◌≤◌, ◌∙◌, arith, rules, ap, take, drop, length, All-drop, plus, Pair, pilot_signs, IsUnit}
+use Rattle.pilot_search.proofs.Common.{correlation_with, List, ℕ, ℤ, Sample}
 use Rattle.pilot_search.proofs.CorrelationSums.{all_before, parted, units}
 use Rattle.pilot_search.proofs.KeptSums.{kept_sum_fits, kept_sum_within, plus_kept}
 use Rattle.pilot_search.proofs.correlation.correlation_at.Goals as goal

@@ -1,4 +1,3 @@
--- Why `correlation_by` of `correlation` keeps its contract.
 use Rattle.pilot_search.proofs.Common.{◌≡◌, ◌≤◌, ◌<◌, ◌+◌, ◌∙◌, ℕ, List, arith, ap, sym, drop, length, map, drop-map, take_all, All-drop}
 use Rattle.pilot_search.proofs.Common.{IsUnit, pilot_signs, Sample, across, both, subst, All, correlation_with, phase_correlation}
 use Rattle.pilot_search.proofs.CorrelationSums.{all_before, units}

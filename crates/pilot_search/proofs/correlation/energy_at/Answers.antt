@@ -1,4 +1,3 @@
--- Why `energy_at` of `correlation` keeps its contract.
 use Rattle.pilot_search.proofs.Common.{ap, ◌∙◌, norm, energy}
 use Rattle.pilot_search.proofs.correlation.energy_at.Goals as goal
 

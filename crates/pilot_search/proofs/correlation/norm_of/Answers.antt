@@ -1,4 +1,3 @@
--- Why `norm_of` of `correlation` keeps its contract.
 use Rattle.pilot_search.proofs.Common.{arith, common_steps, ints}
 use Rattle.pilot_search.proofs.correlation.norm_of.Goals as goal
 

@@ -1,4 +1,3 @@
--- Why `added` of `lanes` keeps its contract.
 use Rattle.pilot_search.proofs.LaneLemmas.{added_lanes}
 use Rattle.pilot_search.proofs.lanes.added.Goals as goal
 

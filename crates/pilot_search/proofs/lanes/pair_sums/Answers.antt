@@ -1,4 +1,3 @@
--- Why `pair_sums` of `lanes` keeps its contract.
 use Rattle.pilot_search.proofs.Common.{eight}
 use Rattle.pilot_search.proofs.LaneLemmas.{lane}
 use Rattle.pilot_search.proofs.lanes.pair_sums.Goals as goal

@@ -1,4 +1,3 @@
--- Why `products` of `lanes` keeps its contract.
 use Rattle.pilot_search.proofs.Common.{ap, sample_at, signs_at, across, refl, AreUnits}
 use Rattle.pilot_search.proofs.LaneLemmas.{all_units, are_products, keep, kept16, kept_short, kept_units, units_across}
 use Rattle.pilot_search.proofs.lanes.products.Goals as goal

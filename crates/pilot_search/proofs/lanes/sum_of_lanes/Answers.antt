@@ -1,4 +1,3 @@
--- Why `sum_of_lanes` of `lanes` keeps its contract.
 use Rattle.pilot_search.proofs.LaneSums.{IsTotal, fit_kept, is_total}
 use Rattle.pilot_search.proofs.lanes.sum_of_lanes.Goals as goal
 

@@ -1,6 +1,4 @@
--- Why `sums_on_lanes` of `lanes` keeps its contract.
-use Rattle.pilot_search.proofs.Common.{ints, common_steps}
-use Rattle.pilot_search.proofs.Common.{◌≤◌, ◌+◌, ◌*◌, arith, length}
+use Rattle.pilot_search.proofs.Common.{ints, common_steps, ◌≤◌, ◌+◌, ◌*◌, arith, length}
 use Rattle.pilot_search.proofs.LaneSums.{kept_near, products_kept, sums_kept}
 use Rattle.pilot_search.proofs.lanes.sums_on_lanes.Goals as goal
 

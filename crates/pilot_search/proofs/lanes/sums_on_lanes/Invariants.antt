@@ -1,4 +1,3 @@
--- What each pass of the loops in `sums_on_lanes` of `lanes` keeps, and why they end.
 use Rattle.pilot_search.proofs.Common.{map, to_z, w32, AreSums}
 use Rattle.pilot_search.proofs.lanes.sums_on_lanes.Given as goal
 

@@ -1,4 +1,3 @@
--- Why `total_of` of `lanes` keeps its contract.
 use Rattle.pilot_search.proofs.Common.{◌≡◌, ◌≤◌, ◌<◌, ◌+◌, ◌*◌, ◌^◌, ◌∙◌, List, ℤ, pos, ◌+ℤ◌, arith, ap, sym, subst, length, map, get_or}
 use Rattle.pilot_search.proofs.Common.{to_z, of_z, w32, w64, unsigned_abs, to_z-of_z, fits_signed_from_abs, take_all, Each1-get_or, total}
 use Rattle.pilot_search.proofs.LaneLemmas.{total_more, kept_lanes, wide_sum, far_sum}

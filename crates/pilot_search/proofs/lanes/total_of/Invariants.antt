@@ -1,4 +1,3 @@
--- What each pass of the loops in `total_of` of `lanes` keeps, and why they end.
 use Rattle.pilot_search.proofs.Common.{◌≡◌, ◌≤◌, ◌*◌, take, unsigned_abs, total}
 use Rattle.pilot_search.proofs.lanes.total_of.Given as goal
 

@@ -1,4 +1,3 @@
--- Why `turned_signs` of `lanes` keeps its contract.
 use Rattle.pilot_search.proofs.Common.{across}
 use Rattle.pilot_search.proofs.LaneLemmas.{parts_alike, same_sign, turned_sign}
 use Rattle.pilot_search.proofs.lanes.turned_signs.Goals as goal

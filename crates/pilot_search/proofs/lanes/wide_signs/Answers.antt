@@ -1,4 +1,3 @@
--- Why `wide_signs` of `lanes` keeps its contract.
 use Rattle.pilot_search.proofs.Common.{arith, common_steps, ints}
 use Rattle.pilot_search.proofs.lanes.wide_signs.Goals as goal
 

@@ -1,4 +1,3 @@
--- Why `with_products` of `lanes` keeps its contract.
 use Rattle.pilot_search.proofs.LaneSums.{may_add, sums_more}
 use Rattle.pilot_search.proofs.lanes.with_products.Goals as goal
 

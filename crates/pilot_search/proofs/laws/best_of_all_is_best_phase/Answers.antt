@@ -1,4 +1,3 @@
--- Why the law `best_of_all_is_best_phase` holds.
 use Rattle.pilot_search.proofs.BestPhase.{best_phase-only, best_energy-only, best_phase-is}
 use Rattle.pilot_search.proofs.laws.best_of_all_is_best_phase.Goals as goal
 

@@ -1,4 +1,3 @@
--- Why the law `every_run_finds_the_best` holds.
 use Rattle.pilot_search.proofs.Runs.{finds_best, best_first}
 use Rattle.pilot_search.proofs.laws.every_run_finds_the_best.Goals as goal
 

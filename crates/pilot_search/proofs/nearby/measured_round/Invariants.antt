@@ -1,4 +1,3 @@
--- What each pass of the loops in `measured_round` of `nearby` keeps, and why they end.
 use Rattle.pilot_search.proofs.Common.{IsRound}
 use Rattle.pilot_search.proofs.nearby.measured_round.Given as goal
 

@@ -1,4 +1,3 @@
--- Why `near` of `nearby` keeps its contract.
 use Rattle.pilot_search.proofs.Common.{◌≡◌, arith, pos, ◌-ℤ◌, to_z, of_z, w8, ints}
 use Rattle.pilot_search.proofs.NearPlaces.{one_delta, two_deltas, three_deltas}
 use Rattle.pilot_search.proofs.nearby.near.Goals as goal

@@ -1,6 +1,4 @@
--- Why `next_place` of `nearby` keeps its contract.
-use Rattle.pilot_search.proofs.Common.{arith, ints}
-use Rattle.std.proofs.lemmas.Grind.{elements}
+use Rattle.pilot_search.proofs.Common.{arith, ints, elements}
 use Rattle.pilot_search.proofs.nearby.next_place.Goals as goal
 
 pub loop-place-preserved : goal.loop-place-preserved

@@ -1,4 +1,3 @@
--- What each pass of the loops in `next_place` of `nearby` keeps, and why they end.
 use Rattle.pilot_search.proofs.Common.{IsNext}
 use Rattle.pilot_search.proofs.nearby.next_place.Given as goal
 

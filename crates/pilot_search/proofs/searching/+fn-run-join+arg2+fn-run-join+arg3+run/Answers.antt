@@ -1,4 +1,3 @@
--- Why `+fn-run-join+arg2+fn-run-join+arg3+run` of `searching` keeps its contract.
 use Rattle.pilot_search.proofs.Common.{◌≡◌, ◌+◌, ◌-◌, ◌/◌, ◌≤◌, ◌<◌, ℕ, arith, subst, sym, Option, IsFound, worker_start, Best}
 use Rattle.pilot_search.proofs.FoundLemmas.{both_found, start_up, start_most}
 use Rattle.pilot_search.proofs.searching.+fn-run-join+arg2+fn-run-join+arg3+run.Goals as goal

@@ -1,4 +1,3 @@
--- What each pass of the loops in `+fn-run-join+arg2+fn-run-join+arg3+run` keeps, and why they end.
 use Rattle.pilot_search.proofs.Common.{◌+◌, ◌*◌}
 use Rattle.pilot_search.proofs.searching.+fn-run-join+arg2+fn-run-join+arg3+run.Given as goal
 

@@ -1,4 +1,3 @@
--- Why `search` of `searching` keeps its contract.
 use Rattle.pilot_search.proofs.Common.{subst, Option, IsFound, Best}
 use Rattle.pilot_search.proofs.FoundLemmas.{best_found, is_some, whole}
 use Rattle.pilot_search.proofs.searching.search.Goals as goal

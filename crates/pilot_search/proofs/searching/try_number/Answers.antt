@@ -1,4 +1,3 @@
--- Why `try_number` of `searching` keeps its contract.
 use Rattle.pilot_search.proofs.Common.{◌≡◌, ◌≤◌, ◌<◌, ◌+◌, ℕ, arith, rules, subst, sym, Option, None, greatest, IsFound, Best}
 use Rattle.pilot_search.proofs.FoundLemmas.{at_most_greatest, left_out}
 use Rattle.pilot_search.proofs.searching.try_number.Goals as goal

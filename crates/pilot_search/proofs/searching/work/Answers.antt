@@ -1,4 +1,3 @@
--- Why `work` of `searching` keeps its contract.
 use Rattle.pilot_search.proofs.Common.{◌+◌, ◌≤◌, arith, subst, sym, Option, IsFound, Best}
 use Rattle.pilot_search.proofs.FoundLemmas.{both_found}
 use Rattle.pilot_search.proofs.searching.work.Goals.{then-is_none, else-is_none}

@@ -1,4 +1,3 @@
--- What each pass of the loops in `work` of `searching` keeps, and why they end.
 use Rattle.pilot_search.proofs.Common.{◌≡◌, ◌+◌, ◌≤◌, IsFound, greatest, IsHeld}
 use Rattle.pilot_search.proofs.searching.work.Given as goal
 

@@ -1,4 +1,3 @@
--- What each pass of the loops in `sweep` of `sweeping` keeps, and why they end.
 use Rattle.pilot_search.proofs.Common.{◌≤◌, ◌^◌, IsBestIn}
 use Rattle.pilot_search.proofs.sweeping.sweep.Given as goal
 

@@ -1,4 +1,3 @@
--- Why `magnitude` of `tails` keeps its contract.
 use Rattle.pilot_search.proofs.Common.{arith, ints, common_steps}
 use Rattle.pilot_search.proofs.tails.magnitude.Goals as goal
 

@@ -1,4 +1,3 @@
--- Why `bound_of` of `trying` keeps its contract.
 use Rattle.pilot_search.proofs.Common.{arith, common_steps, ints}
 use Rattle.pilot_search.proofs.trying.bound_of.Goals as goal
 

@@ -1,6 +1,5 @@
--- Why `energy_unless_below` of `trying` keeps its contract.
-use Rattle.pilot_search.proofs.Common.{◌≡◌, ◌<◌, ◌+◌, ◌*◌, ◌-◌, ◌/◌, ◌%◌, ◌∙◌, ℕ, List, arith, rules, ap, drop, length, common_steps}
-use Rattle.pilot_search.proofs.Common.{Sample, phase_correlation, bound, magnitudes}
+use Rattle.pilot_search.proofs.Common.{◌≡◌, ◌<◌, ◌+◌, ◌*◌, ◌-◌, ◌/◌, ◌%◌, ◌∙◌, ℕ, List, arith, rules, ap, drop, length, common_steps, bound}
+use Rattle.pilot_search.proofs.Common.{Sample, phase_correlation, magnitudes}
 use Rattle.pilot_search.proofs.BoundLemmas.{bound_is, none_left, none_below, sum_whole}
 use Rattle.pilot_search.proofs.trying.energy_unless_below.Goals as goal
 

@@ -1,4 +1,3 @@
--- Why `joined` of `trying` keeps its contract.
 use Rattle.pilot_search.proofs.Common.{arith}
 use Rattle.pilot_search.proofs.KeptSums.{plus_kept}
 use Rattle.pilot_search.proofs.trying.joined.Goals as goal

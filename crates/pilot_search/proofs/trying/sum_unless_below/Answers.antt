@@ -1,7 +1,5 @@
--- Why `sum_unless_below` of `trying` keeps its contract.
-use Rattle.pilot_search.proofs.Common.{ints, common_steps}
-use Rattle.pilot_search.proofs.Common.{◌≡◌, ◌≤◌, ◌+◌, ◌*◌, ◌-◌, ◌%◌, ◌∙◌, ℕ, List, arith, ap, refl, take, drop, length, unsigned_abs}
-use Rattle.pilot_search.proofs.Common.{length-drop, length-take-le, drop-drop, Sample, phase_correlation}
+use Rattle.pilot_search.proofs.Common.{ints, common_steps, ◌≡◌, ◌≤◌, ◌+◌, ◌*◌, ◌-◌, ◌%◌, ◌∙◌, ℕ, List, arith, ap, refl, take, drop, length}
+use Rattle.pilot_search.proofs.Common.{unsigned_abs, length-drop, length-take-le, drop-drop, Sample, phase_correlation}
 use Rattle.pilot_search.proofs.BoundLemmas.{none_added, sum_more}
 use Rattle.pilot_search.proofs.KeptSums.{kept_sum_back, kept_sum_fits}
 use Rattle.pilot_search.proofs.trying.sum_unless_below.Goals as goal

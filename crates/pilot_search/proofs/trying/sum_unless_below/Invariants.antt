@@ -1,4 +1,3 @@
--- What each pass of the loops in `sum_unless_below` of `trying` keeps, and why they end.
 use Rattle.pilot_search.proofs.Common.{◌≡◌, ◌+◌, ◌*◌, ◌-◌, ◌≤◌, length, drop, IsSumOf}
 use Rattle.pilot_search.proofs.trying.sum_unless_below.Given as goal
 

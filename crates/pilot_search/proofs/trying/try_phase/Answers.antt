@@ -1,6 +1,4 @@
--- Why `try_phase` of `trying` keeps its contract.
-use Rattle.pilot_search.proofs.Common.{ints, common_steps}
-use Rattle.pilot_search.proofs.Common.{arith}
+use Rattle.pilot_search.proofs.Common.{ints, common_steps, arith}
 use Rattle.pilot_search.proofs.Runs.{told_is_try}
 use Rattle.pilot_search.proofs.trying.try_phase.Goals as goal
 

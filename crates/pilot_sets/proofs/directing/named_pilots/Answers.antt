@@ -1,7 +1,4 @@
--- Why `named_pilots` of `directing` keeps its contract.
-use Rattle.std.proofs.lemmas.Grind.{elements}
-use Rattle.std.proofs.lemmas.Int.{ints}
-use Rattle.pilot_sets.proofs.Common.{◌<◌, length, arith}
+use Rattle.pilot_sets.proofs.Common.{elements, ints, ◌<◌, length, arith}
 use Rattle.pilot_sets.proofs.NamedPilots.{named_more, length_more}
 use Rattle.pilot_sets.proofs.directing.named_pilots.Goals as goal
 

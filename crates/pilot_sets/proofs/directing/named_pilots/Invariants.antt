@@ -1,6 +1,4 @@
--- What each pass of the loops in `named_pilots` of `directing` keeps, and why they end.
-use Rattle.pilot_sets.proofs.Common.{◌≡◌, ◌++◌, drop, length}
-use Rattle.pilot_sets.specs.Directions.{named_pilots as pilots_named}
+use Rattle.pilot_sets.proofs.Common.{◌≡◌, ◌++◌, drop, length, named_pilots as pilots_named}
 use Rattle.pilot_sets.proofs.directing.named_pilots.Given as goal
 
 abbrev pub invariant-loop-i : goal.invariant-loop-i

@@ -1,7 +1,5 @@
--- Why `repeated` of `directing` keeps its contract.
-use Rattle.pilot_sets.proofs.Common.{◌+◌, ◌∷◌, [], drop, sym, ◌∙◌, arith, ap, length-append, first_repeated}
+use Rattle.pilot_sets.proofs.Common.{◌+◌, ◌∷◌, [], drop, sym, ◌∙◌, arith, ap, length-append, first_repeated, has as has_pilot}
 use Rattle.pilot_sets.proofs.Firsts.{element_below, repeated_here, repeated_more}
-use Rattle.pilot_sets.specs.Pilots.{has as has_pilot}
 use Rattle.pilot_sets.proofs.directing.repeated.Goals as goal
 
 pub returns-then-has : goal.returns-then-has

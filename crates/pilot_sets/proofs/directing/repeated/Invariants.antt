@@ -1,4 +1,3 @@
--- What each pass of the loops in `repeated` of `directing` keeps, and why they end.
 use Rattle.pilot_sets.proofs.Common.{◌≡◌, [], drop, length, first_repeated}
 use Rattle.pilot_sets.proofs.directing.repeated.Given as goal
 

@@ -1,7 +1,4 @@
--- Why `unknown_row` of `directing` keeps its contract.
-use Rattle.std.proofs.lemmas.Grind.{elements}
-use Rattle.std.proofs.lemmas.Int.{ints}
-use Rattle.pilot_sets.proofs.Common.{sym, ◌∙◌, arith, is_unknown_row, found_here, found_later}
+use Rattle.pilot_sets.proofs.Common.{elements, ints, sym, ◌∙◌, arith, is_unknown_row, found_here, found_later}
 use Rattle.pilot_sets.proofs.directing.unknown_row.Goals as goal
 
 pub returns-then-is_unknown : goal.returns-then-is_unknown

@@ -1,6 +1,4 @@
--- Why `actives_after` of `handoff` keeps its contract.
-use Rattle.pilot_sets.proofs.Common.{arith, common_steps}
-use Rattle.std.proofs.lemmas.Int.{ints}
+use Rattle.pilot_sets.proofs.Common.{arith, common_steps, ints}
 use Rattle.pilot_sets.proofs.handoff.actives_after.Goals as goal
 
 pub loop-i-preserved : goal.loop-i-preserved

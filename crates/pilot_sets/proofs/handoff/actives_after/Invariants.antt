@@ -1,6 +1,4 @@
--- What each pass of the loops in `actives_after` of `handoff` keeps, and why they end.
-use Rattle.pilot_sets.proofs.Common.{◌≡◌, ◌≤◌, ◌++◌, drop, length}
-use Rattle.pilot_sets.specs.Handoffs.{actives_after as actives_by}
+use Rattle.pilot_sets.proofs.Common.{◌≡◌, ◌≤◌, ◌++◌, drop, length, actives_after as actives_by}
 use Rattle.pilot_sets.proofs.handoff.actives_after.Given as goal
 
 abbrev pub invariant-loop-i : goal.invariant-loop-i

@@ -1,6 +1,4 @@
--- What each pass of the loops in `actives_without` of `handoff` keeps, and why they end.
-use Rattle.pilot_sets.proofs.Common.{◌≡◌, ◌≤◌, take, length}
-use Rattle.pilot_sets.specs.Handoffs.{actives_without as actives_left}
+use Rattle.pilot_sets.proofs.Common.{◌≡◌, ◌≤◌, take, length, actives_without as actives_left}
 use Rattle.pilot_sets.proofs.handoff.actives_without.Given as goal
 
 abbrev pub invariant-loop-a : goal.invariant-loop-a

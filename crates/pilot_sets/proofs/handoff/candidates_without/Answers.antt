@@ -1,6 +1,4 @@
--- Why `candidates_without` of `handoff` keeps its contract.
-use Rattle.pilot_sets.proofs.Common.{arith, common_steps}
-use Rattle.std.proofs.lemmas.Int.{ints}
+use Rattle.pilot_sets.proofs.Common.{arith, common_steps, ints}
 use Rattle.pilot_sets.proofs.handoff.candidates_without.Goals as goal
 
 pub loop-c-preserved : goal.loop-c-preserved

@@ -1,6 +1,4 @@
--- What each pass of the loops in `candidates_without` of `handoff` keeps, and why they end.
-use Rattle.pilot_sets.proofs.Common.{◌≡◌, ◌≤◌, take, length}
-use Rattle.pilot_sets.specs.Handoffs.{candidates_without as candidates_left}
+use Rattle.pilot_sets.proofs.Common.{◌≡◌, ◌≤◌, take, length, candidates_without as candidates_left}
 use Rattle.pilot_sets.proofs.handoff.candidates_without.Given as goal
 
 abbrev pub invariant-loop-c : goal.invariant-loop-c

@@ -1,4 +1,3 @@
--- What each pass of the loops in `leave_all` of `handoff` keeps, and why they end.
 use Rattle.pilot_sets.proofs.Common.{◌≡◌, drop, all_left}
 use Rattle.pilot_sets.proofs.handoff.leave_all.Given as goal
 

@@ -1,6 +1,4 @@
--- Why `named_pilots` of `handoff` keeps its contract.
-use Rattle.pilot_sets.proofs.Common.{arith, common_steps}
-use Rattle.std.proofs.lemmas.Int.{ints}
+use Rattle.pilot_sets.proofs.Common.{arith, common_steps, ints}
 use Rattle.pilot_sets.proofs.handoff.named_pilots.Goals as goal
 
 pub loop-n-preserved : goal.loop-n-preserved

@@ -1,4 +1,3 @@
--- What each pass of the loops in `named_pilots` of `handoff` keeps, and why they end.
 use Rattle.pilot_sets.proofs.Common.{◌≡◌, take, pilots_named}
 use Rattle.pilot_sets.proofs.handoff.named_pilots.Given as goal
 

@@ -1,6 +1,4 @@
--- What each pass of the loops in `timer_of` of `handoff` keeps, and why they end.
-use Rattle.pilot_sets.proofs.Common.{◌≡◌, drop}
-use Rattle.pilot_sets.specs.Handoffs.{timer_of as timer_among}
+use Rattle.pilot_sets.proofs.Common.{◌≡◌, drop, timer_of as timer_among}
 use Rattle.pilot_sets.proofs.handoff.timer_of.Given as goal
 
 -- the pilots so far are others

@@ -1,10 +1,6 @@
--- Why `firsts` of `hearing` keeps its contract.
-use Rattle.pilot_sets.proofs.Common.{common_steps}
-use Rattle.std.proofs.lemmas.Int.{ints}
-use Rattle.pilot_sets.proofs.Common.{◌<◌, ◌∷◌, [], length, sym, ◌∙◌, arith, ap, length-append}
+use Rattle.pilot_sets.proofs.Common.{common_steps, ints, ◌<◌, ◌∷◌, [], length, sym, ◌∙◌, arith, ap, length-append, has as has_pilot}
 use Rattle.pilot_sets.proofs.Firsts.{element_below, firsts_new, firsts_old}
 use Rattle.pilot_sets.proofs.hearing.firsts.Goals.{then-not-has, else-not-has}
-use Rattle.pilot_sets.specs.Pilots.{has as has_pilot}
 use Rattle.pilot_sets.proofs.hearing.firsts.Goals as goal
 
 pub loop-i-preserved : goal.loop-i-preserved

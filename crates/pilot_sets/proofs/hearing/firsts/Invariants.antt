@@ -1,6 +1,4 @@
--- What each pass of the loops in `firsts` of `hearing` keeps, and why they end.
-use Rattle.pilot_sets.proofs.Common.{◌≡◌, ◌≤◌, ◌++◌, [], drop, length}
-use Rattle.pilot_sets.specs.Pilots.{firsts as firsts_of}
+use Rattle.pilot_sets.proofs.Common.{◌≡◌, ◌≤◌, ◌++◌, [], drop, length, firsts as firsts_of}
 use Rattle.pilot_sets.proofs.hearing.firsts.Given as goal
 
 abbrev pub invariant-loop-i : goal.invariant-loop-i

@@ -1,7 +1,4 @@
--- Why `free_pilots` of `hearing` keeps its contract.
-use Rattle.pilot_sets.proofs.Common.{arith, common_steps}
-use Rattle.std.proofs.lemmas.Int.{ints}
-use Rattle.pilot_sets.proofs.Common.{sym, ◌∙◌, ap, not, lacks, timed_pilots}
+use Rattle.pilot_sets.proofs.Common.{arith, common_steps, ints, sym, ◌∙◌, ap, not, lacks, timed_pilots}
 use Rattle.pilot_sets.proofs.Within.{filtered_hit, filtered_miss}
 use Rattle.pilot_sets.proofs.hearing.free_pilots.Goals.{then-not-has_timer, else-not-has_timer}
 use Rattle.pilot_sets.proofs.hearing.free_pilots.Goals as goal

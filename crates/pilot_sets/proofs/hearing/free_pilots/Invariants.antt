@@ -1,4 +1,3 @@
--- What each pass of the loops in `free_pilots` of `hearing` keeps, and why they end.
 use Rattle.pilot_sets.proofs.Common.{◌≡◌, ◌≤◌, take, length, without, timed_pilots}
 use Rattle.pilot_sets.proofs.hearing.free_pilots.Given as goal
 

@@ -1,4 +1,3 @@
--- Why the law `directions_wait_for_their_time` holds.
 use Rattle.pilot_sets.proofs.Lasting.{waits}
 use Rattle.pilot_sets.proofs.laws.directions_wait_for_their_time.Goals as goal
 

@@ -1,4 +1,3 @@
--- Why the law `sets_stay_apart` holds.
 use Rattle.pilot_sets.proofs.Lasting.{sets_stay_apart}
 use Rattle.pilot_sets.proofs.laws.sets_stay_apart.Goals as goal
 

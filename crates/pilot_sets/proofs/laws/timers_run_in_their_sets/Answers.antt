@@ -1,4 +1,3 @@
--- Why the law `timers_run_in_their_sets` holds.
 use Rattle.pilot_sets.proofs.Running.{keeps, only}
 use Rattle.pilot_sets.proofs.laws.timers_run_in_their_sets.Goals as goal
 

@@ -1,4 +1,3 @@
--- What each pass of the loops in `active_list` of `lists` keeps, and why they end.
 use Rattle.pilot_sets.proofs.Common.{◌≡◌, map, take, shown_active}
 use Rattle.pilot_sets.proofs.lists.active_list.Given as goal
 

@@ -1,6 +1,4 @@
--- Why `are_same_actives` of `moment` keeps its contract.
-use Rattle.pilot_sets.proofs.Common.{arith, common_steps}
-use Rattle.std.proofs.lemmas.Int.{ints}
+use Rattle.pilot_sets.proofs.Common.{arith, common_steps, ints}
 use Rattle.pilot_sets.proofs.moment.are_same_actives.Goals as goal
 
 pub loop-i-preserved : goal.loop-i-preserved

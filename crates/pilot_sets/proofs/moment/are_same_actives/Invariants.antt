@@ -1,6 +1,4 @@
--- What each pass of the loops in `are_same_actives` of `moment` keeps, and why they end.
-use Rattle.pilot_sets.proofs.Common.{◌≡◌, drop, pointwise}
-use Rattle.pilot_sets.specs.Standing.{is_same_active as is_same_by}
+use Rattle.pilot_sets.proofs.Common.{◌≡◌, drop, pointwise, is_same_active as is_same_by}
 use Rattle.pilot_sets.proofs.moment.are_same_actives.Given as goal
 
 abbrev pub invariant-loop-i : goal.invariant-loop-i

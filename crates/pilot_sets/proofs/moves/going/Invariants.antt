@@ -1,4 +1,3 @@
--- What each pass of the loops in `going` of `moves` keeps, and why they end.
 use Rattle.pilot_sets.proofs.Common.{◌≡◌, ◌≤◌, take, length, pilots_going}
 use Rattle.pilot_sets.proofs.moves.going.Given as goal
 

@@ -1,4 +1,3 @@
--- Why `joined` of `moves` keeps its contract.
 use Rattle.pilot_sets.proofs.Within.{joined_more}
 use Rattle.pilot_sets.proofs.moves.joined.Goals as goal
 

@@ -1,4 +1,3 @@
--- What each pass of the loops in `joined` of `moves` keeps, and why they end.
 use Rattle.pilot_sets.proofs.Common.{◌≡◌, ◌≤◌, ◌++◌, take, length}
 use Rattle.pilot_sets.proofs.moves.joined.Given as goal
 

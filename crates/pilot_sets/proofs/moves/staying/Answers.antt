@@ -1,6 +1,4 @@
--- Why `staying` of `moves` keeps its contract.
-use Rattle.pilot_sets.proofs.Common.{arith, common_steps}
-use Rattle.std.proofs.lemmas.Int.{ints}
+use Rattle.pilot_sets.proofs.Common.{arith, common_steps, ints}
 use Rattle.pilot_sets.proofs.moves.staying.Goals as goal
 
 pub loop-c-preserved : goal.loop-c-preserved

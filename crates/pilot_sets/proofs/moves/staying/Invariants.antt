@@ -1,4 +1,3 @@
--- What each pass of the loops in `staying` of `moves` keeps, and why they end.
 use Rattle.pilot_sets.proofs.Common.{◌≡◌, ◌≤◌, take, filter, length, stays}
 use Rattle.pilot_sets.proofs.moves.staying.Given as goal
 

@@ -1,6 +1,4 @@
--- Why `strong_neighbors` of `moves` keeps its contract.
-use Rattle.pilot_sets.proofs.Common.{arith, common_steps}
-use Rattle.std.proofs.lemmas.Int.{ints}
+use Rattle.pilot_sets.proofs.Common.{arith, common_steps, ints}
 use Rattle.pilot_sets.proofs.moves.strong_neighbors.Goals as goal
 
 pub returns-clause-value : goal.returns-clause-value

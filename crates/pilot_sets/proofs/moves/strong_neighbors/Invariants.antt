@@ -1,4 +1,3 @@
--- What each pass of the loops in `strong_neighbors` of `moves` keeps, and why they end.
 use Rattle.pilot_sets.proofs.Common.{◌≡◌, ◌≤◌, take, filter, length, energy_in, rises}
 use Rattle.pilot_sets.proofs.moves.strong_neighbors.Given as goal
 

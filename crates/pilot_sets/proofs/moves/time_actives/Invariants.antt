@@ -1,4 +1,3 @@
--- What each pass of the loops in `time_actives` of `moves` keeps, and why they end.
 use Rattle.pilot_sets.proofs.Common.{◌≡◌, take, map, energy_in, active_timed}
 use Rattle.pilot_sets.proofs.moves.time_actives.Given as goal
 

@@ -1,4 +1,3 @@
--- What each pass of the loops in `time_candidates` of `moves` keeps, and why they end.
 use Rattle.pilot_sets.proofs.Common.{◌≡◌, take, map, energy_in, candidate_timed}
 use Rattle.pilot_sets.proofs.moves.time_candidates.Given as goal
 

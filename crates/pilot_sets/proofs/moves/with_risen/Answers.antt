@@ -1,6 +1,4 @@
--- Why `with_risen` of `moves` keeps its contract.
-use Rattle.pilot_sets.proofs.Common.{arith, common_steps}
-use Rattle.std.proofs.lemmas.Int.{ints}
+use Rattle.pilot_sets.proofs.Common.{arith, common_steps, ints}
 use Rattle.pilot_sets.proofs.moves.with_risen.Goals as goal
 
 pub loop-p-preserved : goal.loop-p-preserved

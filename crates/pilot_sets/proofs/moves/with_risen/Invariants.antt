@@ -1,6 +1,4 @@
--- What each pass of the loops in `with_risen` of `moves` keeps, and why they end.
-use Rattle.pilot_sets.proofs.Common.{◌≡◌, ◌++◌, take, map}
-use Rattle.pilot_sets.specs.Handoffs.{fresh as fresh_candidate}
+use Rattle.pilot_sets.proofs.Common.{◌≡◌, ◌++◌, take, map, fresh as fresh_candidate}
 use Rattle.pilot_sets.proofs.moves.with_risen.Given as goal
 
 abbrev pub invariant-loop-p : goal.invariant-loop-p

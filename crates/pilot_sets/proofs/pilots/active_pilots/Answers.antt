@@ -1,6 +1,4 @@
--- Why `active_pilots` of `pilots` keeps its contract.
-use Rattle.pilot_sets.proofs.Common.{arith, common_steps}
-use Rattle.std.proofs.lemmas.Int.{ints}
+use Rattle.pilot_sets.proofs.Common.{arith, common_steps, ints}
 use Rattle.pilot_sets.proofs.pilots.active_pilots.Goals as goal
 
 pub push-requires : goal.push-requires

@@ -1,4 +1,3 @@
--- What each pass of the loops in `active_pilots` of `pilots` keeps, and why they end.
 use Rattle.pilot_sets.proofs.Common.{◌≡◌, take, pilots_of_actives}
 use Rattle.pilot_sets.proofs.pilots.active_pilots.Given as goal
 

@@ -1,4 +1,3 @@
--- What each pass of the loops in `candidate_pilots` of `pilots` keeps, and why they end.
 use Rattle.pilot_sets.proofs.Common.{◌≡◌, take, pilots_of_candidates}
 use Rattle.pilot_sets.proofs.pilots.candidate_pilots.Given as goal
 

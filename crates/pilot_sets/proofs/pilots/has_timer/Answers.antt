@@ -1,6 +1,4 @@
--- Why `has_timer` of `pilots` keeps its contract.
-use Rattle.pilot_sets.proofs.Common.{arith, common_steps}
-use Rattle.std.proofs.lemmas.Int.{ints}
+use Rattle.pilot_sets.proofs.Common.{arith, common_steps, ints}
 use Rattle.pilot_sets.proofs.pilots.has_timer.Goals as goal
 
 pub returns-then-has : goal.returns-then-has

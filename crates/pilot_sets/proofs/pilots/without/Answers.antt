@@ -1,6 +1,4 @@
--- Why `without` of `pilots` keeps its contract.
-use Rattle.pilot_sets.proofs.Common.{arith, common_steps}
-use Rattle.std.proofs.lemmas.Int.{ints}
+use Rattle.pilot_sets.proofs.Common.{arith, common_steps, ints}
 use Rattle.pilot_sets.proofs.pilots.without.Goals as goal
 
 pub returns : goal.returns

@@ -1,6 +1,4 @@
--- What each pass of the loops in `without` of `pilots` keeps, and why they end.
-use Rattle.pilot_sets.proofs.Common.{◌≡◌, ◌≤◌, take, length}
-use Rattle.pilot_sets.specs.Pilots.{without as without_pilots}
+use Rattle.pilot_sets.proofs.Common.{◌≡◌, ◌≤◌, take, length, without as without_pilots}
 use Rattle.pilot_sets.proofs.pilots.without.Given as goal
 
 abbrev pub invariant-loop-p : goal.invariant-loop-p

@@ -1,6 +1,4 @@
--- Why `are_above` of `reports` keeps its contract.
-use Rattle.pilot_sets.proofs.Common.{arith, common_steps}
-use Rattle.std.proofs.lemmas.Int.{ints}
+use Rattle.pilot_sets.proofs.Common.{arith, common_steps, ints}
 use Rattle.pilot_sets.proofs.reports.are_above.Goals as goal
 
 pub returns-then-is_above : goal.returns-then-is_above

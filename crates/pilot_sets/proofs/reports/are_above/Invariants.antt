@@ -1,6 +1,4 @@
--- What each pass of the loops in `are_above` of `reports` keeps, and why they end.
-use Rattle.pilot_sets.proofs.Common.{◌≡◌, drop, list_any}
-use Rattle.pilot_sets.specs.Moments.{energy_in, is_above as is_above_by}
+use Rattle.pilot_sets.proofs.Common.{◌≡◌, drop, list_any, energy_in, is_above as is_above_by}
 use Rattle.pilot_sets.proofs.reports.are_above.Given as goal
 
 abbrev pub invariant-loop-c : goal.invariant-loop-c

@@ -1,6 +1,4 @@
--- Why `has_expired` of `reports` keeps its contract.
-use Rattle.pilot_sets.proofs.Common.{arith, common_steps}
-use Rattle.std.proofs.lemmas.Int.{ints}
+use Rattle.pilot_sets.proofs.Common.{arith, common_steps, ints}
 use Rattle.pilot_sets.proofs.reports.has_expired.Goals as goal
 
 pub returns-then-is_expired : goal.returns-then-is_expired

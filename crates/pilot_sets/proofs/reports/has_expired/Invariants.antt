@@ -1,6 +1,4 @@
--- What each pass of the loops in `has_expired` of `reports` keeps, and why they end.
-use Rattle.pilot_sets.proofs.Common.{◌≡◌, drop, list_any, ActivePilot}
-use Rattle.pilot_sets.specs.Timers.{is_expired as is_expired_by}
+use Rattle.pilot_sets.proofs.Common.{◌≡◌, drop, list_any, ActivePilot, is_expired as is_expired_by}
 use Rattle.pilot_sets.proofs.reports.has_expired.Given as goal
 
 abbrev pub invariant-loop-a : goal.invariant-loop-a

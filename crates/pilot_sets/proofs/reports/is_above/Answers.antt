@@ -1,6 +1,4 @@
--- Why `is_above` of `reports` keeps its contract.
-use Rattle.pilot_sets.proofs.Common.{arith, common_steps}
-use Rattle.std.proofs.lemmas.Int.{ints}
+use Rattle.pilot_sets.proofs.Common.{arith, common_steps, ints}
 use Rattle.pilot_sets.proofs.reports.is_above.Goals as goal
 
 pub loop-a-preserved : goal.loop-a-preserved

@@ -1,6 +1,4 @@
--- What each pass of the loops in `is_above` of `reports` keeps, and why they end.
-use Rattle.pilot_sets.proofs.Common.{◌≡◌, drop}
-use Rattle.pilot_sets.specs.Moments.{energy_in, is_above as is_above_by}
+use Rattle.pilot_sets.proofs.Common.{◌≡◌, drop, energy_in, is_above as is_above_by}
 use Rattle.pilot_sets.proofs.reports.is_above.Given as goal
 
 abbrev pub invariant-loop-a : goal.invariant-loop-a

@@ -1,6 +1,4 @@
--- Why `keep_deltas` of `sets` keeps its contract.
-use Rattle.pilot_sets.proofs.Common.{arith, common_steps}
-use Rattle.std.proofs.lemmas.Int.{ints}
+use Rattle.pilot_sets.proofs.Common.{arith, common_steps, ints}
 use Rattle.pilot_sets.proofs.sets.keep_deltas.Goals as goal
 
 pub loop-s-preserved : goal.loop-s-preserved

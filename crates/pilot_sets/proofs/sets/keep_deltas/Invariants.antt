@@ -1,4 +1,3 @@
--- What each pass of the loops in `keep_deltas` of `sets` keeps, and why they end.
 use Rattle.pilot_sets.proofs.Common.{◌≡◌, drop, length, deltas_with}
 use Rattle.pilot_sets.proofs.sets.keep_deltas.Given as goal
 

@@ -1,6 +1,4 @@
--- Why `energy_of` of `strengths` keeps its contract.
-use Rattle.pilot_sets.proofs.Common.{arith, common_steps}
-use Rattle.std.proofs.lemmas.Int.{ints}
+use Rattle.pilot_sets.proofs.Common.{arith, common_steps, ints}
 use Rattle.pilot_sets.proofs.strengths.energy_of.Goals as goal
 
 pub loop-strength-preserved : goal.loop-strength-preserved

@@ -1,4 +1,3 @@
--- What each pass of the loops in `energy_of` of `strengths` keeps, and why they end.
 use Rattle.pilot_sets.proofs.Common.{◌≡◌, drop, energy_in}
 use Rattle.pilot_sets.proofs.strengths.energy_of.Given as goal
 

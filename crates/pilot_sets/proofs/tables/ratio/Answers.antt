@@ -1,4 +1,3 @@
--- Why `ratio` of `tables` keeps its contract.
 use Rattle.pilot_sets.proofs.Ratios.{no_ratio, small_ratio}
 use Rattle.pilot_sets.proofs.tables.ratio.Goals as goal
 

@@ -1,4 +1,3 @@
--- Why the law `ranking_is_the_only_one` holds.
 use Rattle.pilot_survey.proofs.Ranked.{ranking_only}
 use Rattle.pilot_survey.proofs.Sorting.{ranking_is}
 use Rattle.pilot_survey.proofs.laws.ranking_is_the_only_one.Goals as goal

@@ -1,6 +1,4 @@
--- Why `measure_all` of `measuring` keeps its contract.
-use Rattle.std.proofs.Common.{length, arith}
-use Rattle.pilot_survey.specs.Survey.{surveyed}
+use Rattle.pilot_survey.proofs.Common.{length, arith, surveyed}
 use Rattle.pilot_survey.proofs.Parts.{filled}
 use Rattle.pilot_survey.proofs.measuring.measure_all.Goals as goal
 

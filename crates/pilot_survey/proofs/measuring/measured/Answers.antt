@@ -1,9 +1,5 @@
--- Why `measured` of `measuring` keeps its contract.
-use Rattle.std.proofs.Common.{◌≡◌, ◌+◌, ◌*◌, ℕ, ℤ, pos, ◌-ℤ◌, to_z, of_z, w8, arith, subst}
+use Rattle.pilot_survey.proofs.Common.{◌≡◌, ◌+◌, ◌*◌, ℕ, ℤ, pos, ◌-ℤ◌, to_z, of_z, w8, arith, subst, IsFirstGreatest, energy, survey_phase}
 use Rattle.std.proofs.lemmas.Int.{ints}
-use Rattle.chip_core.specs.Sums.{IsFirstGreatest}
-use Rattle.pilot_search.specs.Search.{energy}
-use Rattle.pilot_survey.specs.Survey.{survey_phase}
 use Rattle.pilot_survey.proofs.Strength.{surveyed_is}
 use Rattle.pilot_survey.proofs.measuring.measured.Goals as goal
 

@@ -1,6 +1,4 @@
--- Why `+fn-run-join_mut+arg2+fn-run-join_mut+arg3+run` of `surveying` keeps its contract.
-use Rattle.std.proofs.Common.{◌≡◌, ◌+◌, ◌-◌, ◌/◌, ℕ, length, rules}
-use Rattle.pilot_survey.specs.Survey.{surveyed, survey_start}
+use Rattle.pilot_survey.proofs.Common.{◌≡◌, ◌+◌, ◌-◌, ◌/◌, ℕ, length, rules, surveyed, survey_start}
 use Rattle.pilot_survey.proofs.Parts.{both}
 use Rattle.pilot_survey.proofs.surveying.+fn-run-join_mut+arg2+fn-run-join_mut+arg3+run.Goals as goal
 

@@ -1,5 +1,4 @@
--- What each pass of the loops in `+fn-run-join_mut+arg2+fn-run-join_mut+arg3+run` keeps, and why they end.
-use Rattle.std.proofs.Common.{◌+◌, ◌-◌, ◌*◌}
+use Rattle.pilot_survey.proofs.Common.{◌+◌, ◌-◌, ◌*◌}
 use Rattle.pilot_survey.proofs.surveying.+fn-run-join_mut+arg2+fn-run-join_mut+arg3+run.Given as goal
 
 abbrev pub decreases-join_mut+arg2 : goal.decreases-join_mut+arg2

@@ -1,9 +1,5 @@
--- Why `survey` of `surveying` keeps its contract.
-use Rattle.std.proofs.Common.{◌≡◌, ℕ, List, length, drop, ◌∙◌, ap, subst, arith, rules}
-use Rattle.std.specs.List.Sorted.{IsPermutation}
+use Rattle.pilot_survey.proofs.Common.{◌≡◌, ℕ, List, length, drop, ◌∙◌, ap, subst, arith, rules, IsPermutation, surveyed, Rank}
 use Rattle.std.proofs.lemmas.List.FromFn.{length-map-range_with_len}
-use Rattle.pilot_survey.specs.Survey.{surveyed}
-use Rattle.pilot_survey.specs.declared.rank.Rank.{Rank}
 use Rattle.pilot_survey.proofs.Parts.{start_end, start_none, all_written}
 use Rattle.pilot_survey.proofs.Orders.{sorted_ranking}
 use Rattle.pilot_survey.proofs.Ranked.{ranking_only}

@@ -1,7 +1,4 @@
--- Why `body_count` of `capsule` keeps its contract.
-use Rattle.std.proofs.Common.{◌≡◌, ◌-◌, Ok, length, ap, subst, sym, arith}
-use Rattle.quality_bits.specs.Kinds.{generator_of, IsChecked}
-use Rattle.quality_bits.specs.Capsules.{IsWhole}
+use Rattle.quality_bits.proofs.Common.{◌≡◌, ◌-◌, Ok, length, ap, subst, sym, arith, generator_of, IsChecked, IsWhole}
 use Rattle.quality_bits.proofs.Wholes.{degree_most, length-capsule, whole-capsule, checked-capsule, found_capsule}
 use Rattle.quality_bits.proofs.capsule.body_count.Goals as goal
 

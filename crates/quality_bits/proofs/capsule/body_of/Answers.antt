@@ -1,6 +1,4 @@
--- Why `body_of` of `capsule` keeps its contract.
-use Rattle.std.proofs.Common.{◌≡◌, ◌-◌, Ok, length, ap, ◌∙◌, take, drop, ℕ, arith}
-use Rattle.quality_bits.specs.Kinds.{generator_of}
+use Rattle.quality_bits.proofs.Common.{◌≡◌, ◌-◌, Ok, length, ap, ◌∙◌, take, drop, ℕ, arith, generator_of}
 use Rattle.quality_bits.proofs.Wholes.{inner, inner-capsule, length-capsule}
 use Rattle.quality_bits.proofs.capsule.body_of.Goals as goal
 

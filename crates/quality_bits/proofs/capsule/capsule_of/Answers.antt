@@ -1,9 +1,5 @@
--- Why `capsule_of` of `capsule` keeps its contract.
-use Rattle.std.proofs.Common.{◌≡◌, ◌++◌, ap, ◌∙◌, List, Bool, arith, length-append, rules}
-use Rattle.chip_core.specs.Bits.{binary}
-use Rattle.chip_core.proofs.FieldLists.{length-binary}
-use Rattle.quality_bits.specs.Kinds.{sent_check}
-use Rattle.quality_bits.specs.Capsules.{octets, capsule_front, capsule}
+use Rattle.quality_bits.proofs.Common.{◌≡◌, ◌++◌, ap, ◌∙◌, List, Bool, arith, length-append, rules, binary, length-binary, sent_check}
+use Rattle.quality_bits.proofs.Common.{octets, capsule_front, capsule}
 use Rattle.quality_bits.proofs.capsule.capsule_of.Goals as goal
 
 pub append_all-requires : goal.append_all-requires

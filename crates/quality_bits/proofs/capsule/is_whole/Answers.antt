@@ -1,6 +1,4 @@
--- Why `is_whole` of `capsule` keeps its contract.
-use Rattle.std.proofs.Common.{sym, ◌∙◌}
-use Rattle.std.proofs.lemmas.Bool.{eqb-true, eq-eqb, false≢true}
+use Rattle.quality_bits.proofs.Common.{sym, ◌∙◌, eqb-true, eq-eqb, false≢true}
 use Rattle.quality_bits.proofs.Opened.{stated_bounds, stated_from}
 use Rattle.quality_bits.proofs.capsule.is_whole.Goals as goal
 

@@ -1,6 +1,4 @@
--- Why `stated_length` of `capsule` keeps its contract.
-use Rattle.std.proofs.Common.{◌≡◌, ◌*◌, ◌≤◌, length, ap, refl, arith}
-use Rattle.quality_bits.specs.Capsules.{stated_bits}
+use Rattle.quality_bits.proofs.Common.{◌≡◌, ◌*◌, ◌≤◌, length, ap, refl, arith, stated_bits}
 use Rattle.quality_bits.proofs.Opened.{stated_bounds, stated_from, stated_is}
 use Rattle.quality_bits.proofs.capsule.stated_length.Goals as goal
 

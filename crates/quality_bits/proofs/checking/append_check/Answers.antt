@@ -1,8 +1,4 @@
--- Why `append_check` of `checking` keeps its contract.
-use Rattle.std.proofs.Common.{◌≡◌, ◌++◌, take, ap, ◌∙◌, List, Bool, arith}
-use Rattle.std.proofs.lemmas.List.{take_all}
-use Rattle.chip_core.specs.Bits.{number}
-use Rattle.quality_bits.specs.Kinds.{sent_check}
+use Rattle.quality_bits.proofs.Common.{◌≡◌, ◌++◌, take, ap, ◌∙◌, List, Bool, arith, take_all, number, sent_check}
 use Rattle.quality_bits.proofs.Wholes.{written_check}
 use Rattle.quality_bits.proofs.checking.append_check.Goals as goal
 

@@ -1,8 +1,4 @@
--- Why `check` of `checking` keeps its contract.
-use Rattle.std.proofs.Common.{◌≡◌, ◌-◌, take, drop, length, ap, ◌∙◌, arith, ℕ}
-use Rattle.std.proofs.lemmas.List.{length-drop}
-use Rattle.chip_core.specs.Bits.{number}
-use Rattle.quality_bits.specs.Kinds.{sent_check, body_length}
+use Rattle.quality_bits.proofs.Common.{◌≡◌, ◌-◌, take, drop, length, ap, ◌∙◌, arith, ℕ, length-drop, number, sent_check, body_length}
 use Rattle.quality_bits.proofs.Ends.{length-sent_check, same_numbers}
 use Rattle.quality_bits.proofs.checking.check.Goals as goal
 

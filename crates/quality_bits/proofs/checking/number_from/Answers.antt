@@ -1,7 +1,4 @@
--- Why `number_from` of `checking` keeps its contract.
-use Rattle.std.proofs.Common.{◌≡◌, ◌+◌, ◌-◌, ◌*◌, ◌<◌, ◌^◌, Some, sym, ap, ◌∙◌, arith}
-use Rattle.std.specs.List.{slice_get}
-use Rattle.chip_core.specs.Bits.{digit}
+use Rattle.quality_bits.proofs.Common.{◌≡◌, ◌+◌, ◌-◌, ◌*◌, ◌<◌, ◌^◌, Some, sym, ap, ◌∙◌, arith, slice_get, digit}
 use Rattle.chip_core.proofs.Numerals.{read_more, digit_below, bool_byte-digit}
 use Rattle.quality_bits.proofs.checking.number_from.Goals as goal
 

@@ -1,6 +1,4 @@
--- What each pass of the loops in `number_from` of `checking` keeps, and why they end.
-use Rattle.std.proofs.Common.{◌≡◌, ◌-◌, ◌<◌, ◌^◌, take, drop}
-use Rattle.chip_core.specs.Bits.{number}
+use Rattle.quality_bits.proofs.Common.{◌≡◌, ◌-◌, ◌<◌, ◌^◌, take, drop, number}
 use Rattle.quality_bits.proofs.checking.number_from.Given as goal
 
 abbrev pub invariant-loop-i : goal.invariant-loop-i

@@ -1,5 +1,4 @@
--- Why `octets_taken` of `checking` keeps its contract.
-use Rattle.std.proofs.Common.{◌≡◌, ◌+◌, ◌*◌, arith}
+use Rattle.quality_bits.proofs.Common.{◌≡◌, ◌+◌, ◌*◌, arith}
 use Rattle.quality_bits.proofs.checking.octets_taken.Goals as goal
 
 pub loop-k-preserved : goal.loop-k-preserved

@@ -1,6 +1,4 @@
--- What each pass of the loops in `octets_taken` of `checking` keeps, and why they end.
-use Rattle.std.proofs.Common.{◌*◌, take}
-use Rattle.quality_bits.specs.Kinds.{Checks}
+use Rattle.quality_bits.proofs.Common.{◌*◌, take, Checks}
 use Rattle.quality_bits.proofs.checking.octets_taken.Given as goal
 
 abbrev pub invariant-loop-k : goal.invariant-loop-k

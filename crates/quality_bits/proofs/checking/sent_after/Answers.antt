@@ -1,9 +1,5 @@
--- Why `sent_after` of `checking` keeps its contract.
-use Rattle.std.proofs.Common.{◌≡◌, ◌+◌, ◌≤◌, ◌<◌, ◌^◌, take, length, sym, ◌∙◌, arith, map, not}
-use Rattle.std.proofs.Math.Pow.{pow_mono}
-use Rattle.chip_core.specs.Bits.{number}
-use Rattle.quality_bits.specs.Quality.{check_bits}
-use Rattle.quality_bits.specs.Kinds.{generator_of}
+use Rattle.quality_bits.proofs.Common.{◌≡◌, ◌+◌, ◌≤◌, ◌<◌, ◌^◌, take, length, sym, ◌∙◌, arith, map, not, pow_mono, number, check_bits}
+use Rattle.quality_bits.proofs.Common.{generator_of}
 use Rattle.quality_bits.proofs.Digits.{number-inverted}
 use Rattle.quality_bits.proofs.Steps.{length-check_bits}
 use Rattle.quality_bits.proofs.checking.sent_after.Goals as goal

@@ -1,6 +1,4 @@
--- Why `take_octet` of `checking` keeps its contract.
-use Rattle.std.proofs.Common.{◌≡◌, ◌+◌, take, arith}
-use Rattle.chip_core.proofs.BitLists.{taken_more}
+use Rattle.quality_bits.proofs.Common.{◌≡◌, ◌+◌, take, arith, taken_more}
 use Rattle.quality_bits.proofs.checking.take_octet.Goals as goal
 
 -- One bit more keeps the invariant, since `push` makes a register that took some bits one that took

@@ -1,6 +1,4 @@
--- Why `taken` of `checking` keeps its contract.
-use Rattle.std.proofs.Common.{take}
-use Rattle.chip_core.proofs.BitLists.{taken_more}
+use Rattle.quality_bits.proofs.Common.{take, taken_more}
 use Rattle.quality_bits.proofs.checking.taken.Goals as goal
 
 pub loop-i-preserved : goal.loop-i-preserved

@@ -1,5 +1,4 @@
--- Why the law `capsule_has_one_body` holds.
-use Rattle.std.proofs.Common.{sym, ap, ◌∙◌}
+use Rattle.quality_bits.proofs.Common.{sym, ap, ◌∙◌}
 use Rattle.quality_bits.proofs.Wholes.{inner, inner-capsule}
 use Rattle.quality_bits.proofs.laws.capsule_has_one_body.Goals as goal
 

@@ -1,4 +1,3 @@
--- Why the law `one_more_piece` holds.
 use Rattle.quality_bits.proofs.Streams.{under_way-more, ending-more}
 use Rattle.quality_bits.proofs.laws.one_more_piece.Goals as goal
 

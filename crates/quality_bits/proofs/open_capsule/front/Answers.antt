@@ -1,7 +1,4 @@
--- Why `front` of `open_capsule` keeps its contract.
-use Rattle.std.proofs.Common.{sym, ap, ◌∙◌, arith, Some, take, ℕ}
-use Rattle.std.proofs.lemmas.Bool.{false_from_ne_true}
-use Rattle.quality_bits.specs.Capsules.{is_stated}
+use Rattle.quality_bits.proofs.Common.{sym, ap, ◌∙◌, arith, Some, take, ℕ, false_from_ne_true, is_stated}
 use Rattle.quality_bits.proofs.Opened.{front-none, front-short, front-whole}
 use Rattle.quality_bits.proofs.open_capsule.front.Goals as goal
 

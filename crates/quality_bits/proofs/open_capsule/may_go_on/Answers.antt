@@ -1,7 +1,4 @@
--- Why `may_go_on` of `open_capsule` keeps its contract.
-use Rattle.std.proofs.Common.{sym}
-use Rattle.std.proofs.lemmas.Bool.{false_from_ne_true}
-use Rattle.quality_bits.specs.Capsules.{is_stated}
+use Rattle.quality_bits.proofs.Common.{sym, false_from_ne_true, is_stated}
 use Rattle.quality_bits.proofs.Opened.{awaits_stated, awaits_unstated}
 use Rattle.quality_bits.proofs.open_capsule.may_go_on.Goals as goal
 

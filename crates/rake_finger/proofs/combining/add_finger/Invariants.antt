@@ -1,7 +1,4 @@
--- What each pass of the loops in `add_finger` of `combining` keeps, and why they end.
-use Rattle.std.proofs.Common.{◌*◌}
-use Rattle.rake_finger.specs.Added.{IsAdded}
-use Rattle.rake_finger.specs.Soft.{window_symbols}
+use Rattle.rake_finger.proofs.Common.{◌*◌, IsAdded, window_symbols}
 use Rattle.rake_finger.proofs.combining.add_finger.Given as goal
 
 abbrev pub invariant-loop-window : goal.invariant-loop-window

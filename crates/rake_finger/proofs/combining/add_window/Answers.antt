@@ -1,14 +1,6 @@
--- Why `add_window` of `combining` keeps its contract.
-use Rattle.rake_finger.proofs.Common.{ints}
-use Rattle.std.proofs.lemmas.Grind.{common_steps}
-use Rattle.std.proofs.Common.{◌≡◌, ◌≢◌, ◌+◌, ◌*◌, ◌<◌, ◌≤◌, ℕ, List, ℤ, get_or, pos, length, sym, ap, ◌∙◌, arith, unsigned_abs}
-use Rattle.std.proofs.lemmas.List.{get_or-set_other}
-use Rattle.chip_core.specs.Complex.{origin}
-use Rattle.chip_core.specs.declared.sample.Pair.{Pair}
-use Rattle.chip_core.specs.declared.sample.Sample.{Sample}
-use Rattle.pilot_search.proofs.KeptSums.{kept_sum_back, kept_sum_fits}
-use Rattle.rake_finger.specs.Held.{HoldsLast}
-use Rattle.rake_finger.specs.Soft.{window_symbols, pilot_sum, symbol_sum, turned_part, soft}
+use Rattle.rake_finger.proofs.Common.{ints, common_steps, ◌≡◌, ◌≢◌, ◌+◌, ◌*◌, ◌<◌, ◌≤◌, ℕ, List, ℤ, get_or, pos, length, sym, ap, ◌∙◌, Pair}
+use Rattle.rake_finger.proofs.Common.{arith, unsigned_abs, get_or-set_other, origin, Sample, kept_sum_back, kept_sum_fits, HoldsLast, soft}
+use Rattle.rake_finger.proofs.Common.{window_symbols, pilot_sum, symbol_sum, turned_part}
 use Rattle.rake_finger.proofs.Adding.{window_of, symbol_within, soft_bound-most, IsAdded-more}
 use Rattle.rake_finger.proofs.SoftValues.{soft_is, value_small}
 use Rattle.rake_finger.proofs.combining.add_window.Goals as goal

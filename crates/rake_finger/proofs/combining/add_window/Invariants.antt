@@ -1,7 +1,4 @@
--- What each pass of the loops in `add_window` of `combining` keeps, and why they end.
-use Rattle.std.proofs.Common.{◌≡◌, ◌*◌, ◌≤◌, ℕ, List, ℤ, pos, get_or}
-use Rattle.rake_finger.specs.Added.{IsAdded}
-use Rattle.rake_finger.specs.Soft.{window_symbols}
+use Rattle.rake_finger.proofs.Common.{◌≡◌, ◌*◌, ◌≤◌, ℕ, List, ℤ, pos, get_or, IsAdded, window_symbols}
 use Rattle.rake_finger.proofs.combining.add_window.Given as goal
 
 abbrev pub invariant-loop-symbol : goal.invariant-loop-symbol

@@ -1,8 +1,4 @@
--- Why `combine_into` of `combining` keeps its contract.
-use Rattle.std.proofs.Common.{length, arith}
-use Rattle.std.proofs.lemmas.Grind.{common_steps, elements}
-use Rattle.std.proofs.lemmas.Int.{ints}
-use Rattle.std.proofs.lemmas.List.{take_all}
+use Rattle.rake_finger.proofs.Common.{length, arith, common_steps, elements, ints, take_all}
 use Rattle.rake_finger.proofs.Adding.{IsSummed-more, softs_are, sum_within}
 use Rattle.rake_finger.proofs.combining.combine_into.Goals as goal
 

@@ -1,4 +1,3 @@
--- What each pass of the loops in `combine_into` of `combining` keeps, and why they end.
 use Rattle.rake_finger.proofs.Adding.{IsSummed}
 use Rattle.rake_finger.proofs.combining.combine_into.Given as goal
 

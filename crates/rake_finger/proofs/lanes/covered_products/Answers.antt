@@ -1,6 +1,4 @@
--- Why `covered_products` of `lanes` keeps its contract.
-use Rattle.std.proofs.Common.{◌*◌, arith}
-use Rattle.rake_finger.specs.RowSigns.{sign_lanes}
+use Rattle.rake_finger.proofs.Common.{◌*◌, arith, sign_lanes}
 use Rattle.rake_finger.proofs.SignedLanes.{near_kept, signed_kept, unit_lanes}
 use Rattle.rake_finger.proofs.lanes.covered_products.Goals as goal
 

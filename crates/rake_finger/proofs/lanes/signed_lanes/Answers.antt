@@ -1,4 +1,3 @@
--- Why `signed_lanes` of `lanes` keeps its contract.
 use Rattle.rake_finger.proofs.SignedLanes.{signed_all}
 use Rattle.rake_finger.proofs.lanes.signed_lanes.Goals as goal
 

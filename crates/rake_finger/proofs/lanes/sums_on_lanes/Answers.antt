@@ -1,10 +1,5 @@
--- Why `sums_on_lanes` of `lanes` keeps its contract.
-use Rattle.rake_finger.proofs.Common.{ints}
-use Rattle.std.proofs.lemmas.Grind.{common_steps}
-use Rattle.std.proofs.Common.{◌≤◌, ◌+◌, ◌*◌, ◌/◌, arith, length}
-use Rattle.pilot_search.proofs.LaneLemmas.{kept}
+use Rattle.rake_finger.proofs.Common.{ints, common_steps, ◌≤◌, ◌+◌, ◌*◌, ◌/◌, arith, length, kept, covered_signs}
 use Rattle.pilot_search.proofs.LaneSums.{kept_near, products_kept, products_near, sums_kept, sums_whole}
-use Rattle.rake_finger.specs.RowSigns.{covered_signs}
 use Rattle.rake_finger.proofs.SignedLanes.{group_products, length-covered}
 use Rattle.rake_finger.proofs.lanes.sums_on_lanes.Goals as goal
 

@@ -1,7 +1,5 @@
--- What each pass of the loops in `sums_on_lanes` of `lanes` keeps, and why they end.
-use Rattle.std.proofs.Common.{map, to_z, w32}
+use Rattle.rake_finger.proofs.Common.{map, to_z, w32, covered_signs}
 use Rattle.pilot_search.specs.Lanes.{AreSums}
-use Rattle.rake_finger.specs.RowSigns.{covered_signs}
 use Rattle.rake_finger.proofs.lanes.sums_on_lanes.Given as goal
 
 abbrev pub invariant-loop-k : goal.invariant-loop-k

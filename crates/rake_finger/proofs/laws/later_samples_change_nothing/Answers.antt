@@ -1,4 +1,3 @@
--- Why the law `later_samples_change_nothing` holds.
 use Rattle.rake_finger.proofs.Strongest.{samples_before-append}
 use Rattle.rake_finger.proofs.laws.later_samples_change_nothing.Goals as goal
 

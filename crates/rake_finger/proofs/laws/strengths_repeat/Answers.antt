@@ -1,4 +1,3 @@
--- Why the law `strengths_repeat` holds.
 use Rattle.rake_finger.proofs.Strongest.{strength_again}
 use Rattle.rake_finger.proofs.laws.strengths_repeat.Goals as goal
 

@@ -1,10 +1,5 @@
--- Why `samples_before` of `moments` keeps its contract.
-use Rattle.std.proofs.Common.{◌≡◌, ◌+◌, ◌-◌, ◌<◌, length, get_or, drop, refl, ◌∙◌, arith, length-drop, pos}
-use Rattle.std.proofs.lemmas.Int.{ints}
-use Rattle.std.proofs.lemmas.List.{get_or-drop, length-replicate, length-set}
-use Rattle.std.proofs.lemmas.List.Elements.{All-set, All-replicate}
-use Rattle.chip_core.specs.declared.sample.Sample.{Sample}
-use Rattle.rake_finger.specs.Strengths.{IsNarrow}
+use Rattle.rake_finger.proofs.Common.{◌≡◌, ◌+◌, ◌-◌, ◌<◌, length, get_or, drop, refl, ◌∙◌, arith, length-drop, pos, ints, get_or-drop}
+use Rattle.rake_finger.proofs.Common.{length-replicate, length-set, All-set, All-replicate, Sample, IsNarrow}
 use Rattle.rake_finger.proofs.Rings.{held_sample, next_cell, copied_more, copied_all}
 use Rattle.rake_finger.proofs.moments.samples_before.Goals as goal
 

@@ -1,9 +1,5 @@
--- What each pass of the loops in `samples_before` of `moments` keeps, and why they end.
-use Rattle.std.proofs.Common.{◌≡◌, ◌+◌, ◌-◌, ◌%◌, ◌<◌, List, length, take, drop}
+use Rattle.rake_finger.proofs.Common.{◌≡◌, ◌+◌, ◌-◌, ◌%◌, ◌<◌, List, length, take, drop, Sample, HoldsLast, IsNarrow}
 use Rattle.std.specs.List.{All}
-use Rattle.chip_core.specs.declared.sample.Sample.{Sample}
-use Rattle.rake_finger.specs.Held.{HoldsLast}
-use Rattle.rake_finger.specs.Strengths.{IsNarrow}
 use Rattle.rake_finger.proofs.moments.samples_before.Given as goal
 
 abbrev pub invariant-loop-k : goal.invariant-loop-k

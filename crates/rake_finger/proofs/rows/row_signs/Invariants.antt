@@ -1,7 +1,4 @@
--- What each pass of the loops in `row_signs` of `rows` keeps, and why they end.
-use Rattle.std.proofs.Common.{◌≡◌, ◌<◌, ℕ, get_or, length, pos}
-use Rattle.chip_core.specs.Bits.{sign}
-use Rattle.walsh.specs.Walsh.{walsh}
+use Rattle.rake_finger.proofs.Common.{◌≡◌, ◌<◌, ℕ, get_or, length, pos, sign, walsh}
 use Rattle.rake_finger.proofs.rows.row_signs.Given as goal
 
 abbrev pub invariant-loop-k : goal.invariant-loop-k

@@ -1,8 +1,4 @@
--- Why `strength` of `strengths` keeps its contract.
-use Rattle.std.proofs.Common.{◌≡◌, ◌+◌, ◌-◌, ◌/◌, ◌<◌, List, ap, ◌∙◌, arith, pos, ◌-ℤ◌, to_z, of_z, w16}
-use Rattle.std.proofs.lemmas.Int.{ints}
-use Rattle.chip_core.specs.declared.sample.Sample.{Sample}
-use Rattle.rake_finger.specs.Strengths.{strength}
+use Rattle.rake_finger.proofs.Common.{◌≡◌, ◌+◌, ◌-◌, ◌/◌, ◌<◌, List, ap, ◌∙◌, arith, pos, ◌-ℤ◌, to_z, of_z, w16, ints, Sample, strength}
 use Rattle.rake_finger.proofs.Strongest.{strongest_energy, strongest_delta, energy_most}
 use Rattle.rake_finger.proofs.strengths.strength.Goals as goal
 

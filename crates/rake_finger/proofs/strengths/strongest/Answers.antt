@@ -1,6 +1,4 @@
--- Why `strongest` of `strengths` keeps its contract.
-use Rattle.std.proofs.Common.{◌≡◌, ◌+◌, ◌∙◌, arith}
-use Rattle.pilot_search.specs.Search.{energy}
+use Rattle.rake_finger.proofs.Common.{◌≡◌, ◌+◌, ◌∙◌, arith, energy}
 use Rattle.rake_finger.proofs.Strongest.{energy_again, strongest_one, strongest_takes, strongest_keeps}
 use Rattle.rake_finger.proofs.strengths.strongest.Goals.{then-energy-most, else-energy-most}
 use Rattle.rake_finger.proofs.strengths.strongest.Goals as goal

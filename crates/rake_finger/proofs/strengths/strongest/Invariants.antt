@@ -1,5 +1,4 @@
--- What each pass of the loops in `strongest` of `strengths` keeps, and why they end.
-use Rattle.rake_finger.specs.Strengths.{IsStrongest}
+use Rattle.rake_finger.proofs.Common.{IsStrongest}
 use Rattle.rake_finger.proofs.strengths.strongest.Given as goal
 
 abbrev pub invariant-loop-place : goal.invariant-loop-place

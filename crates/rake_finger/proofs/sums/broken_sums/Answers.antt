@@ -1,7 +1,4 @@
--- Why `broken_sums` of `sums` keeps its contract.
-use Rattle.std.proofs.Common.{ap, ◌∙◌}
-use Rattle.chip_core.specs.Complex.{sum_of}
-use Rattle.rake_finger.specs.Soft.{despread_at}
+use Rattle.rake_finger.proofs.Common.{ap, ◌∙◌, sum_of, despread_at}
 use Rattle.rake_finger.proofs.SoftValues.{covered-pilot}
 use Rattle.rake_finger.proofs.sums.broken_sums.Goals as goal
 

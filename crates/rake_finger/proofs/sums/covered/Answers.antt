@@ -1,6 +1,4 @@
--- Why `covered` of `sums` keeps its contract.
-use Rattle.std.proofs.Common.{ap, ◌∙◌}
-use Rattle.short_code.specs.Despread.{turned}
+use Rattle.rake_finger.proofs.Common.{ap, ◌∙◌, turned}
 use Rattle.rake_finger.proofs.CoveredSums.{covered_is}
 use Rattle.rake_finger.proofs.sums.covered.Goals as goal
 

@@ -1,9 +1,5 @@
--- Why `covered_sum` of `sums` keeps its contract.
-use Rattle.std.proofs.Common.{◌≡◌, ◌≤◌, ◌<◌, ◌+◌, ◌*◌, ◌%◌, ◌^◌, ℕ, Bool, ap, ◌∙◌, arith, pos, unsigned_abs}
-use Rattle.chip_core.specs.Bits.{sign}
-use Rattle.chip_core.specs.Complex.{times, conjugate, point, of_sample}
-use Rattle.short_code.specs.ShortCode.{pilot_chip}
-use Rattle.pilot_search.proofs.KeptSums.{kept_sum_back, kept_sum_fits, kept_sum_within}
+use Rattle.rake_finger.proofs.Common.{◌≡◌, ◌≤◌, ◌<◌, ◌+◌, ◌*◌, ◌%◌, ◌^◌, ℕ, Bool, ap, ◌∙◌, arith, pos, unsigned_abs, sign, times, conjugate}
+use Rattle.rake_finger.proofs.Common.{point, of_sample, pilot_chip, kept_sum_back, kept_sum_fits, kept_sum_within}
 use Rattle.rake_finger.proofs.CoveredSums.{row_sign, covered_step}
 use Rattle.rake_finger.proofs.Rings.{held_sample, next_cell}
 use Rattle.rake_finger.proofs.sums.covered_sum.Goals as goal

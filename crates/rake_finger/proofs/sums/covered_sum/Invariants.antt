@@ -1,11 +1,5 @@
--- What each pass of the loops in `covered_sum` of `sums` keeps, and why they end.
-use Rattle.std.proofs.Common.{◌≡◌, ◌+◌, ◌*◌, ◌%◌, ◌<◌, ◌≤◌, List, take, drop}
-use Rattle.std.specs.Prelude.{unsigned_abs}
-use Rattle.chip_core.specs.Complex.{sum_of}
-use Rattle.chip_core.specs.declared.sample.Sample.{Sample}
-use Rattle.short_code.specs.Despread.{despread}
-use Rattle.rake_finger.specs.Held.{HoldsLast}
-use Rattle.rake_finger.specs.Soft.{covered_from}
+use Rattle.rake_finger.proofs.Common.{◌≡◌, ◌+◌, ◌*◌, ◌%◌, ◌<◌, ◌≤◌, List, take, drop, unsigned_abs, sum_of, Sample, despread, HoldsLast}
+use Rattle.rake_finger.proofs.Common.{covered_from}
 use Rattle.rake_finger.proofs.sums.covered_sum.Given as goal
 
 abbrev pub invariant-loop-k : goal.invariant-loop-k

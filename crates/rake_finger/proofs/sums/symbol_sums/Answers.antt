@@ -1,7 +1,4 @@
--- Why `symbol_sums` of `sums` keeps its contract.
-use Rattle.rake_finger.proofs.Common.{ints}
-use Rattle.std.proofs.lemmas.Grind.{common_steps}
-use Rattle.std.proofs.Common.{arith}
+use Rattle.rake_finger.proofs.Common.{ints, common_steps, arith}
 use Rattle.rake_finger.proofs.sums.symbol_sums.Goals as goal
 
 pub returns-clause-sums : goal.returns-clause-sums

@@ -1,9 +1,4 @@
--- Why `unbroken_sums` of `sums` keeps its contract.
-use Rattle.std.proofs.Common.{◌≡◌, ◌+◌, ◌≤◌, ◌∙◌, ap, arith, drop, length, take}
-use Rattle.std.proofs.lemmas.List.Elements.{All-drop}
-use Rattle.short_code.specs.Despread.{IsUnit}
-use Rattle.short_code.specs.ShortCode.{pilot_signs}
-use Rattle.pilot_search.proofs.CorrelationSums.{units}
+use Rattle.rake_finger.proofs.Common.{◌≡◌, ◌+◌, ◌≤◌, ◌∙◌, ap, arith, drop, length, take, All-drop, IsUnit, pilot_signs, units}
 use Rattle.rake_finger.proofs.Rings.{run_is}
 use Rattle.rake_finger.proofs.SymbolSums.{covered_run, plain_run}
 use Rattle.rake_finger.proofs.sums.unbroken_sums.Goals as goal

@@ -1,7 +1,4 @@
--- Why `product` of `values` keeps its contract.
-use Rattle.std.proofs.Common.{arith}
-use Rattle.std.proofs.lemmas.Grind.{common_steps}
-use Rattle.std.proofs.lemmas.Int.{ints}
+use Rattle.rake_finger.proofs.Common.{arith, common_steps, ints}
 use Rattle.rake_finger.proofs.SoftValues.{product_is, product_most}
 use Rattle.rake_finger.proofs.values.product.Goals as goal
 

@@ -1,9 +1,5 @@
--- Why `soft` of `values` keeps its contract.
-use Rattle.std.proofs.lemmas.Grind.{common_steps}
-use Rattle.std.proofs.Common.{◌≡◌, ◌+◌, ◌*◌, ◌/◌, ◌≤◌, ℕ, ap, ◌∙◌, arith, to_z, of_z, w64, unsigned_abs}
-use Rattle.std.proofs.lemmas.Int.{ints}
-use Rattle.chip_core.specs.declared.sample.Pair.{Pair}
-use Rattle.rake_finger.specs.Soft.{finger_place, pilot_sum, symbol_sum, symbol_chips, window_chips, turned_part, soft_bound}
+use Rattle.rake_finger.proofs.Common.{common_steps, ◌≡◌, ◌+◌, ◌*◌, ◌/◌, ◌≤◌, ℕ, ap, ◌∙◌, arith, to_z, of_z, w64, unsigned_abs, ints, Pair}
+use Rattle.rake_finger.proofs.Common.{finger_place, pilot_sum, symbol_sum, symbol_chips, window_chips, turned_part, soft_bound}
 use Rattle.rake_finger.proofs.SoftValues.{pilot_is, pilot_most, soft_bounded, soft_is, symbol_is, symbol_most}
 use Rattle.rake_finger.proofs.values.soft.Goals as goal
 

@@ -1,7 +1,5 @@
--- Why `turned_by` of `values` keeps its contract.
-use Rattle.std.proofs.Common.{◌≡◌, ◌+◌, ◌*◌, ◌∙◌, arith, ◌+ℤ◌, ◌*ℤ◌, unsigned_abs}
-use Rattle.std.proofs.lemmas.Int.{ints, to_z-of_z}
-use Rattle.pilot_search.proofs.KeptSums.{kept_sum_back, kept_sum_fits, kept_sum_within}
+use Rattle.rake_finger.proofs.Common.{◌≡◌, ◌+◌, ◌*◌, ◌∙◌, arith, ◌+ℤ◌, ◌*ℤ◌, unsigned_abs, ints, to_z-of_z, kept_sum_back, kept_sum_fits}
+use Rattle.rake_finger.proofs.Common.{kept_sum_within}
 use Rattle.rake_finger.proofs.SoftValues.{turned_part-is}
 use Rattle.rake_finger.proofs.values.turned_by.Goals as goal
 

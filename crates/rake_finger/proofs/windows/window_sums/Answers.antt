@@ -1,14 +1,6 @@
--- Why `window_sums` of `windows` keeps its contract.
-use Rattle.rake_finger.proofs.Common.{ints}
-use Rattle.std.proofs.lemmas.Grind.{common_steps}
-use Rattle.std.proofs.Common.{◌≡◌, ◌+◌, ◌*◌, ◌<◌, ◌≤◌, ◌∙◌, ℕ, ap, arith}
-use Rattle.std.specs.Prelude.{unsigned_abs}
-use Rattle.std.proofs.lemmas.List.{length-set}
-use Rattle.chip_core.specs.Complex.{origin, sum_of}
-use Rattle.chip_core.specs.declared.sample.Pair.{Pair}
-use Rattle.walsh.specs.Walsh.{IsWithin}
-use Rattle.rake_finger.specs.InRing.{IsHeldInRing}
-use Rattle.rake_finger.specs.Soft.{symbol_chips, window_chips, window_symbols, finger_place, despread_at, symbol_sum}
+use Rattle.rake_finger.proofs.Common.{ints, common_steps, ◌≡◌, ◌+◌, ◌*◌, ◌<◌, ◌≤◌, ◌∙◌, ℕ, ap, arith, unsigned_abs, length-set, origin}
+use Rattle.rake_finger.proofs.Common.{sum_of, Pair, IsWithin, IsHeldInRing, symbol_chips, window_chips, window_symbols, finger_place}
+use Rattle.rake_finger.proofs.Common.{despread_at, symbol_sum}
 use Rattle.rake_finger.proofs.SoftValues.{symbol_is}
 use Rattle.rake_finger.proofs.WindowSums.{bound_kept, chips_more, entry_more, most_symbols, pilot_more, pilot_whole, sum_fits, sum_kept}
 use Rattle.rake_finger.proofs.WindowSums.{symbol_held, symbol_place, whole_symbols}

@@ -1,11 +1,5 @@
--- What each pass of the loops in `window_sums` of `windows` keeps, and why they end.
-use Rattle.std.proofs.Common.{◌≡◌, ◌+◌, ◌*◌, ◌<◌, ◌≤◌, ℕ, List, get_or, length}
-use Rattle.std.specs.Prelude.{unsigned_abs}
-use Rattle.chip_core.specs.Complex.{origin}
-use Rattle.chip_core.specs.declared.sample.Sample.{Sample}
-use Rattle.walsh.specs.Walsh.{IsWithin}
-use Rattle.rake_finger.specs.Held.{HoldsLast}
-use Rattle.rake_finger.specs.Soft.{symbol_chips, window_symbols, symbol_sum}
+use Rattle.rake_finger.proofs.Common.{◌≡◌, ◌+◌, ◌*◌, ◌<◌, ◌≤◌, ℕ, List, get_or, length, unsigned_abs, origin, Sample, IsWithin, HoldsLast}
+use Rattle.rake_finger.proofs.Common.{symbol_chips, window_symbols, symbol_sum}
 use Rattle.rake_finger.proofs.WindowSums.{sum_before}
 use Rattle.rake_finger.proofs.windows.window_sums.Given as goal
 

@@ -1,4 +1,3 @@
--- Why the law `gathering_keeps_agreement` holds.
 use Rattle.rate_set_two.proofs.Agreement.{keeps_agreement}
 use Rattle.rate_set_two.proofs.laws.gathering_keeps_agreement.Goals as goal
 

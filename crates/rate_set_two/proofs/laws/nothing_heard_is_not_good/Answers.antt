@@ -1,4 +1,3 @@
--- Why the law `nothing_heard_is_not_good` holds.
 use Rattle.rate_set_two.proofs.NothingHeard.{nothing_good}
 use Rattle.rate_set_two.proofs.laws.nothing_heard_is_not_good.Goals as goal
 

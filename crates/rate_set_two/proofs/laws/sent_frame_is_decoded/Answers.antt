@@ -1,4 +1,3 @@
--- Why the law `sent_frame_is_decoded` holds.
 use Rattle.rate_set_two.proofs.SentFrames.{sent_frame}
 use Rattle.rate_set_two.proofs.laws.sent_frame_is_decoded.Goals as goal
 

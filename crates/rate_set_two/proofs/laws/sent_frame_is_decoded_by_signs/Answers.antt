@@ -1,4 +1,3 @@
--- Why the law `sent_frame_is_decoded_by_signs` holds.
 use Rattle.rate_set_two.proofs.SentFrames.{signs_frame}
 use Rattle.rate_set_two.proofs.laws.sent_frame_is_decoded_by_signs.Goals as goal
 

@@ -1,4 +1,3 @@
--- Why the law `third_and_fifth_are_dropped` holds.
 use Rattle.symbol_path.proofs.SentOnceTwo.{kept_once, dropped}
 use Rattle.rate_set_two.proofs.laws.third_and_fifth_are_dropped.Goals as goal
 

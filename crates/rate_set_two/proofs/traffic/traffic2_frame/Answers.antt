@@ -1,9 +1,7 @@
--- Why `traffic2_frame` of `traffic` keeps its contract.
-use Rattle.std.proofs.Common.{ap, ◌∙◌, ℤ, rules}
+use Rattle.rate_set_two.proofs.Common.{ap, ◌∙◌, ℤ, rules, as_decoded2, decoded2}
 use Rattle.std.specs.Int.{w64}
 use Rattle.std.proofs.lemmas.Int.{to_z-of_z}
 use Rattle.frame_decoder.proofs.Chosen.{by_formats}
-use Rattle.rate_set_two.specs.TrafficFrames.{as_decoded2, decoded2}
 use Rattle.rate_set_two.proofs.traffic.traffic2_frame.Goals as goal
 
 pub returns-clause-value : goal.returns-clause-value

@@ -1,4 +1,3 @@
--- What each pass of the loops in `decode` of `decoder_timing_tests` keeps, and why they end.
 use Rattle.std.proofs.Common.{◌≡◌}
 use Rattle.receiver_tests.proofs.decoder_timing_tests.decode.Given as goal
 

@@ -1,4 +1,3 @@
--- What each pass of the loops in `is_bounded` of `decoder_timing_tests` keeps, and why they end.
 use Rattle.std.proofs.Common.{◌≡◌, ◌+◌, ◌^◌, take, unsigned_abs}
 use Rattle.std.specs.List.{sum_by}
 use Rattle.receiver_tests.proofs.decoder_timing_tests.is_bounded.Given as goal

@@ -1,4 +1,3 @@
--- What each pass of the loops in `left_in_order` of `search_tests` keeps, and why they end.
 use Rattle.std.specs.Prelude.{◌≡◌}
 use Rattle.pilot_search.specs.Bounds.{greatest}
 use Rattle.pilot_search.specs.Knowledge.{IsHeld}

@@ -1,7 +1,4 @@
--- Why `are_begun` of `fingers` keeps its contract.
-use Rattle.reception.proofs.Common.{arith}
-use Rattle.std.proofs.lemmas.Grind.{common_steps}
-use Rattle.std.proofs.lemmas.Int.{ints}
+use Rattle.reception.proofs.Common.{arith, common_steps, ints}
 use Rattle.reception.proofs.fingers.are_begun.Goals as goal
 
 pub returns-then-not-has_begun : goal.returns-then-not-has_begun

@@ -1,4 +1,3 @@
--- What each pass of the loops in `are_begun` of `fingers` keeps, and why they end.
 use Rattle.reception.proofs.Common.{◌≡◌, take, true, all_begun}
 use Rattle.reception.proofs.fingers.are_begun.Given as goal
 

@@ -1,4 +1,3 @@
--- What each pass of the loops in `frames_end` of `fingers` keeps, and why they end.
 use Rattle.reception.proofs.Common.{◌≡◌, max, drop, frame_end}
 use Rattle.reception.proofs.fingers.frames_end.Given as goal
 

@@ -1,8 +1,5 @@
--- Why `reference_fingers` of `fingers` keeps its contract.
-use Rattle.std.proofs.lemmas.Grind.{common_steps}
-use Rattle.std.proofs.lemmas.Int.{ints}
-use Rattle.reception.proofs.Common.{◌≡◌, ◌<◌, ◌++◌, ◌∷◌, [], ◌∙◌, sym, ap, arith, rules, length, length-append, pos, take, get_or, ℤ}
-use Rattle.reception.proofs.Common.{to_z-of_z, SFits, w8, all_near, has_reference, have_rows, finger_of, fingers_of}
+use Rattle.reception.proofs.Common.{common_steps, ints, ◌≡◌, ◌<◌, ◌++◌, ◌∷◌, [], ◌∙◌, sym, ap, arith, rules, length, length-append, pos, ℤ}
+use Rattle.reception.proofs.Common.{take, get_or, to_z-of_z, SFits, w8, all_near, has_reference, have_rows, finger_of, fingers_of}
 use Rattle.reception.proofs.FingerLists.{near_more, reference_more, rows_more, fingers_more}
 use Rattle.reception.proofs.fingers.reference_fingers.Goals as goal
 

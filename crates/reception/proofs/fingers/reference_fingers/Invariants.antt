@@ -1,4 +1,3 @@
--- What each pass of the loops in `reference_fingers` of `fingers` keeps, and why they end.
 use Rattle.reception.proofs.Common.{◌≡◌, ◌≤◌, take, length, true, all_near, has_reference, have_rows, fingers_of}
 use Rattle.reception.proofs.fingers.reference_fingers.Given as goal
 

@@ -1,9 +1,5 @@
--- Why `shift_in` of `softs` keeps its contract.
-use Rattle.std.proofs.lemmas.Grind.{common_steps}
-use Rattle.std.proofs.lemmas.Int.{ints}
-use Rattle.reception.proofs.Common.{◌≡◌, ◌≤◌, ℕ, [], ◌++◌, ◌-◌, length, take, drop, refl, ap, subst, sym, ◌∙◌, arith, length-drop}
-use Rattle.reception.proofs.Common.{length-append, length-take, take_at, drop_all, post_of, AreSmall}
-use Rattle.std.proofs.lemmas.List.{append-nil}
+use Rattle.reception.proofs.Common.{common_steps, ints, ◌≡◌, ◌≤◌, ℕ, [], ◌++◌, ◌-◌, length, take, drop, refl, ap, subst, sym, ◌∙◌, arith}
+use Rattle.reception.proofs.Common.{length-drop, length-append, length-take, take_at, drop_all, post_of, AreSmall, append-nil}
 use Rattle.reception.proofs.SoftSums.{shifted_small}
 use Rattle.reception.proofs.softs.shift_in.Goals as goal
 

@@ -1,8 +1,5 @@
--- Why `unscramble` of `softs` keeps its contract.
-use Rattle.std.proofs.lemmas.Grind.{common_steps}
-use Rattle.std.proofs.lemmas.Int.{ints}
-use Rattle.reception.proofs.Common.{◌≡◌, ◌<◌, ℕ, ◌∙◌, ap, arith, rules, ℤ, length, get_or, pos, false, ◌*ℤ◌, unsigned_abs, to_z-of_z}
-use Rattle.reception.proofs.Common.{sum_by-set, SFits, w64, sign}
+use Rattle.reception.proofs.Common.{common_steps, ints, ◌≡◌, ◌<◌, ℕ, ◌∙◌, ap, arith, rules, ℤ, length, get_or, pos, false, ◌*ℤ◌, to_z-of_z}
+use Rattle.reception.proofs.Common.{unsigned_abs, sum_by-set, SFits, w64, sign}
 use Rattle.reception.proofs.Descrambled.{descrambled_more}
 use Rattle.reception.proofs.softs.unscramble.Goals as goal
 

@@ -1,4 +1,3 @@
--- What each pass of the loops in `unscramble` of `softs` keeps, and why they end.
 use Rattle.reception.proofs.Common.{◌≡◌, ◌++◌, take, drop, sum_by, unsigned_abs, descrambled}
 use Rattle.reception.proofs.softs.unscramble.Given as goal
 

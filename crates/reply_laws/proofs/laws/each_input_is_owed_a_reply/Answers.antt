@@ -1,4 +1,3 @@
--- Why the law `each_input_is_owed_a_reply` holds.
 use Rattle.reply_laws.proofs.Owed.{each_owed}
 use Rattle.reply_laws.proofs.laws.each_input_is_owed_a_reply.Goals as goal
 

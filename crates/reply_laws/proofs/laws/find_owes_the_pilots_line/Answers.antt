@@ -1,4 +1,3 @@
--- Why the law `find_owes_the_pilots_line` holds.
 use Rattle.reply_laws.proofs.Owed.{find_owes}
 use Rattle.reply_laws.proofs.laws.find_owes_the_pilots_line.Goals as goal
 

@@ -1,4 +1,3 @@
--- Why the law `follow_owes_the_events` holds.
 use Rattle.reply_laws.proofs.Owed.{follow_owes}
 use Rattle.reply_laws.proofs.laws.follow_owes_the_events.Goals as goal
 

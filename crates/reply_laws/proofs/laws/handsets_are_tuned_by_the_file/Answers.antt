@@ -1,4 +1,3 @@
--- Why the law `handsets_are_tuned_by_the_file` holds.
 use Rattle.reply_laws.proofs.Common.{handsets_tuned, on_plans_path}
 use Rattle.reply_laws.proofs.laws.handsets_are_tuned_by_the_file.Goals as goal
 

@@ -1,4 +1,3 @@
--- Why the law `idle_owes_the_slots` holds.
 use Rattle.reply_laws.proofs.Owed.{idle_owes}
 use Rattle.reply_laws.proofs.laws.idle_owes_the_slots.Goals as goal
 

@@ -1,4 +1,3 @@
--- Why the law `inputs_are_owed_one_reply` holds.
 use Rattle.reply_laws.proofs.Common.{one_reply}
 use Rattle.reply_laws.proofs.laws.inputs_are_owed_one_reply.Goals as goal
 

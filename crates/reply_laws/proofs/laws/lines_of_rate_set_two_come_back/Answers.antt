@@ -1,4 +1,3 @@
--- Why the law `lines_of_rate_set_two_come_back` holds.
 use Rattle.reply_laws.proofs.SentLines.{set_two_lines}
 use Rattle.reply_laws.proofs.laws.lines_of_rate_set_two_come_back.Goals as goal
 

@@ -1,4 +1,3 @@
--- Why the law `list_owes_the_frames` holds.
 use Rattle.reply_laws.proofs.Owed.{list_owes}
 use Rattle.reply_laws.proofs.laws.list_owes_the_frames.Goals as goal
 

@@ -1,4 +1,3 @@
--- Why the law `listed_lines_come_back` holds.
 use Rattle.reply_laws.proofs.SentLines.{listed_lines}
 use Rattle.reply_laws.proofs.laws.listed_lines_come_back.Goals as goal
 

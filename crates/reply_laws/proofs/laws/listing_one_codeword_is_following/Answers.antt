@@ -1,4 +1,3 @@
--- Why the law `listing_one_codeword_is_following` holds.
 use Rattle.reply_laws.proofs.SentLines.{one_frame, one_codeword_follows}
 use Rattle.reply_laws.proofs.laws.listing_one_codeword_is_following.Goals as goal
 

@@ -1,4 +1,3 @@
--- Why the law `louder_pilots_come_back` holds.
 use Rattle.reply_laws.proofs.MadeLinks.{cell_files, clean_links, louder_find, louder_follow, louder_idle, louder_list, louder_rate2}
 use Rattle.reply_laws.proofs.laws.louder_pilots_come_back.Goals as goal
 

@@ -1,4 +1,3 @@
--- Why the law `made_files_are_clean_links` holds.
 use Rattle.reply_laws.proofs.MadeLinks.{made_clean, made_clean_sent, made_readable}
 use Rattle.reply_laws.proofs.laws.made_files_are_clean_links.Goals as goal
 

@@ -1,4 +1,3 @@
--- Why the law `make_owes_the_file` holds.
 use Rattle.reply_laws.proofs.Owed.{make_owes}
 use Rattle.reply_laws.proofs.laws.make_owes_the_file.Goals as goal
 

@@ -1,4 +1,3 @@
--- Why the law `near_files_come_back` holds.
 use Rattle.reply_laws.proofs.NoisyReplies.{comes_back}
 use Rattle.reply_laws.proofs.laws.near_files_come_back.Goals as goal
 

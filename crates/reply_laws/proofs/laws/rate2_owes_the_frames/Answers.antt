@@ -1,4 +1,3 @@
--- Why the law `rate2_owes_the_frames` holds.
 use Rattle.reply_laws.proofs.Owed.{rate2_owes}
 use Rattle.reply_laws.proofs.laws.rate2_owes_the_frames.Goals as goal
 

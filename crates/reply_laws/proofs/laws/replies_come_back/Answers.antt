@@ -1,4 +1,3 @@
--- Why the law `replies_come_back` holds.
 use Rattle.reply_laws.proofs.NoisyReplies.{list_replies, rate2_replies, idle_replies}
 use Rattle.reply_laws.proofs.laws.replies_come_back.Goals as goal
 

@@ -1,4 +1,3 @@
--- Why the law `signed_replies_come_back` holds.
 use Rattle.reply_laws.proofs.SignedReplies.{signed_follow, signed_idle, signed_list, signed_rate2, signed_undirected, signed_whole}
 use Rattle.reply_laws.proofs.laws.signed_replies_come_back.Goals as goal
 

@@ -1,4 +1,3 @@
--- Why the law `slots_of_a_file_come_back` holds.
 use Rattle.reply_laws.proofs.SignedReplies.{file_slots}
 use Rattle.reply_laws.proofs.laws.slots_of_a_file_come_back.Goals as goal
 

@@ -1,4 +1,3 @@
--- Why the law `survey_owes_the_ranks` holds.
 use Rattle.reply_laws.proofs.Owed.{survey_owes}
 use Rattle.reply_laws.proofs.laws.survey_owes_the_ranks.Goals as goal
 

@@ -1,4 +1,3 @@
--- Why the law `trial_owes_its_line` holds.
 use Rattle.reply_laws.proofs.Owed.{trial_owes}
 use Rattle.reply_laws.proofs.laws.trial_owes_its_line.Goals as goal
 

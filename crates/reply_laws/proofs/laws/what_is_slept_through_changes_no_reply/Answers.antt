@@ -1,4 +1,3 @@
--- Why the law `what_is_slept_through_changes_no_reply` holds.
 use Rattle.reply_laws.proofs.SleepLaw.{sleep_changes_no_reply}
 use Rattle.reply_laws.proofs.laws.what_is_slept_through_changes_no_reply.Goals as goal
 

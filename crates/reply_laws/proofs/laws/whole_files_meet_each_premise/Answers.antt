@@ -1,4 +1,3 @@
--- Why the law `whole_files_meet_each_premise` holds.
 use Rattle.reply_laws.proofs.WholeFiles.{loud_comes_back, meets_each, meets_noise}
 use Rattle.reply_laws.proofs.laws.whole_files_meet_each_premise.Goals as goal
 

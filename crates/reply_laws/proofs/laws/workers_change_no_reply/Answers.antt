@@ -1,4 +1,3 @@
--- Why the law `workers_change_no_reply` holds.
 use Rattle.reply_laws.proofs.Owed.{workers_change_nothing}
 use Rattle.reply_laws.proofs.laws.workers_change_no_reply.Goals as goal
 

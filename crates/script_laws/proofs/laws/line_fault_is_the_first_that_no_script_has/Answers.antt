@@ -1,4 +1,3 @@
--- Why the law `line_fault_is_the_first_that_no_script_has` holds.
 use Rattle.script_laws.proofs.LineFaults.{counted, least, missing, refused}
 use Rattle.script_laws.proofs.laws.line_fault_is_the_first_that_no_script_has.Goals as goal
 

@@ -1,4 +1,3 @@
--- Why the law `line_faults_come_first` holds.
 use Rattle.script_laws.proofs.LineFaults.{line_answer}
 use Rattle.script_laws.proofs.laws.line_faults_come_first.Goals as goal
 

@@ -1,4 +1,3 @@
--- Why the law `named_pages_are_carried` holds.
 use Rattle.cell_script.proofs.NamedPages.{pages_are_carried, pages_are_messages}
 use Rattle.script_laws.proofs.laws.named_pages_are_carried.Goals as goal
 

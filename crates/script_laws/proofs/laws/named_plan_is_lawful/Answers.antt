@@ -1,4 +1,3 @@
--- Why the law `named_plan_is_lawful` holds.
 use Rattle.cell_script.proofs.NamedPages.{named_receivable}
 use Rattle.cell_script.proofs.NamedPlans.{named_plan}
 use Rattle.script_laws.proofs.laws.named_plan_is_lawful.Goals as goal

@@ -1,4 +1,3 @@
--- Why the law `numbers_have_one_spelling` holds.
 use Rattle.line_text.proofs.Numerals.{one_numeral, one_signed_numeral}
 use Rattle.script_laws.proofs.laws.numbers_have_one_spelling.Goals as goal
 

@@ -1,4 +1,3 @@
--- Why `written_script_names_its_plan` of `laws` keeps its contract.
 use Rattle.cell_script.proofs.NamedPlans.{named_back}
 use Rattle.cell_script.proofs.WrittenPlans.{stated_back}
 use Rattle.script_laws.proofs.laws.written_script_names_its_plan.Goals as goal

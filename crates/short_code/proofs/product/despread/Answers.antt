@@ -1,4 +1,3 @@
--- Why `despread` of `product` keeps its contract.
 use Rattle.std.proofs.Common.{◌∙◌, arith, rules, ◌+ℤ◌, ◌-ℤ◌, FitsSigned, w16, w32}
 use Rattle.std.proofs.lemmas.Int.{ints, fits_signed_from_abs}
 use Rattle.chip_core.proofs.Magnitudes.{abs_sum, abs_difference}

@@ -1,4 +1,3 @@
--- Why `signed` of `product` keeps its contract.
 use Rattle.short_code.proofs.Despreading.{branch_kept, branch_most}
 use Rattle.short_code.proofs.product.signed.Goals as goal
 

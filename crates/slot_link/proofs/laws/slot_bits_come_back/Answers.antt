@@ -1,4 +1,3 @@
--- Why the law `slot_bits_come_back` holds.
 use Rattle.slot_link.proofs.File.{signed_slot_bits_back, signed_spans_back}
 use Rattle.slot_link.proofs.laws.slot_bits_come_back.Goals as goal
 

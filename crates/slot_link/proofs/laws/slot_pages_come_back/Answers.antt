@@ -1,4 +1,3 @@
--- Why the law `slot_pages_come_back` holds.
 use Rattle.slot_link.proofs.File.{slot_pages_back}
 use Rattle.slot_link.proofs.laws.slot_pages_come_back.Goals as goal
 

@@ -1,4 +1,3 @@
--- Why the law `slots_come_back` holds.
 use Rattle.slot_link.proofs.File.{slot_texts_back, slots_back}
 use Rattle.slot_link.proofs.laws.slots_come_back.Goals as goal
 

@@ -1,4 +1,3 @@
--- Why `append_all` of `frames` keeps its contract.
 use Rattle.std.proofs.Common.{append_assoc}
 use Rattle.chip_core.proofs.BitLists.{taken_more}
 use Rattle.slot_mode.proofs.frames.append_all.Goals as goal

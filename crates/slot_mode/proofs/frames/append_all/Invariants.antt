@@ -1,4 +1,3 @@
--- What each pass of the loops in `append_all` of `frames` keeps, and why they end.
 use Rattle.std.proofs.Common.{◌≡◌, ◌++◌, take}
 use Rattle.slot_mode.proofs.frames.append_all.Given as goal
 

@@ -1,4 +1,3 @@
--- Why `slot_bits` of `frames` keeps its contract.
 use Rattle.std.proofs.Common.{◌≡◌, ℕ, ◌+◌, ◌*◌, Bool, List, ◌++◌, rules, refl, sym, ap, ◌∙◌, arith, length, length-append}
 use Rattle.std.specs.List.{flat_map}
 use Rattle.chip_core.specs.Bits.{places}

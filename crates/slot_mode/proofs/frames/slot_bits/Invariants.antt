@@ -1,4 +1,3 @@
--- What each pass of the loops in `slot_bits` of `frames` keeps, and why they end.
 use Rattle.std.proofs.Common.{◌≡◌, ◌*◌, length}
 use Rattle.std.specs.List.{flat_map}
 use Rattle.chip_core.specs.Bits.{places}

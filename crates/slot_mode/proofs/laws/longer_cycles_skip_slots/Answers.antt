@@ -1,4 +1,3 @@
--- Why the law `longer_cycles_skip_slots` holds.
 use Rattle.slot_mode.proofs.Cycles.{among_shorter}
 use Rattle.slot_mode.proofs.laws.longer_cycles_skip_slots.Goals as goal
 

@@ -1,4 +1,3 @@
--- Why the law `one_slot_in_each_cycle` holds.
 use Rattle.slot_mode.proofs.Cycles.{comes_again, comes_in_time, comes_once}
 use Rattle.slot_mode.proofs.laws.one_slot_in_each_cycle.Goals as goal
 

@@ -1,4 +1,3 @@
--- Why the law `spans_lie_in_the_slot` holds.
 use Rattle.slot_mode.proofs.SlotFrames.{heard_as_ever}
 use Rattle.slot_mode.proofs.laws.spans_lie_in_the_slot.Goals as goal
 

@@ -1,4 +1,3 @@
--- Why `encode_frame_into` of `frames` keeps its contract.
 use Rattle.symbol_path.proofs.Common.{◌≡◌, ℕ, ◌*◌, length, sym, ap, ◌∙◌, arith, binary, bits_in, format_codeword, length-code_symbols}
 use Rattle.symbol_path.proofs.Common.{repeated_count, sent_count, sent_by, place_in}
 use Rattle.symbol_path.proofs.CodewordsTwo.{coded_from_zero}

@@ -1,4 +1,3 @@
--- Why `gather_frame_into` of `frames` keeps its contract.
 use Rattle.symbol_path.proofs.Common.{◌≡◌, ℕ, ◌*◌, length, sym, ap, ◌∙◌, rules, repeated_count, sent_count, gathered_by, place_in}
 use Rattle.symbol_path.proofs.FormatSymbols.{repeated_is, sent_is, by_format}
 use Rattle.symbol_path.proofs.frames.gather_frame_into.Goals as goal

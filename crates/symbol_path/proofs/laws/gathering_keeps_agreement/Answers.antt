@@ -1,4 +1,3 @@
--- Why the law `gathering_keeps_agreement` holds.
 use Rattle.symbol_path.proofs.Agreement.{agreement-gathered}
 use Rattle.symbol_path.proofs.laws.gathering_keeps_agreement.Goals as goal
 

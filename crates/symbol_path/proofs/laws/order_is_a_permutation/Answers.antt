@@ -1,4 +1,3 @@
--- Why the law `order_is_a_permutation` holds.
 use Rattle.symbol_path.proofs.Common.{shape_of, place}
 use Rattle.symbol_path.proofs.Permutation.{address_lt, address-injective, place_lt, address-place}
 use Rattle.symbol_path.proofs.laws.order_is_a_permutation.Goals as goal

@@ -1,4 +1,3 @@
--- Why `reversed` of `order` keeps its contract.
 use Rattle.symbol_path.proofs.Common.{◌+◌, arith, digit_fits}
 use Rattle.symbol_path.proofs.Reversal.{reversed_more, reversed_all}
 use Rattle.symbol_path.proofs.order.reversed.Goals as goal

@@ -1,4 +1,3 @@
--- What each pass of the loops in `reversed` of `order` keeps, and why they end.
 use Rattle.symbol_path.proofs.Common.{◌≡◌, ◌-◌, ◌<◌, ◌^◌, reverse, number_from, binary, reversed}
 use Rattle.symbol_path.proofs.order.reversed.Given as goal
 

@@ -1,4 +1,3 @@
--- Why `clear` of `placing` keeps its contract.
 use Rattle.symbol_path.proofs.Common.{pos, arith, ⊎_elim, cases_lt, get_or_past}
 use Rattle.symbol_path.proofs.Gathering.{sizes_none}
 use Rattle.symbol_path.proofs.placing.clear.Goals as goal

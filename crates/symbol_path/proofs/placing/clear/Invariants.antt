@@ -1,4 +1,3 @@
--- What each pass of the loops in `clear` of `placing` keeps, and why they end.
 use Rattle.symbol_path.proofs.Common.{◌≡◌, pos, ℕ, ◌<◌, get_or}
 use Rattle.symbol_path.proofs.placing.clear.Given as goal
 

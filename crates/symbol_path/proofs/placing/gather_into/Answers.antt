@@ -1,4 +1,3 @@
--- Why `gather_into` of `placing` keeps its contract.
 use Rattle.symbol_path.proofs.Common.{◌≡◌, ◌*◌, ℕ, length, sym, ap, ◌∙◌, shape_of, size, code_symbol, gathered_by}
 use Rattle.symbol_path.proofs.Interleaving.{size_some, count_is}
 use Rattle.symbol_path.proofs.placing.gather_into.Goals as goal

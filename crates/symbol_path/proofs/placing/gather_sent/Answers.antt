@@ -1,6 +1,5 @@
--- Why `gather_sent` of `placing` keeps its contract.
-use Rattle.std.proofs.lemmas.Grind.{common_steps}
 use Rattle.symbol_path.proofs.Common.{◌≡◌, ◌<◌, ◌/◌, ℕ, arith, ints, pos, get_or, length, sym, ap, ◌∙◌, repeated_as, sent_count}
+use Rattle.std.proofs.lemmas.Grind.{common_steps}
 use Rattle.symbol_path.proofs.Interleaving.{read_symbol_lt, read_repeats_some}
 use Rattle.symbol_path.proofs.Gathering.{part-none, part, turn, turn_sizes, sizes_none, sum_has_room, added_fits, gathered_all}
 use Rattle.symbol_path.proofs.placing.gather_sent.Goals as goal

@@ -1,4 +1,3 @@
--- What each pass of the loops in `gather_sent` of `placing` keeps, and why they end.
 use Rattle.symbol_path.proofs.Common.{◌≡◌, ◌≤◌, ◌/◌, ℕ, get_or, take, pos, sum_by, unsigned_abs, repeated_as}
 use Rattle.symbol_path.proofs.Gathering.{part}
 use Rattle.symbol_path.proofs.placing.gather_sent.Given as goal

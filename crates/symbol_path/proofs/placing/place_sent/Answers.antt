@@ -1,7 +1,5 @@
--- Why `place_sent` of `placing` keeps its contract.
 use Rattle.symbol_path.proofs.Common.{◌≡◌, ◌+◌, ◌/◌, ℕ, Bool, arith, get_or, false, map, length, refl, sym, ap, ◌∙◌, get_or_from_slice_get}
-use Rattle.symbol_path.proofs.Common.{places}
-use Rattle.symbol_path.proofs.Common.{places-none, map-places-more, length-map-places, repeated_as, sent_count, sent_by}
+use Rattle.symbol_path.proofs.Common.{places, places-none, map-places-more, length-map-places, repeated_as, sent_count, sent_by}
 use Rattle.symbol_path.proofs.Interleaving.{read_symbol_lt, read_repeats_some, sent_most}
 use Rattle.symbol_path.proofs.placing.place_sent.Goals as goal
 

@@ -1,4 +1,3 @@
--- What each pass of the loops in `place_sent` of `placing` keeps, and why they end.
 use Rattle.symbol_path.proofs.Common.{◌≡◌, ◌/◌, map, get_or, false, length, places, repeated_as}
 use Rattle.symbol_path.proofs.placing.place_sent.Given as goal
 

@@ -1,4 +1,3 @@
--- Why `symbol_or_power_bit` of `power_bits` keeps its contract.
 use Rattle.symbol_path.proofs.Common.{sym, ◌∙◌}
 use Rattle.symbol_path.proofs.PowerControl.{kept_symbol, replaced_symbol}
 use Rattle.symbol_path.proofs.power_bits.symbol_or_power_bit.Goals as goal

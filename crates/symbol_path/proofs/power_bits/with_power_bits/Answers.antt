@@ -1,4 +1,3 @@
--- Why `with_power_bits` of `power_bits` keeps its contract.
 use Rattle.symbol_path.proofs.Common.{◌≡◌, ℕ, ◌+◌, ◌++◌, ◌∷◌, [], Bool, List, map, length, sym, ap, ◌∙◌, arith, places, places-none}
 use Rattle.symbol_path.proofs.Common.{map-places-more, length-map-places, symbol_or_power_bit, with_power_bits}
 use Rattle.symbol_path.proofs.power_bits.with_power_bits.Goals as goal

@@ -1,4 +1,3 @@
--- What each pass of the loops in `with_power_bits` of `power_bits` keeps, and why they end.
 use Rattle.symbol_path.proofs.Common.{◌≡◌, length, map, places, symbol_or_power_bit}
 use Rattle.symbol_path.proofs.power_bits.with_power_bits.Given as goal
 

@@ -1,4 +1,3 @@
--- Why `group_bits` of `scramble` keeps its contract.
 use Rattle.symbol_path.proofs.Common.{sym, arith, ◌∙◌, after_none}
 use Rattle.symbol_path.proofs.scramble.group_bits.Goals as goal
 

@@ -1,4 +1,3 @@
--- Why `power_places` of `scramble` keeps its contract.
 use Rattle.symbol_path.proofs.Common.{◌≡◌, ◌<◌, ◌+◌, ◌*◌, ℕ, arith, sym, ap, ◌∙◌, refl, subst, List, All-from_get_or, after, before}
 use Rattle.symbol_path.proofs.Common.{group_scrambling, power_start, power_place}
 use Rattle.symbol_path.proofs.SymbolChips.{before_later, group_first, group_next, power_place_is}

@@ -1,4 +1,3 @@
--- What each pass of the loops in `power_places` of `scramble` keeps, and why they end.
 use Rattle.symbol_path.proofs.Common.{◌≡◌, ◌*◌, after, before, power_place}
 use Rattle.symbol_path.proofs.PowerPlaces.{ArePairs}
 use Rattle.symbol_path.proofs.scramble.power_places.Given as goal

@@ -1,4 +1,3 @@
--- Why `symbol_chips` of `scramble` keeps its contract.
 use Rattle.symbol_path.proofs.Common.{◌≡◌, ◌≢◌, ◌<◌, ◌+◌, ◌*◌, ℕ, length, get_or, set, false, below_more, arith, ap, ◌∙◌, get_or-set_same}
 use Rattle.symbol_path.proofs.Common.{get_or-set_other, after, long_chip}
 use Rattle.symbol_path.proofs.SymbolChips.{long_chip-same, later_by_symbol, symbol_chips_all}

@@ -1,4 +1,3 @@
--- What each pass of the loops in `symbol_chips` of `scramble` keeps, and why they end.
 use Rattle.symbol_path.proofs.Common.{◌≡◌, ◌<◌, ◌+◌, ◌*◌, ℕ, get_or, false, IsState, after, long_chip}
 use Rattle.symbol_path.proofs.scramble.symbol_chips.Given as goal
 

@@ -1,5 +1,4 @@
--- Why the law `octets_tell_the_rest` holds.
-use Rattle.std.proofs.Common.{arith, inl, inr}
+use Rattle.sync_message.proofs.Common.{arith, inl, inr}
 use Rattle.sync_message.proofs.Bodies.{length-body, length-tail}
 use Rattle.sync_message.proofs.laws.octets_tell_the_rest.Goals as goal
 

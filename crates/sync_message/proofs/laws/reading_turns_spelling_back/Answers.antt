@@ -1,4 +1,3 @@
--- Why the law `reading_turns_spelling_back` holds.
 use Rattle.quality_bits.proofs.Decoded.{turned_back}
 use Rattle.sync_message.proofs.Readings.{are_read}
 use Rattle.sync_message.proofs.laws.reading_turns_spelling_back.Goals as goal

@@ -1,4 +1,3 @@
--- Why the law `spelling_has_one_message` holds.
 use Rattle.quality_bits.proofs.Decoded.{one_message}
 use Rattle.sync_message.proofs.Readings.{are_read}
 use Rattle.sync_message.proofs.laws.spelling_has_one_message.Goals as goal

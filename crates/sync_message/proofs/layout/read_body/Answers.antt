@@ -1,4 +1,3 @@
--- Why `read_body` of `layout` keeps its contract.
 use Rattle.sync_message.proofs.ByLayout.{fields_fit}
 use Rattle.sync_message.proofs.layout.read_body.Goals as goal
 

@@ -1,4 +1,3 @@
--- Why `read_contents` of `layout` keeps its contract.
 use Rattle.sync_message.proofs.ByLayout.{sync_lawful}
 use Rattle.sync_message.proofs.layout.read_contents.Goals as goal
 

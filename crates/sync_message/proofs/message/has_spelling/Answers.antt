@@ -1,7 +1,4 @@
--- Why `has_spelling` of `message` keeps its contract.
-use Rattle.std.proofs.Common.{subst, ◌∙◌, arith}
-use Rattle.chip_core.specs.Fields.{in_widths, FieldsFit}
-use Rattle.sync_message.specs.Rows.{sync_widths}
+use Rattle.sync_message.proofs.Common.{subst, ◌∙◌, arith, in_widths, FieldsFit, sync_widths}
 use Rattle.sync_message.proofs.Bodies.{admitted, tail_of}
 use Rattle.sync_message.proofs.message.has_spelling.Goals as goal
 

@@ -1,4 +1,3 @@
--- Why `is_set` of `handoff` keeps its contract.
 use Rattle.traffic_message.proofs.Common.{◌+◌, ◌==◌, Bool, List, take, sym, ap, ◌∙◌, number, dropped}
 use Rattle.traffic_message.proofs.Frames.{set_there}
 use Rattle.traffic_message.proofs.handoff.is_set.Goals as goal

@@ -1,4 +1,3 @@
--- Why the law `parts_are_the_frame` holds.
 use Rattle.traffic_message.proofs.Frames.{mixed_parts, plain_parts}
 use Rattle.traffic_message.proofs.laws.parts_are_the_frame.Goals as goal
 

@@ -1,4 +1,3 @@
--- Why the law `reading_turns_spelling_back` holds.
 use Rattle.traffic_message.proofs.Common.{ap, ◌∙◌, traffic_body_reading, turned_back}
 use Rattle.traffic_message.proofs.Bodies.{message_again, message_there}
 use Rattle.traffic_message.proofs.Readings.{are_read}

@@ -1,4 +1,3 @@
--- Why the law `type_and_length_admit` holds.
 use Rattle.traffic_message.proofs.Admitting.{admitted_has, has_admitted}
 use Rattle.traffic_message.proofs.laws.type_and_length_admit.Goals as goal
 

@@ -1,4 +1,3 @@
--- Why `split_full` of `multiplex` keeps its contract.
 use Rattle.traffic_message.proofs.Common.{◌∙◌}
 use Rattle.traffic_message.proofs.Frames.{mixed_split, plain_split}
 use Rattle.traffic_message.proofs.multiplex.split_full.Goals as goal

@@ -1,4 +1,3 @@
--- Why the law `trial_scripts_are_lawful` holds.
 use Rattle.trial_link.proofs.TrialPlans.{trial_named}
 use Rattle.trial_link.proofs.laws.trial_scripts_are_lawful.Goals as goal
 

@@ -1,4 +1,3 @@
--- Why `channel_list` of `trial` keeps its contract.
 use Rattle.trial_link.proofs.Common.{◌≡◌, ◌+◌, ◌++◌, ℕ, Bool, List, length, ap, arith, length-append, binary, length-binary}
 use Rattle.trial_link.proofs.trial.channel_list.Goals.{After-append_number, After-append_number-2, After-append_number-3}
 use Rattle.trial_link.proofs.trial.channel_list.Goals as goal

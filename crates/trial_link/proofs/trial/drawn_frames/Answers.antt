@@ -1,7 +1,4 @@
--- Why `drawn_frames` of `trial` keeps its contract.
-use Rattle.trial_link.proofs.Common.{◌≡◌, ◌∷◌, ◌++◌, [], ℕ, List, TrafficFrame, sym, ap, ◌∙◌, arith, past_frame, past_frames}
-use Rattle.trial_link.proofs.Common.{frame_drawn}
-use Rattle.trial_link.proofs.Common.{frames_drawn}
+use Rattle.trial_link.proofs.Common.{◌≡◌, ◌∷◌, ◌++◌, [], List, TrafficFrame, sym, ap, ◌∙◌, arith, past_frame, frame_drawn, frames_drawn}
 use Rattle.trial_link.proofs.TrialDraws.{frames_drawn_more, frames_more, no_frames, no_frames_drawn}
 use Rattle.trial_link.proofs.trial.drawn_frames.Goals as goal
 

@@ -1,4 +1,3 @@
--- What each pass of the loops in `drawn_frames` of `trial` keeps, and why they end.
 use Rattle.trial_link.proofs.Common.{◌≡◌, past_frames, frames_drawn}
 use Rattle.trial_link.proofs.trial.drawn_frames.Given as goal
 

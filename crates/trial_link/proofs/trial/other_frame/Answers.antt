@@ -1,4 +1,3 @@
--- Why `other_frame` of `trial` keeps its contract.
 use Rattle.trial_link.proofs.Common.{length, ap, arith, length-append, binary, length-binary}
 use Rattle.trial_link.proofs.trial.other_frame.Goals as goal
 

@@ -1,4 +1,3 @@
--- Why `sixteen` of `trial` keeps its contract.
 use Rattle.trial_link.proofs.Common.{◌≡◌, ◌≢◌, ◌<◌, false, ◌∙◌, arith, below_more, length, get_or, set, sym, get_or_from_slice_get}
 use Rattle.trial_link.proofs.Common.{ext_get_or, get_or-set_other, get_or-set_same, length-set}
 use Rattle.trial_link.proofs.trial.sixteen.Goals as goal

@@ -1,4 +1,3 @@
--- What each pass of the loops in `sixteen` of `trial` keeps, and why they end.
 use Rattle.trial_link.proofs.Common.{◌≡◌, ◌<◌, ℕ, length, get_or, false}
 use Rattle.trial_link.proofs.trial.sixteen.Given as goal
 

@@ -1,8 +1,6 @@
--- Why `sync_channel` of `trial` keeps its contract.
-use Rattle.trial_link.proofs.Common.{◌≡◌, ◌++◌, ◌∙◌, [], Bool, List, ap, binary, false, trial_sync}
+use Rattle.trial_link.proofs.Common.{◌≡◌, ◌++◌, ◌∙◌, [], Bool, List, ap, binary, false, trial_sync, SyncPlan}
 use Rattle.std.specs.Prelude.{replicate}
 use Rattle.cell_plan.specs.SomeMessage.{some_message, some_sync}
-use Rattle.cell_plan.specs.declared.plan.SyncPlan.{SyncPlan}
 use Rattle.trial_link.proofs.trial.sync_channel.Goals as goal
 
 -- three zeros after no bits

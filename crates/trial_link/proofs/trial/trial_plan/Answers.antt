@@ -1,9 +1,7 @@
--- Why `trial_plan` of `trial` keeps its contract.
 use Rattle.trial_link.proofs.Common.{◌≡◌, ◌∷◌, ◌∙◌, [], CellIdentity, CellPlan, List, Some, TrafficFrame, TrafficPlan, ap, past_draw, ℕ}
 use Rattle.trial_link.proofs.Common.{past_draws, drawn, frames_drawn, trial_cell, trial_frames, trial_link, trial_paging, trial_plan}
-use Rattle.trial_link.proofs.Common.{trial_serial_number, trial_sync, trial_traffic}
+use Rattle.trial_link.proofs.Common.{trial_serial_number, trial_sync, trial_traffic, SyncPlan}
 use Rattle.cell_plan.specs.declared.plan.PagingPlan.{PagingPlan}
-use Rattle.cell_plan.specs.declared.plan.SyncPlan.{SyncPlan}
 use Rattle.trial_link.proofs.TrialDraws.{fifth_draw, serial_number_drawn}
 use Rattle.trial_link.proofs.trial.trial_plan.Goals as goal
 

@@ -1,4 +1,3 @@
--- Why `scrambling_of` of `channel_receiver` keeps its contract.
 use Rattle.tuned_listener.proofs.Common.{◌∙◌, ap, sym, state_at, Channel}
 use Rattle.mobile_core.proofs.FramesHeard.{state_on}
 use Rattle.tuned_listener.proofs.channel_receiver.scrambling_of.Goals as goal

@@ -1,10 +1,7 @@
--- Why `hear_frames` of `frame_writer` keeps its contract.
-use Rattle.tuned_listener.proofs.Common.{ints}
-use Rattle.std.proofs.lemmas.Grind.{common_steps}
-use Rattle.tuned_listener.proofs.Common.{◌≡◌, ◌++◌, [], List, None, Some, arith, rules, subst, take, Appends, take_rest}
+use Rattle.tuned_listener.proofs.Common.{ints, common_steps, ◌≡◌, ◌++◌, [], List, None, Some, arith, rules, subst, take, Appends, take_rest}
 use Rattle.tuned_listener.proofs.Common.{err_from_is_err_and, AppendsPrefix, Sample, soft_frames, IsTunedTo, Tuning, Channel, HoldsFrames}
-use Rattle.tuned_listener.proofs.Common.{tuned_text_of, slot_after, slot_more, tuned_frame_text, TunedText, WritesFrames, Mark, Tuner}
-use Rattle.tuned_listener.proofs.Common.{FrameWriter, Option, ℕ, Appends-nil, append-nil, refl, sym, text_from}
+use Rattle.tuned_listener.proofs.Common.{tuned_text_of, slot_after, slot_more, tuned_frame_text, TunedText, WritesFrames, Mark, Tuner, ℕ}
+use Rattle.tuned_listener.proofs.Common.{FrameWriter, Option, Appends-nil, append-nil, refl, sym, text_from}
 use Rattle.tuned_listener.proofs.TunedFrames.{frame_cut, frame_kept, frame_written, none_kept, none_written, writes_all, writes_more}
 use Rattle.tuned_listener.proofs.TunedFrames.{writes_part}
 use Rattle.tuned_listener.proofs.frame_writer.hear_frames.Goals as goal

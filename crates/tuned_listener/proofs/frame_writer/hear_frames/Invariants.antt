@@ -1,4 +1,3 @@
--- What each pass of the loops in `hear_frames` of `frame_writer` keeps, and why they end.
 use Rattle.tuned_listener.proofs.Common.{◌≡◌, ◌≤◌, ◌+◌, ◌-◌, ◌++◌, [], List, length, take, Sample, soft_frames, IsTunedTo, samples_left}
 use Rattle.tuned_listener.proofs.Common.{Tuning, Channel, HoldsFrames, IsReady, WritesFrames, tuned_text_of, slot_after}
 use Rattle.tuned_listener.proofs.frame_writer.hear_frames.Given as goal

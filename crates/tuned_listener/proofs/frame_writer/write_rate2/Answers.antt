@@ -1,6 +1,4 @@
--- Why `write_rate2` of `frame_writer` keeps its contract.
-use Rattle.tuned_listener.proofs.Common.{arith, ints}
-use Rattle.std.proofs.lemmas.Grind.{common_steps}
+use Rattle.tuned_listener.proofs.Common.{arith, ints, common_steps}
 use Rattle.tuned_listener.proofs.frame_writer.write_rate2.Goals as goal
 
 pub returns-clause-err : goal.returns-clause-err

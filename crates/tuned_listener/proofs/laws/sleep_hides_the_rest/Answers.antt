@@ -1,4 +1,3 @@
--- Why the law `sleep_hides_the_rest` holds.
 use Rattle.tuned_listener.proofs.Sleep.{sleeps}
 use Rattle.tuned_listener.proofs.laws.sleep_hides_the_rest.Goals as goal
 

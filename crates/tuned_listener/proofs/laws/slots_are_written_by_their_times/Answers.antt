@@ -1,4 +1,3 @@
--- Why the law `slots_are_written_by_their_times` holds.
 use Rattle.tuned_listener.proofs.SlotTimes.{needs_mark, written_by_times}
 use Rattle.tuned_listener.proofs.laws.slots_are_written_by_their_times.Goals as goal
 

@@ -1,7 +1,4 @@
--- Why `step_to_mark` of `marking` keeps its contract.
-use Rattle.tuned_listener.proofs.Common.{arith, ints}
-use Rattle.std.proofs.lemmas.Grind.{common_steps}
-use Rattle.tuned_listener.proofs.Common.{◌≡◌, ◌∙◌, List, None, Some, rules, take_rest, Sample, Tuning, HasNoMark}
+use Rattle.tuned_listener.proofs.Common.{arith, ints, common_steps, ◌≡◌, ◌∙◌, List, None, Some, rules, take_rest, Sample, Tuning, HasNoMark}
 use Rattle.tuned_listener.proofs.TunedMarks.{ahead_all, mark_is_ahead, marked_here, no_mark_here, unset_untold, unset_without, untold_more}
 use Rattle.tuned_listener.proofs.marking.step_to_mark.Goals as goal
 

@@ -1,4 +1,3 @@
--- What each pass of the loops in `step_to_mark` of `marking` keeps, and why they end.
 use Rattle.tuned_listener.proofs.Common.{◌≡◌, ◌≤◌, ◌+◌, ◌++◌, List, length, take, Sample, has_room, steps_left, Tuning, HasNoMark, IsUntold}
 use Rattle.tuned_listener.proofs.marking.step_to_mark.Given as goal
 

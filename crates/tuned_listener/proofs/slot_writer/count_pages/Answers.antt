@@ -1,7 +1,5 @@
--- Why `count_pages` of `slot_writer` keeps its contract.
-use Rattle.tuned_listener.proofs.Common.{ints}
-use Rattle.std.proofs.lemmas.Grind.{common_steps}
-use Rattle.tuned_listener.proofs.Common.{◌∙◌, ap, arith, length, rules, subst, sym, take, taken_more, HalfFramesStandFor}
+use Rattle.tuned_listener.proofs.Common.{ints, common_steps, ◌∙◌, ap, arith, length, rules, subst, sym, take, taken_more}
+use Rattle.tuned_listener.proofs.Common.{HalfFramesStandFor}
 use Rattle.tuned_listener.proofs.SlotPages.{count_more, pages_all, pages_none}
 use Rattle.tuned_listener.proofs.slot_writer.count_pages.Goals as goal
 

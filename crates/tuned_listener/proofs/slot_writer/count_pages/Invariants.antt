@@ -1,4 +1,3 @@
--- What each pass of the loops in `count_pages` of `slot_writer` keeps, and why they end.
 use Rattle.tuned_listener.proofs.Common.{◌≡◌, ◌≤◌, length, take, HalfFramesStandFor, half_frame_body, slot_pages}
 use Rattle.tuned_listener.proofs.slot_writer.count_pages.Given as goal
 

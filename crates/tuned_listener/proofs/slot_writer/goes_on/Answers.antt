@@ -1,6 +1,4 @@
--- Why `goes_on` of `slot_writer` keeps its contract.
-use Rattle.tuned_listener.proofs.Common.{arith, ints}
-use Rattle.std.proofs.lemmas.Grind.{common_steps}
+use Rattle.tuned_listener.proofs.Common.{arith, ints, common_steps}
 use Rattle.tuned_listener.proofs.slot_writer.goes_on.Goals as goal
 
 pub returns-else-place-eq0 : goal.returns-else-place-eq0

@@ -1,6 +1,4 @@
--- Why `page_after` of `slot_writer` keeps its contract.
-use Rattle.tuned_listener.proofs.Common.{arith, ints}
-use Rattle.std.proofs.lemmas.Grind.{common_steps}
+use Rattle.tuned_listener.proofs.Common.{arith, ints, common_steps}
 use Rattle.tuned_listener.proofs.slot_writer.page_after.Goals as goal
 
 pub returns-in-Err-clause-page : goal.returns-in-Err-clause-page

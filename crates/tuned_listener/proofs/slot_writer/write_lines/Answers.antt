@@ -1,9 +1,6 @@
--- Why `write_lines` of `slot_writer` keeps its contract.
-use Rattle.tuned_listener.proofs.Common.{arith, ints}
-use Rattle.std.proofs.lemmas.Grind.{common_steps}
-use Rattle.tuned_listener.proofs.Common.{ℕ, length, subst, Appends, paging_line, slot_line, slot_pages}
+use Rattle.tuned_listener.proofs.Common.{arith, ints, common_steps, ℕ, length, subst, Appends, paging_line, slot_line, slot_pages, on_err}
+use Rattle.tuned_listener.proofs.Common.{prefix_after}
 use Rattle.std.specs.List.{flat_map}
-use Rattle.event_tap.proofs.Prefixes.{on_err, prefix_after}
 use Rattle.tuned_listener.proofs.slot_writer.write_lines.Goals as goal
 
 -- Where the lines of a slot's pages can't be written whole, the sink has the slot's own line, with

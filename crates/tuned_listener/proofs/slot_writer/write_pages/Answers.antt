@@ -1,4 +1,3 @@
--- Why `write_pages` of `slot_writer` keeps its contract.
 use Rattle.tuned_listener.proofs.Common.{◌∙◌, List, arith, rules, subst, sym, take, Appends, Appends-nil, err_from_is_err_and, taken_more}
 use Rattle.tuned_listener.proofs.Common.{paging_line, HalfFramesStandFor, PagingMessage}
 use Rattle.std.specs.List.{flat_map}

@@ -1,4 +1,3 @@
--- What each pass of the loops in `write_pages` of `slot_writer` keeps, and why they end.
 use Rattle.tuned_listener.proofs.Common.{◌≡◌, ◌≤◌, take, Appends, paging_line, HalfFramesStandFor, half_frame_body, slot_pages}
 use Rattle.std.specs.List.{flat_map}
 use Rattle.tuned_listener.proofs.slot_writer.write_pages.Given as goal

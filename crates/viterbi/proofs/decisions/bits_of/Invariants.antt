@@ -1,4 +1,3 @@
--- What each pass of the loops in `bits_of` of `decisions` keeps, and why they end.
 use Rattle.viterbi.proofs.Common.{◌≡◌, take}
 use Rattle.viterbi.proofs.decisions.bits_of.Given as goal
 

@@ -1,4 +1,3 @@
--- Why `is_taken` of `decisions` keeps its contract.
 use Rattle.viterbi.proofs.Common.{◌/◌, ◌%◌, ◌^◌, ℕ, get_or, ap, nat_eq, and_mask, took}
 use Rattle.viterbi.proofs.decisions.is_taken.Goals as goal
 

@@ -1,4 +1,3 @@
--- Why `trace_back` of `decisions` keeps its contract.
 use Rattle.viterbi.proofs.Common.{◌≡◌, ◌+◌, ◌-◌, ℕ, suc, length, arith, sym, ap, ◌∙◌, rules, state_before, path_origin}
 use Rattle.viterbi.proofs.Tracing.{origin-back, path-back, origin_left, all_left, less_none, none_left}
 use Rattle.viterbi.proofs.decisions.trace_back.Goals as goal

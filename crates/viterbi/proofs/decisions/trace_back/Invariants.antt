@@ -1,4 +1,3 @@
--- What each pass of the loops in `trace_back` of `decisions` keeps, and why they end.
 use Rattle.viterbi.proofs.Common.{◌≡◌, ◌-◌, ◌<◌, ◌++◌, length, drop, path, path_origin}
 use Rattle.viterbi.proofs.decisions.trace_back.Given as goal
 

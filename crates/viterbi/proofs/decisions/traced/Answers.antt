@@ -1,6 +1,4 @@
--- Why `traced` of `decisions` keeps its contract.
-use Rattle.viterbi.proofs.Common.{arith, ints}
-use Rattle.std.proofs.lemmas.Grind.{common_steps}
+use Rattle.viterbi.proofs.Common.{arith, ints, common_steps}
 use Rattle.viterbi.proofs.decisions.traced.Goals as goal
 
 pub bits_of-requires : goal.bits_of-requires

@@ -1,6 +1,4 @@
--- Why `block_step` of `lanes` keeps its contract.
-use Rattle.viterbi.proofs.Common.{◌<◌, arith, get_or, ints, lane_codes, pos, to_z-of_z, w64}
-use Rattle.std.proofs.lemmas.Grind.{common_steps}
+use Rattle.viterbi.proofs.Common.{◌<◌, arith, get_or, ints, lane_codes, pos, to_z-of_z, w64, common_steps}
 use Rattle.viterbi.proofs.BlockSteps.{BlockLanes, block_chosen, block_lanes, block_metric, gain_fits, less_fits}
 use Rattle.viterbi.proofs.lanes.block_step.Given.{Over}
 use Rattle.viterbi.proofs.lanes.block_step.Goals.{After-gains_of}

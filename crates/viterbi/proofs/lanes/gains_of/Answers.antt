@@ -1,4 +1,3 @@
--- Why `gains_of` of `lanes` keeps its contract.
 use Rattle.viterbi.proofs.Common.{◌+◌, ◌*◌, ℕ, get_or, pos, arith, ap, ◌∙◌, w64, SFits}
 use Rattle.viterbi.proofs.BlockSteps.{pattern_small, gains_read}
 use Rattle.viterbi.proofs.lanes.gains_of.Goals as goal

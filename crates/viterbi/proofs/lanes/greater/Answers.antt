@@ -1,4 +1,3 @@
--- Why `greater` of `lanes` keeps its contract.
 use Rattle.viterbi.proofs.Blocks.{kept}
 use Rattle.viterbi.proofs.GreatestLanes.{are_greater}
 use Rattle.viterbi.proofs.lanes.greater.Goals as goal

@@ -1,4 +1,3 @@
--- Why `lessened` of `lanes` keeps its contract.
 use Rattle.viterbi.proofs.LaneLemmas.{lessened_lanes}
 use Rattle.viterbi.proofs.lanes.lessened.Goals as goal
 

@@ -1,7 +1,4 @@
--- Why `neighbours` of `lanes` keeps its contract.
-use Rattle.viterbi.proofs.Common.{ints}
-use Rattle.std.proofs.lemmas.Grind.{common_steps}
-use Rattle.viterbi.proofs.Common.{arith, w64, to_z-of_z}
+use Rattle.viterbi.proofs.Common.{ints, common_steps, arith, w64, to_z-of_z}
 use Rattle.viterbi.proofs.BlockSteps.{less_lanes, less_read}
 use Rattle.viterbi.proofs.lanes.neighbours.Goals as goal
 

@@ -1,4 +1,3 @@
--- Why `parted` of `lanes` keeps its contract.
 use Rattle.viterbi.proofs.Common.{◌+◌, ◌*◌, ℕ, get_or, ap, ◌∙◌, arith, rules, to_z, w64, pos, SFits}
 use Rattle.viterbi.proofs.Parted.{two_chunks, lane_read, evens, odds}
 use Rattle.viterbi.proofs.lanes.parted.Goals as goal

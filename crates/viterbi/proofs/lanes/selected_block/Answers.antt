@@ -1,4 +1,3 @@
--- Why `selected_block` of `lanes` keeps its contract.
 use Rattle.viterbi.proofs.Common.{◌≡◌, ◌+ℤ◌, ◌-ℤ◌, ◌∙◌, ℤ, List, true, false, length, get_or, pos, sym, ap, arith, number, nat_tests}
 use Rattle.viterbi.proofs.Common.{int_lt, taken_of}
 use Rattle.viterbi.proofs.Blocks.{kept, left_fits, right_fits, made_fit, made_at, made_is, zip_long, block_at, block_long, even_of, odd_of}

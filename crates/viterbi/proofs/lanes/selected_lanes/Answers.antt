@@ -1,4 +1,3 @@
--- Why `selected_lanes` of `lanes` keeps its contract.
 use Rattle.viterbi.proofs.LaneLemmas.{selected_metrics, selected_bits}
 use Rattle.viterbi.proofs.lanes.selected_lanes.Goals as goal
 

@@ -1,4 +1,3 @@
--- Why `step` of `lanes` keeps its contract.
 use Rattle.viterbi.proofs.Common.{w64, to_z-of_z}
 use Rattle.viterbi.proofs.lanes.step.Goals as goal
 

@@ -1,8 +1,5 @@
--- Why `step_all` of `lanes` keeps its contract.
-use Rattle.viterbi.proofs.Common.{ints}
-use Rattle.std.proofs.lemmas.Grind.{common_steps}
-use Rattle.viterbi.proofs.Common.{◌≡◌, ◌+◌, ◌*◌, ◌/◌, ◌%◌, ◌<◌, ◌-ℤ◌, ◌∙◌, ℕ, get_or, pos, rules, w64, map, to_z, arith, to_z-of_z}
-use Rattle.viterbi.proofs.Common.{length-put_chunk, length-set, bit_of, metric_into, choice_into, number, AreGreater}
+use Rattle.viterbi.proofs.Common.{ints, common_steps, ◌≡◌, ◌+◌, ◌*◌, ◌/◌, ◌%◌, ◌<◌, ◌-ℤ◌, ◌∙◌, ℕ, get_or, pos, rules, w64, map, to_z, arith}
+use Rattle.viterbi.proofs.Common.{to_z-of_z, length-put_chunk, length-set, bit_of, metric_into, choice_into, number, AreGreater}
 use Rattle.viterbi.proofs.ColumnSteps.{metric_fits, metrics_lanes, wings_more, choices_more}
 use Rattle.viterbi.specs.contracts.lanes.step_all.{FORCED-type}
 use Rattle.viterbi.proofs.Blocks.{kept}

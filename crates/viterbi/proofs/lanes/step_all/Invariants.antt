@@ -1,4 +1,3 @@
--- What each pass of the loops in `step_all` of `lanes` keeps, and why they end.
 use Rattle.viterbi.proofs.Common.{◌≡◌, ◌/◌, ◌%◌, ◌<◌, ◌-ℤ◌, ℕ, length, get_or, map, pos, to_z, w64, took, metric_into, choice_into, number}
 use Rattle.viterbi.specs.contracts.lanes.step_all.{FORCED-type}
 use Rattle.viterbi.proofs.GreatestLanes.{AreTops}

@@ -1,4 +1,3 @@
--- Why the law `sent_codeword_is_best` holds.
 use Rattle.viterbi.proofs.Sent.{sent_codeword_best, sent_codeword_alone}
 use Rattle.viterbi.proofs.laws.sent_codeword_is_best.Goals as goal
 

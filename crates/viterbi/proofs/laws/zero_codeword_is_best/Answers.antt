@@ -1,4 +1,3 @@
--- Why the law `zero_codeword_is_best` holds.
 use Rattle.viterbi.proofs.Sent.{zero_codeword_best}
 use Rattle.viterbi.proofs.laws.zero_codeword_is_best.Goals as goal
 

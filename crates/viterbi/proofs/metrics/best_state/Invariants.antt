@@ -1,4 +1,3 @@
--- What each pass of the loops in `best_state` of `metrics` keeps, and why they end.
 use Rattle.viterbi.proofs.Common.{◌<◌, ◌<ℤ◌, ◌≤ℤ◌, ℕ, get_or, pos}
 use Rattle.viterbi.proofs.metrics.best_state.Given as goal
 

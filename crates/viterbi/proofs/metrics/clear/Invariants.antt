@@ -1,4 +1,3 @@
--- What each pass of the loops in `clear` of `metrics` keeps, and why they end.
 use Rattle.viterbi.proofs.Common.{◌≡◌, ◌<◌, ℕ, length, get_or, pos}
 use Rattle.viterbi.proofs.metrics.clear.Given as goal
 

@@ -1,6 +1,4 @@
--- Why `greatest` of `metrics` keeps its contract.
-use Rattle.viterbi.proofs.Common.{arith, ints}
-use Rattle.std.proofs.lemmas.Grind.{common_steps}
+use Rattle.viterbi.proofs.Common.{arith, ints, common_steps}
 use Rattle.viterbi.proofs.metrics.greatest.Goals as goal
 
 pub loop-metric-init : goal.loop-metric-init

@@ -1,4 +1,3 @@
--- What each pass of the loops in `greatest` of `metrics` keeps, and why they end.
 use Rattle.viterbi.proofs.Common.{◌<◌, ◌≤ℤ◌, ℕ, ℤ, length, get_or, pos}
 use Rattle.viterbi.proofs.metrics.greatest.Given as goal
 

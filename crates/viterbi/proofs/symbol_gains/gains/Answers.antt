@@ -1,4 +1,3 @@
--- Why `gains` of `symbol_gains` keeps its contract.
 use Rattle.viterbi.proofs.Gains.{gains_are}
 use Rattle.viterbi.proofs.symbol_gains.gains.Goals as goal
 

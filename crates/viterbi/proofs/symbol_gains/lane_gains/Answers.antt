@@ -1,4 +1,3 @@
--- Why `lane_gains` of `symbol_gains` keeps its contract.
 use Rattle.viterbi.proofs.Common.{w64, to_z-of_z, lane_codes}
 use Rattle.viterbi.proofs.BlockSteps.{lanes_made}
 use Rattle.viterbi.proofs.symbol_gains.lane_gains.Goals as goal

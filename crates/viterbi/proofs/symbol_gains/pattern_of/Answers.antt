@@ -1,4 +1,3 @@
--- Why `pattern_of` of `symbol_gains` keeps its contract.
 use Rattle.viterbi.proofs.Common.{refl, patterns}
 use Rattle.viterbi.proofs.BlockSteps.{pattern_small}
 use Rattle.viterbi.proofs.symbol_gains.pattern_of.Goals as goal

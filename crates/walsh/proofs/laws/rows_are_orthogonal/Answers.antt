@@ -1,4 +1,3 @@
--- Why the law `rows_are_orthogonal` holds.
 use Rattle.walsh.proofs.RowTable.{orthogonal}
 use Rattle.walsh.proofs.laws.rows_are_orthogonal.Goals as goal
 

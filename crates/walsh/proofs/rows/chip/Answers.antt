@@ -1,4 +1,3 @@
--- Why `chip` of `rows` keeps its contract.
 use Rattle.walsh.proofs.RowTable.{walsh-ones}
 use Rattle.walsh.proofs.rows.chip.Goals as goal
 

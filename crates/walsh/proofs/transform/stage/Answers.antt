@@ -1,9 +1,8 @@
--- Why `stage` of `transform` keeps its contract.
-use Rattle.std.proofs.Common.{◌≡◌, ◌<◌, ◌+◌, ℕ, bit_and, sym, subst, arith}
+use Rattle.walsh.proofs.Common.{◌≡◌, ◌<◌, ◌+◌, ℕ, bit_and, sym, subst, arith}
 use Rattle.walsh.proofs.Pairing.{low, is_clear, is_set, shifted}
 use Rattle.walsh.proofs.Stages.{IsPartway, step, starts, moves_at, skips, ends, grows, have_room}
-use Rattle.walsh.proofs.transform.stage.Goals as goal
 use Rattle.walsh.proofs.transform.stage.Goals.{then-low-apart-eq0, else-low-apart-eq0}
+use Rattle.walsh.proofs.transform.stage.Goals as goal
 
 -- the partner of a lower place
 partner_room : (bit l : ℕ) → bit < 6 → l < 64 →

@@ -1,4 +1,3 @@
--- What each pass of the loops in `stage` of `transform` keeps, and why they end.
 use Rattle.walsh.proofs.Stages.{IsPartway}
 use Rattle.walsh.proofs.transform.stage.Given as goal
 

@@ -1,5 +1,4 @@
--- Why `transform64` of `transform` keeps its contract.
-use Rattle.std.proofs.Common.{◌≡◌, ℕ, subst, arith}
+use Rattle.walsh.proofs.Common.{◌≡◌, ℕ, subst, arith}
 use Rattle.walsh.proofs.Carried.{IsCarried, begins, goes_on, in_phase_is, quadrature_is}
 use Rattle.walsh.proofs.transform.transform64.Goals as goal
 

@@ -1,4 +1,3 @@
--- What each pass of the loops in `transform64` of `transform` keeps, and why they end.
 use Rattle.walsh.proofs.Carried.{IsCarried}
 use Rattle.walsh.proofs.transform.transform64.Given as goal
 

@@ -1,7 +1,4 @@
--- Why `give` of `memory_sink::MemorySinkSink` keeps its contract.
-use Rattle.std.proofs.Common.{arith}
-use Rattle.std.proofs.lemmas.Grind.{common_steps}
-use Rattle.std.proofs.lemmas.Int.{ints}
+use Rattle.cdma_io.proofs.Common.{arith, common_steps, ints}
 use Rattle.cdma_io.proofs.memory_sink.MemorySinkSink.give.Goals as goal
 
 pub returns-clause-fails : goal.returns-clause-fails

@@ -1,9 +1,5 @@
--- Why `take` of `memory_source::MemorySourceSource` keeps its contract.
-use Rattle.std.proofs.Common.{arith}
-use Rattle.std.proofs.lemmas.Grind.{common_steps}
-use Rattle.std.proofs.lemmas.Int.{ints}
-use Rattle.std.proofs.Common.{◌≡◌, ◌≤◌, ◌+◌, ◌-◌, ◌++◌, take, drop, length, ap, sym, ◌∙◌, length-append, length-drop, List, ℕ, rules}
-use Rattle.std.proofs.lemmas.List.{drop_all}
+use Rattle.cdma_io.proofs.Common.{arith, common_steps, ints, ◌≡◌, ◌≤◌, ◌+◌, ◌-◌, ◌++◌, take, drop, length, ap, sym, ◌∙◌, length-append, ℕ}
+use Rattle.cdma_io.proofs.Common.{length-drop, List, rules, drop_all}
 use Rattle.cdma_io.specs.Memory.{SourceState}
 use Rattle.cdma_io.proofs.Moves.{moved}
 use Rattle.cdma_io.proofs.memory_source.MemorySourceSource.take.Goals as goal

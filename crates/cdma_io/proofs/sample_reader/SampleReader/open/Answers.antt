@@ -1,10 +1,4 @@
--- Why `open` of `sample_reader::SampleReader` keeps its contract.
-use Rattle.std.proofs.Common.{arith}
-use Rattle.std.proofs.lemmas.Grind.{common_steps}
-use Rattle.std.proofs.lemmas.Int.{ints}
-use Rattle.std.proofs.Common.{◌≡◌, ◌≤◌, length, sym, Err, Ok, rules}
-use Rattle.std.proofs.lemmas.Result.{err_from_is_err_and}
-use Rattle.cdma_io.specs.SampleFile.{fresh_reading}
+use Rattle.cdma_io.proofs.Common.{arith, common_steps, ints, ◌≡◌, ◌≤◌, length, sym, Err, Ok, rules, err_from_is_err_and, fresh_reading}
 use Rattle.cdma_io.proofs.Opening.{filled_whole, told_header, told_short}
 use Rattle.cdma_io.proofs.sample_reader.SampleReader.open.Goals as goal
 

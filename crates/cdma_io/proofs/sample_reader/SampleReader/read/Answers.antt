@@ -1,13 +1,8 @@
--- Why `read` of `sample_reader::SampleReader` keeps its contract.
-use Rattle.std.proofs.Common.{◌≡◌, ◌*◌, ◌≤◌, length, take, min, ap, ◌∙◌, refl, subst, arith}
-use Rattle.std.proofs.lemmas.Grind.{common_steps}
-use Rattle.std.proofs.lemmas.Int.{ints}
-use Rattle.std.proofs.lemmas.List.{length-take-le}
-use Rattle.cdma_io.specs.Outside.{ConsumesAtMost, ConsumesFewer}
-use Rattle.cdma_io.specs.SampleFile.{Reading, sample_len, width_of}
+use Rattle.cdma_io.proofs.Common.{◌≡◌, ◌*◌, ◌≤◌, length, take, min, ap, ◌∙◌, refl, subst, arith, common_steps, ints, length-take-le}
+use Rattle.cdma_io.proofs.Common.{ConsumesAtMost, ConsumesFewer, Reading, sample_len, width_of}
 use Rattle.cdma_io.proofs.sample_reader.SampleReader.read.Given.{Over}
-use Rattle.cdma_io.proofs.sample_reader.SampleReader.read.Goals as goal
 use Rattle.cdma_io.proofs.sample_reader.SampleReader.read.Goals.{In-Err}
+use Rattle.cdma_io.proofs.sample_reader.SampleReader.read.Goals as goal
 
 pub returns-in-Ok-clause-in_range : goal.returns-in-Ok-clause-in_range
 returns-in-Ok-clause-in_range g c = grind (ints, arith, common_steps)

@@ -1,6 +1,5 @@
--- Why `begin` of `listener::Listener` keeps its contract.
-use Rattle.cdma_replay.proofs.Common.{◌++◌, ℕ, List, sym, subst, on_err, on_ok, Appends, AppendsPrefix, BeginsAfter, Event, Pilot}
-use Rattle.cdma_replay.proofs.Common.{IsFreshListener, event_line, Listener, Listening, ranks_text, take, told}
+use Rattle.cdma_replay.proofs.Common.{◌++◌, ℕ, List, sym, subst, on_err, on_ok, Appends, AppendsPrefix, BeginsAfter, Event, Pilot, Listener}
+use Rattle.cdma_replay.proofs.Common.{IsFreshListener, event_line, Listening, ranks_text, take, told}
 use Rattle.std.specs.Box.{with_value}
 use Rattle.cdma_replay.proofs.Hearings.{on_fresh, on_fresh_pilot, on_fresh_ranks, tuned_begins}
 use Rattle.cdma_replay.proofs.Lines.{alone_begins, alone_part}

@@ -1,8 +1,7 @@
--- Why `hear` of `listener::Listener` keeps its contract.
 use Rattle.cdma_replay.proofs.Common.{◌++◌, subst, sym, on_err, on_ok, Listening, Listens, ListenerTells, Nobody, GainsPrefix, Listener}
 use Rattle.std.specs.Box.{with_value}
-use Rattle.cdma_replay.proofs.Hearings.{on_handset, on_pilot, on_ranks, on_tuned, room_some, room_tuned, tells_nobody}
-use Rattle.cdma_replay.proofs.Hearings.{tuned_part, tuned_tells}
+use Rattle.cdma_replay.proofs.Hearings.{on_handset, on_pilot, on_ranks, on_tuned, room_some, room_tuned, tells_nobody, tuned_part}
+use Rattle.cdma_replay.proofs.Hearings.{tuned_tells}
 use Rattle.cdma_replay.specs.declared.listener.Listener.TheVariants as by
 use Rattle.cdma_replay.proofs.listener.Listener.hear.Goals as goal
 

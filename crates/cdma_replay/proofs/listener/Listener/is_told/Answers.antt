@@ -1,4 +1,3 @@
--- Why `is_told` of `listener::Listener` keeps its contract.
 use Rattle.cdma_replay.proofs.Common.{◌≡◌, true, refl, subst, Listening, Listens, is_told, Listener}
 use Rattle.cdma_replay.proofs.Hearings.{on_handset, on_pilot, on_ranks, on_tuned}
 use Rattle.cdma_replay.proofs.listener.Listener.is_told.Goals as goal

@@ -1,4 +1,3 @@
--- Why `spell_next` of `making::writing` keeps its contract.
 use Rattle.cdma_replay.proofs.Common.{length, ◌∙◌}
 use Rattle.cdma_replay.proofs.MadeFiles.{piece_spelled}
 use Rattle.cdma_replay.proofs.making.writing.spell_next.Goals as goal

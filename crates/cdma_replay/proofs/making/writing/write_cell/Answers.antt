@@ -1,4 +1,3 @@
--- Why `write_cell` of `making::writing` keeps its contract.
 use Rattle.cdma_replay.proofs.Common.{◌≡◌, ◌-◌, min, ap, ◌∙◌, arith, rules, err_from_is_err_and, CellPlan, CellState}
 use Rattle.cdma_replay.proofs.MadeFiles.{header_cut, header_whole, piece_cut, piece_more, pieces_all}
 use Rattle.cdma_replay.proofs.making.writing.write_cell.Goals as goal

@@ -1,4 +1,3 @@
--- What each pass of the loops in `write_cell` of `making::writing` keeps, and why they end.
 use Rattle.cdma_replay.proofs.Common.{◌≡◌, ◌-◌, ◌≤◌, length, Appends}
 use Rattle.cdma_replay.proofs.MadeFiles.{file_front}
 use Rattle.cdma_replay.proofs.making.writing.write_cell.Given as goal

@@ -1,4 +1,3 @@
--- Why `pop` of `series::Series` keeps its contract.
 use Rattle.cell_plan.proofs.Common.{◌≡◌, ℕ, ◌+◌, ◌++◌, List, [], ◌∷◌, length, sym, ◌∙◌, arith, Option, None, Some, MatchOption}
 use Rattle.cell_plan.proofs.Common.{option_to_list, nil_from_length}
 use Rattle.cell_plan.proofs.series.Series.pop.Goals as goal

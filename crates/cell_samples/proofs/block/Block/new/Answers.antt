@@ -1,4 +1,3 @@
--- Why `new` of `block::Block` keeps its contract.
 use Rattle.cell_samples.proofs.KeptBlocks.{fresh_block}
 use Rattle.cell_samples.proofs.block.Block.new.Goals as goal
 

@@ -1,8 +1,5 @@
--- Why `spread` of `block::Block` keeps its contract.
-use Rattle.cell_samples.proofs.Common.{ints}
-use Rattle.std.proofs.lemmas.Grind.{common_steps}
-use Rattle.cell_samples.proofs.Common.{◌+◌, ◌-◌, ◌%◌, List, length, map, sym, ap, ◌∙◌, arith, refl, subst, AreChips, AreLevels, BlockState}
-use Rattle.cell_samples.proofs.Common.{IsQuiet, chip_at, ChannelState, carrier_of}
+use Rattle.cell_samples.proofs.Common.{ints, common_steps, ◌+◌, ◌-◌, ◌%◌, List, length, map, sym, ap, ◌∙◌, arith, refl, subst, AreChips}
+use Rattle.cell_samples.proofs.Common.{AreLevels, BlockState, IsQuiet, chip_at, ChannelState, carrier_of}
 use Rattle.cell_samples.proofs.KeptBlocks.{block_after, chip_kept, turned_at}
 use Rattle.cell_samples.proofs.Running.{written_back}
 use Rattle.cell_samples.proofs.block.Block.spread.Goals.{After-renew}

@@ -1,6 +1,4 @@
--- Why `level` of `channel::Channel` keeps its contract.
-use Rattle.cell_samples.proofs.Common.{arith, ints}
-use Rattle.std.proofs.lemmas.Grind.{common_steps}
+use Rattle.cell_samples.proofs.Common.{arith, ints, common_steps}
 use Rattle.cell_samples.proofs.channel.Channel.level.Goals as goal
 
 pub symbol-requires-clause-frame : goal.symbol-requires-clause-frame

@@ -1,4 +1,3 @@
--- Why `code` of `continued::ContinuedEncoder` keeps its contract.
 use Rattle.cell_samples.proofs.Common.{◌≡◌, ◌+◌, length, ap, sym, ◌∙◌, arith, binary, length-code_symbols, FrameSource, frame_bits_of}
 use Rattle.cell_samples.proofs.Common.{frame_size, bits_before, coded, last_before}
 use Rattle.cell_samples.proofs.SentFrames.{eight_bits}

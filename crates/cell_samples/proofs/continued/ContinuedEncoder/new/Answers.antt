@@ -1,4 +1,3 @@
--- Why `new` of `continued::ContinuedEncoder` keeps its contract.
 use Rattle.cell_samples.proofs.Common.{frame_bits_of, before-first}
 use Rattle.cell_samples.proofs.continued.ContinuedEncoder.new.Goals as goal
 

@@ -1,4 +1,3 @@
--- Why `symbols` of `continued::ContinuedEncoder` keeps its contract.
 use Rattle.cell_samples.proofs.Common.{◌≡◌, ℕ, ap, ◌∙◌, sent, shape_of, Kind, FrameSource, symbol_kind_of, repeats_in, scrambled_by}
 use Rattle.cell_samples.proofs.SentFrames.{symbols_are}
 use Rattle.cell_samples.proofs.continued.ContinuedEncoder.symbols.Goals as goal

@@ -1,4 +1,3 @@
--- Why `frame_bits` of `page_cycle::PageCycle` keeps its contract.
 use Rattle.cell_samples.proofs.Common.{◌≡◌, ℕ, ◌%◌, Bool, false, ◌∷◌, [], ◌++◌, length, get_or, refl, sym, ap, ◌∙◌, arith, length-append}
 use Rattle.cell_samples.proofs.Common.{Cycle, bit_more, bit_of_frame, frame_bits-is, frame_is, no_bits}
 use Rattle.cell_samples.proofs.page_cycle.PageCycle.frame_bits.Goals as goal

@@ -1,4 +1,3 @@
--- What each pass of the loops in `frame_bits` of `page_cycle::PageCycle` keeps, and why they end.
 use Rattle.cell_samples.proofs.Common.{◌≡◌, length, map, places, bit_of_frame}
 use Rattle.cell_samples.proofs.page_cycle.PageCycle.frame_bits.Given as goal
 

@@ -1,7 +1,5 @@
--- Why `new` of `page_cycle::PageCycle` keeps its contract.
-use Rattle.std.proofs.lemmas.Grind.{common_steps}
-use Rattle.cell_samples.proofs.Common.{◌≡◌, ℕ, ◌+◌, ◌/◌, Bool, List, ap, arith, Rate, half_frame_body, CellIdentity, Cycle, page_cycle}
-use Rattle.cell_samples.proofs.Common.{cycle_is, frame_bits-is, ints}
+use Rattle.cell_samples.proofs.Common.{common_steps, ◌≡◌, ℕ, ◌+◌, ◌/◌, Bool, List, ap, arith, Rate, half_frame_body, CellIdentity, Cycle}
+use Rattle.cell_samples.proofs.Common.{page_cycle, cycle_is, frame_bits-is, ints}
 use Rattle.cell_samples.proofs.page_cycle.PageCycle.new.Goals as goal
 
 abbrev cycle_with : CellIdentity → ℕ → Rate → List Bool → Cycle

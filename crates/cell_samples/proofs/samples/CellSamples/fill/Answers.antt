@@ -1,4 +1,3 @@
--- Why `fill` of `samples::CellSamples` keeps its contract.
 use Rattle.cell_samples.proofs.Common.{◌≡◌, ℕ, ◌+◌, ◌-◌, length, map, take, drop, ap, ◌∙◌, rules, subst, overwrites, of_sample, HasBits}
 use Rattle.cell_samples.proofs.Common.{samples_of, CellState}
 use Rattle.std.specs.List.{All}

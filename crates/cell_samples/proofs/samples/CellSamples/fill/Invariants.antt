@@ -1,4 +1,3 @@
--- What each pass of the loops in `fill` of `samples::CellSamples` keeps, and why they end.
 use Rattle.cell_samples.proofs.Common.{◌≡◌, ◌≤◌, ◌+◌, ◌-◌, length, map, take, drop, All, of_sample, HasBits, samples_of}
 use Rattle.cell_samples.proofs.samples.CellSamples.fill.Given as goal
 

@@ -1,11 +1,8 @@
--- Why `fill_in_block` of `samples::CellSamples` keeps its contract.
-use Rattle.cell_samples.proofs.Common.{arith, ints}
-use Rattle.std.proofs.lemmas.Grind.{common_steps}
-use Rattle.cell_samples.proofs.Common.{◌≡◌, ◌+◌, ◌%◌, ◌≤◌, length, take, drop, sym, ap, ◌∙◌, rules, subst, ℕ, pilot_signs, HasBits}
-use Rattle.cell_samples.proofs.Common.{samples_of, CellState}
+use Rattle.cell_samples.proofs.Common.{arith, ints, common_steps, ◌≡◌, ◌+◌, ◌%◌, ◌≤◌, length, take, drop, sym, ap, ◌∙◌, rules, subst, ℕ}
+use Rattle.cell_samples.proofs.Common.{pilot_signs, HasBits, samples_of, CellState}
 use Rattle.std.specs.List.{All}
-use Rattle.cell_samples.proofs.Running as running
 use Rattle.cell_samples.proofs.samples.CellSamples.fill_in_block.Goals.{After-split_at}
+use Rattle.cell_samples.proofs.Running as running
 use Rattle.cell_samples.proofs.samples.CellSamples.fill_in_block.Goals as goal
 
 -- the samples lie in one block

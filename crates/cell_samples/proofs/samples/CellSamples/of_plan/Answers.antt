@@ -1,4 +1,3 @@
--- Why `of_plan` of `samples::CellSamples` keeps its contract.
 use Rattle.cell_samples.proofs.Common.{map, ap, ◌∙◌, arith, BlockState, carrier_of}
 use Rattle.cell_samples.proofs.Running.{chips_quiet, few_states}
 use Rattle.cell_samples.proofs.samples.CellSamples.of_plan.Goals as goal

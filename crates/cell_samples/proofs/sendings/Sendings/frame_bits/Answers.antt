@@ -1,4 +1,3 @@
--- Why `frame_bits` of `sendings::Sendings` keeps its contract.
 use Rattle.cell_samples.proofs.Common.{◌≡◌, ◌/◌, ◌*◌, ap, ◌∙◌, sym, sync_capsule, message_of, sync_frame_bits, Sent, piece_within, piece_is}
 use Rattle.cell_samples.proofs.sendings.Sendings.frame_bits.Goals.{After-capsule_of-capsule}
 use Rattle.cell_samples.proofs.sendings.Sendings.frame_bits.Goals as goal

@@ -1,4 +1,3 @@
--- Why `new` of `sendings::Sendings` keeps its contract.
 use Rattle.cell_samples.proofs.Common.{◌≡◌, ap, ◌∙◌, superframes_of, sync_capsule, SyncFields, superframes_a_sending, superframes_some}
 use Rattle.cell_samples.proofs.Common.{superframes_few}
 use Rattle.cell_samples.proofs.sendings.Sendings.new.Goals as goal

@@ -1,4 +1,3 @@
--- Why `sync_number` of `fields::Fields` keeps its contract.
 use Rattle.cell_script.proofs.ScriptKeys.{narrow_sync_width}
 use Rattle.cell_script.proofs.fields.Fields.sync_number.Goals as goal
 

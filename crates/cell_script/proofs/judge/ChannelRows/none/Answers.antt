@@ -1,4 +1,3 @@
--- Why `none` of `judge::ChannelRows` keeps its contract.
 use Rattle.cell_script.proofs.Common.{refl}
 use Rattle.cell_script.proofs.ScriptRows.{first_rows}
 use Rattle.cell_script.proofs.judge.ChannelRows.none.Goals as goal

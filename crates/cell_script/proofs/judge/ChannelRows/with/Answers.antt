@@ -1,4 +1,3 @@
--- Why `with` of `judge::ChannelRows` keeps its contract.
 use Rattle.cell_script.proofs.Common.{ℕ, ◌+◌, true, false, get_or, ap, set, channel}
 use Rattle.cell_script.proofs.ScriptRows.{one_row}
 use Rattle.cell_script.proofs.judge.ChannelRows.with.Goals as goal

@@ -1,7 +1,4 @@
--- Why `loudness` of `judge::Judge` keeps its contract.
-use Rattle.cell_script.proofs.Common.{ints}
-use Rattle.std.proofs.lemmas.Grind.{common_steps}
-use Rattle.cell_script.proofs.Common.{◌≤◌, ◌+◌, ◌^◌, ◌∙◌, ap, arith, unsigned_abs, ℤ, mul-le, read64}
+use Rattle.cell_script.proofs.Common.{ints, common_steps, ◌≤◌, ◌+◌, ◌^◌, ◌∙◌, ap, arith, unsigned_abs, ℤ, mul-le, read64}
 use Rattle.cell_script.proofs.judge.Judge.loudness.Goals as goal
 
 -- The product stays below 2^64: each part of the link is at most 2^15 in size, so both together are

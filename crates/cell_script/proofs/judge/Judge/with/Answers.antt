@@ -1,4 +1,3 @@
--- Why `with` of `judge::Judge` keeps its contract.
 use Rattle.cell_script.proofs.Common.{sym, subst, channel_lines, with_statement, HasJudged, IsInOrder, Judge, Statement}
 use Rattle.cell_script.proofs.ScriptRows.{judged_frame, judged_page, judged_paging, judged_traffic}
 use Rattle.cell_script.proofs.judge.Judge.with.Goals as goal

@@ -1,5 +1,4 @@
--- Why `append` of `bit_list::Bits` keeps its contract.
-use Rattle.std.proofs.Common.{◌<◌, ◌++◌, ◌∷◌, [], List, Bool, arith, ap, ◌∙◌}
+use Rattle.chip_core.proofs.Common.{◌<◌, ◌++◌, ◌∷◌, [], List, Bool, arith, ap, ◌∙◌}
 use Rattle.chip_core.proofs.WordBits.{sets, IsPacked-more, unpacked-more, length_is}
 use Rattle.chip_core.proofs.bit_list.Bits.append.Goals as goal
 

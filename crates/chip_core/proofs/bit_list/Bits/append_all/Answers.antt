@@ -1,5 +1,4 @@
--- Why `append_all` of `bit_list::Bits` keeps its contract.
-use Rattle.std.proofs.Common.{append_assoc}
+use Rattle.chip_core.proofs.Common.{append_assoc}
 use Rattle.chip_core.proofs.BitLists.{taken_more}
 use Rattle.chip_core.proofs.bit_list.Bits.append_all.Goals as goal
 

@@ -1,6 +1,4 @@
--- Why `append_fields` of `bit_list::Bits` keeps its contract.
-use Rattle.std.proofs.Common.{take, append_assoc, length-append, arith}
-use Rattle.chip_core.specs.Fields.{field}
+use Rattle.chip_core.proofs.Common.{take, append_assoc, length-append, arith, field}
 use Rattle.chip_core.proofs.FieldLists.{spelled_more, spelled_room, fit_at, width_at}
 use Rattle.chip_core.proofs.bit_list.Bits.append_fields.Goals as goal
 

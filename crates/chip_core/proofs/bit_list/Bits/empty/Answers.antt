@@ -1,4 +1,3 @@
--- Why `empty` of `bit_list::Bits` keeps its contract.
 use Rattle.chip_core.proofs.WordBits.{unpacked-none}
 use Rattle.chip_core.proofs.bit_list.Bits.empty.Goals as goal
 

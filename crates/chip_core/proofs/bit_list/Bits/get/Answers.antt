@@ -1,5 +1,4 @@
--- Why `get` of `bit_list::Bits` keeps its contract.
-use Rattle.std.proofs.Common.{arith}
+use Rattle.chip_core.proofs.Common.{arith}
 use Rattle.chip_core.proofs.WordBits.{bit_read, length_is}
 use Rattle.chip_core.proofs.bit_list.Bits.get.Goals as goal
 

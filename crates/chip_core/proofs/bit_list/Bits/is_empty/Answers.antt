@@ -1,7 +1,4 @@
--- Why `is_empty` of `bit_list::Bits` keeps its contract.
-use Rattle.std.proofs.Common.{length, ap, sym, ◌∙◌}
-use Rattle.std.proofs.lemmas.Bool.{eqb-true, eq-eqb}
-use Rattle.std.proofs.lemmas.List.{nil_from_length}
+use Rattle.chip_core.proofs.Common.{length, ap, sym, ◌∙◌, eqb-true, eq-eqb, nil_from_length}
 use Rattle.chip_core.proofs.WordBits.{length_is}
 use Rattle.chip_core.proofs.bit_list.Bits.is_empty.Goals as goal
 

@@ -1,4 +1,3 @@
--- Why `len` of `bit_list::Bits` keeps its contract.
 use Rattle.chip_core.proofs.WordBits.{length_is}
 use Rattle.chip_core.proofs.bit_list.Bits.len.Goals as goal
 

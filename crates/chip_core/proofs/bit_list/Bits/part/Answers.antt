@@ -1,5 +1,5 @@
--- Why `part` of `bit_list::Bits` keeps its contract.
-use Rattle.std.proofs.Common.{◌≡◌, drop, slice_get, Some}
+use Rattle.chip_core.proofs.Common.{◌≡◌, drop, Some}
+use Rattle.std.proofs.Common.{slice_get}
 use Rattle.chip_core.proofs.FieldLists.{slice_get-drop}
 use Rattle.chip_core.proofs.BitLists.{taken_more}
 use Rattle.chip_core.proofs.bit_list.Bits.part.Goals as goal

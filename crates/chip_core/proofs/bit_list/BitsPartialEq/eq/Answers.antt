@@ -1,5 +1,4 @@
--- Why `eq` of `bit_list::BitsPartialEq` keeps its contract.
-use Rattle.std.proofs.Common.{rules}
+use Rattle.chip_core.proofs.Common.{rules}
 use Rattle.chip_core.proofs.WordBits.{same_words}
 use Rattle.chip_core.proofs.bit_list.BitsPartialEq.eq.Goals as goal
 

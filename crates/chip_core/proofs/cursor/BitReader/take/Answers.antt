@@ -1,8 +1,5 @@
--- Why `take` of `cursor::BitReader` keeps its contract.
-use Rattle.std.proofs.Common.{◌≡◌, ◌≤◌, ◌+◌, ◌++◌, ap, sym, ◌∙◌, Some, rules, arith, take, drop, length, length-drop}
-use Rattle.std.proofs.lemmas.List.{drop-drop}
-use Rattle.chip_core.specs.Bits.{number, binary}
-use Rattle.std.specs.List.{slice_get}
+use Rattle.chip_core.proofs.Common.{◌≡◌, ◌≤◌, ◌+◌, ◌++◌, ap, sym, ◌∙◌, Some, rules, arith, take, drop, length, length-drop, drop-drop}
+use Rattle.chip_core.proofs.Common.{number, binary, slice_get}
 use Rattle.chip_core.proofs.Numerals.{read_spelled, read_more, digit_below, bool_byte-digit}
 use Rattle.chip_core.proofs.cursor.BitReader.take.Goals as goal
 

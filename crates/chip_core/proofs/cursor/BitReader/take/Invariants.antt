@@ -1,6 +1,4 @@
--- What each pass of the loops in `take` of `cursor::BitReader` keeps, and why they end.
-use Rattle.std.proofs.Common.{◌≡◌, ◌<◌, ◌^◌, take, drop}
-use Rattle.chip_core.specs.Bits.{number}
+use Rattle.chip_core.proofs.Common.{◌≡◌, ◌<◌, ◌^◌, take, drop, number}
 use Rattle.chip_core.proofs.cursor.BitReader.take.Given as goal
 
 abbrev pub invariant-loop-k : goal.invariant-loop-k

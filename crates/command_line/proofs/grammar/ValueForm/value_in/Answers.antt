@@ -1,4 +1,3 @@
--- Why `value_in` of `grammar::ValueForm` keeps its contract.
 use Rattle.command_line.proofs.Common.{◌∙◌, ℕ, Bool, if◌then◌else◌, Option, None, Some, ap, sym, option_and_then, form_admits, value_in}
 use Rattle.command_line.proofs.grammar.ValueForm.value_in.Goals as goal
 

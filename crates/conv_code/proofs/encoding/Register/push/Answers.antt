@@ -1,8 +1,5 @@
--- Why `push` of `encoding::Register` keeps its contract.
-use Rattle.conv_code.proofs.Common.{arith}
+use Rattle.conv_code.proofs.Common.{arith, ints, refl, ◌∙◌, ap, map, ◌+◌, ◌*◌, ℕ, ◌≡◌, ◌%◌, ◌^◌, parity, bit_of, binary, g0, g1}
 use Rattle.std.proofs.lemmas.Grind.{common_steps}
-use Rattle.std.proofs.lemmas.Int.{ints}
-use Rattle.conv_code.proofs.Common.{refl, ◌∙◌, ap, map, ◌+◌, ◌*◌, ℕ, ◌≡◌, ◌%◌, ◌^◌, parity, bit_of, binary, g0, g1}
 use Rattle.conv_code.proofs.Windows.{window, window_is, window_symbol, window_state, low_eight}
 use Rattle.conv_code.proofs.encoding.Register.push.Goals as goal
 

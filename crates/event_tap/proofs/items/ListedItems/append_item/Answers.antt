@@ -1,13 +1,6 @@
--- Why `append_item` of `items::ListedItems` keeps its contract.
-use Rattle.std.proofs.lemmas.Grind.{common_steps}
-use Rattle.std.proofs.lemmas.Int.{ints}
-use Rattle.std.proofs.Common.{◌++◌, [], length, map, get_or, decimal, sym, ap, ◌∙◌, append_assoc, arith, length-append}
-use Rattle.std.proofs.lemmas.List.{get_or_default}
-use Rattle.chip_core.proofs.Places.{get_or-map-places}
-use Rattle.message_layout.proofs.Columns.{three_long}
-use Rattle.message_layout.specs.Contents.{height}
+use Rattle.event_tap.proofs.Common.{common_steps, ints, ◌++◌, [], length, map, get_or, decimal, sym, ap, ◌∙◌, append_assoc, arith, height}
+use Rattle.event_tap.proofs.Common.{length-append, get_or_default, get_or-map-places, three_long, columns_text, columns_texts, slash_text}
 use Rattle.event_tap.proofs.SaidTexts.{column_number, record_short}
-use Rattle.event_tap.specs.SaidTexts.{columns_text, columns_texts, slash_text}
 use Rattle.event_tap.proofs.items.ListedItems.append_item.Goals as goal
 
 -- The text of a record is its number in the first column, and then those of the second and the

@@ -1,5 +1,4 @@
--- Why `append_item` of `items::PilotListItems` keeps its contract.
-use Rattle.std.proofs.Common.{arith}
+use Rattle.event_tap.proofs.Common.{arith}
 use Rattle.event_tap.proofs.items.PilotListItems.append_item.Goals as goal
 
 pub returns-clause-len : goal.returns-clause-len

@@ -1,4 +1,3 @@
--- What each pass of the loops in `on_subchannel` of `legs::Legs` keeps, and why they end.
 use Rattle.heard_events.proofs.Common.{◌≡◌, ◌≤◌, take, length, on_subchannel}
 use Rattle.heard_events.proofs.legs.Legs.on_subchannel.Given as goal
 

@@ -1,6 +1,5 @@
--- Why `legs` of `sets_keeper::SetsKeeper` keeps its contract.
-use Rattle.heard_events.proofs.Common.{◌≡◌, ℕ, ◌∷◌, [], ◌∙◌, sym, ap, arith, length, length-append, map, take, subst, List, slice_get}
-use Rattle.heard_events.proofs.Common.{◌≤◌, ◌<◌, All, legs_close, legs_rows, places_in, take_all, Active, leg_of, Leg, shown}
+use Rattle.heard_events.proofs.Common.{◌≡◌, ℕ, ◌∷◌, [], ◌∙◌, sym, ap, arith, length, length-append, map, take, subst, List, slice_get, ◌≤◌}
+use Rattle.heard_events.proofs.Common.{◌<◌, All, legs_close, legs_rows, places_in, take_all, Active, leg_of, Leg, shown}
 use Rattle.heard_events.proofs.ActiveLegs.{active_close, active_offset, active_rows, places_few}
 use Rattle.heard_events.proofs.LegLists.{map_at}
 use Rattle.heard_events.proofs.sets_keeper.SetsKeeper.legs.Goals as goal

@@ -1,4 +1,3 @@
--- What each pass of the loops in `legs` of `sets_keeper::SetsKeeper` keeps, and why they end.
 use Rattle.heard_events.proofs.Common.{◌≡◌, map, take, length, leg_of}
 use Rattle.heard_events.proofs.sets_keeper.SetsKeeper.legs.Given as goal
 

@@ -1,4 +1,3 @@
--- Why `new` of `sets_keeper::SetsKeeper` keeps its contract.
 use Rattle.heard_events.proofs.Common.{arith, pos, ◌≤◌, unsigned_abs, All-replicate}
 use Rattle.heard_events.proofs.sets_keeper.SetsKeeper.new.Goals as goal
 

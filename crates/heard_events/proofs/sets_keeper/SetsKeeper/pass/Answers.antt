@@ -1,7 +1,5 @@
--- Why `pass` of `sets_keeper::SetsKeeper` keeps its contract.
 use Rattle.heard_events.proofs.Common.{◌≤◌, ◌+◌, ◌∙◌, ℤ, List, All, ap, sym, arith, subst, unsigned_abs, Standing, SetChange, changed, ◌≡◌}
-use Rattle.std.proofs.lemmas.Bool.{false≢true}
-use Rattle.heard_events.proofs.Common.{refl, moment_events, passed}
+use Rattle.heard_events.proofs.Common.{false≢true, refl, moment_events, passed}
 use Rattle.heard_events.proofs.ActiveLegs.{deltas_close, due_deltas}
 use Rattle.heard_events.proofs.sets_keeper.SetsKeeper.pass.Goals as goal
 

@@ -1,5 +1,4 @@
--- Why `append_digits` of `text::Text` keeps its contract.
-use Rattle.std.proofs.Common.{arith}
+use Rattle.line_text.proofs.Common.{arith}
 use Rattle.line_text.proofs.BinaryDigits.{digit_more, no_digits}
 use Rattle.line_text.proofs.text.Text.append_digits.Goals as goal
 

@@ -1,6 +1,4 @@
--- What each pass of the loops in `append_digits` of `text::Text` keeps, and why they end.
-use Rattle.std.proofs.Common.{◌≡◌, ◌+◌, ◌++◌, length, take}
-use Rattle.line_text.specs.Texts.{digits_of}
+use Rattle.line_text.proofs.Common.{◌≡◌, ◌+◌, ◌++◌, length, take, digits_of}
 use Rattle.line_text.proofs.text.Text.append_digits.Given as goal
 
 abbrev pub invariant-loop-i : goal.invariant-loop-i

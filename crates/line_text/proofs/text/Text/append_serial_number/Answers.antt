@@ -1,7 +1,4 @@
--- Why `append_serial_number` of `text::Text` keeps its contract.
-use Rattle.std.proofs.Common.{◌≡◌, ◌++◌, List, ℕ, ap, ◌∙◌, rules}
-use Rattle.std.specs.Int.{w32, to_be_bytes}
-use Rattle.hex.specs.Hex.{encode_lower}
+use Rattle.line_text.proofs.Common.{◌≡◌, ◌++◌, List, ℕ, ap, ◌∙◌, rules, w32, to_be_bytes, encode_lower}
 use Rattle.line_text.proofs.Digits.{encoded_ascii, serial_number_digits}
 use Rattle.line_text.proofs.text.Text.append_serial_number.Goals as goal
 

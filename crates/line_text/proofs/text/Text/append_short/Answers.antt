@@ -1,5 +1,4 @@
--- Why `append_short` of `text::Text` keeps its contract.
-use Rattle.std.proofs.Common.{length, ap, arith, decimal, length-append}
+use Rattle.line_text.proofs.Common.{length, ap, arith, decimal, length-append}
 use Rattle.std.proofs.lemmas.Fmt.{length-decimal-le}
 use Rattle.line_text.proofs.text.Text.append_short.Goals as goal
 

@@ -1,4 +1,3 @@
--- Why `first_ends` of `column::Column` keeps its contract.
 use Rattle.list_viterbi.proofs.Common.{◌≡◌, length, drop, sym, ◌∙◌, arith, take_at, end_count, end_count_le, column_of}
 use Rattle.list_viterbi.proofs.LanePicks.{column_read}
 use Rattle.list_viterbi.proofs.ColumnLayouts.{scores_by_place, codewords_of, same_finds}

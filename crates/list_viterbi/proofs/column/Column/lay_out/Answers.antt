@@ -1,4 +1,3 @@
--- Why `lay_out` of `column::Column` keeps its contract.
 use Rattle.list_viterbi.proofs.Common.{◌≡◌, length, drop, arith, take_at, column_of}
 use Rattle.list_viterbi.proofs.LanePicks.{column_read}
 use Rattle.list_viterbi.proofs.ColumnLayouts.{scores_by_state}

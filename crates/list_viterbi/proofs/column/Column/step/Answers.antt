@@ -1,4 +1,3 @@
--- Why `step` of `column::Column` keeps its contract.
 use Rattle.list_viterbi.proofs.Common.{◌≡◌, ◌∙◌, ◌+◌, ◌^◌, ◌≤◌, [], length, get_or, arith, w64, unsigned_abs, to_z-of_z, with_items_is}
 use Rattle.list_viterbi.proofs.Common.{column_of, four_of, HasPicks, picks_into}
 use Rattle.list_viterbi.proofs.ColumnLayouts.{scores_by_place, scores_by_state, codewords_of, each_rank, places_stepped, states_stepped}

@@ -1,4 +1,3 @@
--- Why `list_into` of `decoder::ListDecoder` keeps its contract.
 use Rattle.list_viterbi.proofs.Common.{◌≡◌, ◌+◌, ◌*◌, ◌/◌, ◌<◌, ◌≤◌, ℕ, [], length, get_or, ◌∙◌, suc, rules, arith, add-one, pos, pair_kept}
 use Rattle.list_viterbi.proofs.Common.{pair_small, HasPicks, picks_into}
 use Rattle.list_viterbi.proofs.Rooms.{found_first, found_number, found_scores}

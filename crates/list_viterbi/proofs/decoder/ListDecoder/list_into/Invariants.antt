@@ -1,4 +1,3 @@
--- What each pass of the loops in `list_into` of `decoder::ListDecoder` keeps, and why they end.
 use Rattle.list_viterbi.proofs.Common.{◌≡◌, vec_len}
 use Rattle.list_viterbi.proofs.Standing.{Stands}
 use Rattle.list_viterbi.proofs.decoder.ListDecoder.list_into.Given as goal

@@ -1,4 +1,3 @@
--- Why `chip` of `state::State` keeps its contract.
 use Rattle.long_code.proofs.Common.{ℕ, ap, ◌∙◌, long_chip}
 use Rattle.long_code.proofs.Chips.{chip_is}
 use Rattle.long_code.proofs.state.State.chip.Goals as goal

@@ -1,4 +1,3 @@
--- Why `jump` of `state::State` keeps its contract.
 use Rattle.long_code.proofs.Common.{◌≡◌, ◌+◌, ◌*◌, ◌%◌, ◌^◌, ◌<◌, ℕ, sym, ap, subst, ◌∙◌, arith, bit_and, and_mask, IsState, after}
 use Rattle.long_code.proofs.After.{after_one, after-after, after_none, odd_left, even_left}
 use Rattle.long_code.proofs.Period.{IsState-after}

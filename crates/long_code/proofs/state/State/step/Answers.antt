@@ -1,4 +1,3 @@
--- Why `step` of `state::State` keeps its contract.
 use Rattle.long_code.proofs.Period.{moved_state}
 use Rattle.long_code.proofs.state.State.step.Goals as goal
 

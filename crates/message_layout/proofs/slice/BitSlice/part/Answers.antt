@@ -1,7 +1,4 @@
--- Why `part` of `slice::BitSlice` keeps its contract.
-use Rattle.std.proofs.lemmas.Grind.{common_steps}
-use Rattle.std.proofs.lemmas.Int.{ints}
-use Rattle.message_layout.proofs.Common.{◌≡◌, ◌+◌, ◌≤◌, take, drop, length, ap, ◌∙◌, arith, length-drop, length-take-le}
+use Rattle.message_layout.proofs.Common.{common_steps, ints, ◌≡◌, ◌+◌, ◌≤◌, take, drop, length, ap, ◌∙◌, arith, length-drop, length-take-le}
 use Rattle.message_layout.proofs.Slices.{slice_part}
 use Rattle.message_layout.proofs.slice.BitSlice.part.Goals as goal
 

@@ -1,4 +1,3 @@
--- Why `fit` of `values::FieldValues` keeps its contract.
 use Rattle.message_layout.proofs.Common.{◌<◌, ◌≤◌, ◌^◌, length, get_or, map, refl, subst, arith, length-map, FieldsFit, fit_value}
 use Rattle.message_layout.proofs.Common.{width_within}
 use Rattle.message_layout.proofs.Columns.{sent_all}

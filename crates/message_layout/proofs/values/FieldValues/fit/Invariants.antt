@@ -1,4 +1,3 @@
--- What each pass of the loops in `fit` of `values::FieldValues` keeps, and why they end.
 use Rattle.message_layout.proofs.Common.{map, take, in_widths, FieldsFit}
 use Rattle.message_layout.proofs.values.FieldValues.fit.Given as goal
 

@@ -1,7 +1,4 @@
--- Why `of` of `values::FieldValues` keeps its contract.
-use Rattle.message_layout.proofs.Common.{arith}
-use Rattle.std.proofs.lemmas.Grind.{common_steps}
-use Rattle.std.proofs.lemmas.Int.{ints}
+use Rattle.message_layout.proofs.Common.{arith, common_steps, ints}
 use Rattle.message_layout.proofs.values.FieldValues.of.Goals as goal
 
 pub loop-i-preserved : goal.loop-i-preserved

@@ -1,4 +1,3 @@
--- What each pass of the loops in `of` of `values::FieldValues` keeps, and why they end.
 use Rattle.message_layout.proofs.Common.{◌≡◌, take}
 use Rattle.message_layout.proofs.values.FieldValues.of.Given as goal
 

@@ -1,7 +1,4 @@
--- Why `follow` of `followed::Followed` keeps its contract.
-use Rattle.std.proofs.lemmas.Grind.{common_steps}
-use Rattle.std.proofs.lemmas.Int.{ints}
-use Rattle.mobile_core.proofs.Common.{◌≡◌, ◌∙◌, rules, Some, sym, arith}
+use Rattle.mobile_core.proofs.Common.{common_steps, ints, ◌≡◌, ◌∙◌, rules, Some, sym, arith}
 use Rattle.mobile_core.proofs.ChannelsFollowed.{opened, unassigned}
 use Rattle.mobile_core.proofs.FramesFollowed.{frames_opened}
 use Rattle.mobile_core.proofs.PagesFollowed.{pages_opened}

@@ -1,9 +1,6 @@
--- Why `note` of `followed::Followed` keeps its contract.
 use Rattle.mobile_core.proofs.Common.{◌≡◌, ◌∙◌, ◌∷◌, ◌++◌, Some, IfSome, rules, length, subst, sym, at_of, event_list, HearsFrames, WaitsAt}
-use Rattle.mobile_core.proofs.Common.{Event, IsSoundHandoff, SetsKeeper, SoftHandoff, ap, noted_by}
-use Rattle.heard_events.specs.SetsKeeping.{IsSoundKeeper}
+use Rattle.mobile_core.proofs.Common.{Event, IsSoundHandoff, SetsKeeper, SoftHandoff, ap, noted_by, IsSoundKeeper, beside}
 use Rattle.mobile_core.proofs.FramesFollowed.{frames_noted, noted_waits}
-use Rattle.mobile_core.specs.TrafficReceiving.{beside}
 use Rattle.mobile_core.proofs.followed.Followed.note.Goals as goal
 
 -- the sets that have taken the event stand beside the receiver

@@ -1,7 +1,4 @@
--- Why `opens` of `followed::Followed` keeps its contract.
-use Rattle.mobile_core.proofs.Common.{arith}
-use Rattle.std.proofs.lemmas.Grind.{common_steps}
-use Rattle.std.proofs.lemmas.Int.{ints}
+use Rattle.mobile_core.proofs.Common.{arith, common_steps, ints}
 use Rattle.mobile_core.proofs.followed.Followed.opens.Goals as goal
 
 pub returns-else-is_none : goal.returns-else-is_none

@@ -1,12 +1,7 @@
--- Why `hear_next` of `followed::FollowedReceive` keeps its contract.
-use Rattle.mobile_core.proofs.Common.{arith}
-use Rattle.std.proofs.lemmas.Grind.{common_steps}
-use Rattle.std.proofs.lemmas.Int.{ints}
-use Rattle.mobile_core.proofs.Common.{ℕ, ◌≡◌, ◌∙◌, refl, subst, sym, append_assoc, None, IfSome, IsSomeAnd, IsDueAt, at_of, event_list}
-use Rattle.mobile_core.proofs.Common.{HearsFrames, paging_events_left, traffic_events_left}
+use Rattle.mobile_core.proofs.Common.{arith, common_steps, ints, ℕ, ◌≡◌, ◌∙◌, refl, subst, sym, append_assoc, None, IfSome, IsSomeAnd}
+use Rattle.mobile_core.proofs.Common.{IsDueAt, at_of, event_list, HearsFrames, paging_events_left, traffic_events_left, joined}
 use Rattle.std.proofs.lemmas.Bool.{false≢true}
 use Rattle.mobile_core.proofs.ChannelsFollowed.{heard_other, moved}
-use Rattle.heard_events.proofs.GoesOn.{joined}
 use Rattle.mobile_core.proofs.followed.FollowedReceive.hear_next.Goals as goal
 
 pub returns-then-not-is_due-clause-hears : goal.returns-then-not-is_due-clause-hears

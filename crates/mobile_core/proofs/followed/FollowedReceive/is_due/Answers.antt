@@ -1,7 +1,4 @@
--- Why `is_due` of `followed::FollowedReceive` keeps its contract.
-use Rattle.mobile_core.proofs.Common.{arith}
-use Rattle.std.proofs.lemmas.Grind.{common_steps}
-use Rattle.std.proofs.lemmas.Int.{ints}
+use Rattle.mobile_core.proofs.Common.{arith, common_steps, ints}
 use Rattle.mobile_core.proofs.followed.FollowedReceive.is_due.Goals as goal
 
 pub returns-then-is_due : goal.returns-then-is_due

@@ -1,7 +1,5 @@
--- Why `take_ended` of `followed::FollowedReceive` keeps its contract.
-use Rattle.mobile_core.proofs.Common.{[], inl, inr, sym, paging_events_left}
+use Rattle.mobile_core.proofs.Common.{[], inl, inr, sym, paging_events_left, joined}
 use Rattle.mobile_core.proofs.ChannelsFollowed.{moved}
-use Rattle.heard_events.proofs.GoesOn.{joined}
 use Rattle.mobile_core.proofs.followed.FollowedReceive.take_ended.Goals as goal
 
 pub returns-clause-hears : goal.returns-clause-hears

@@ -1,7 +1,4 @@
--- Why `advance` of `mobile::Mobile` keeps its contract.
-use Rattle.std.proofs.lemmas.Grind.{common_steps}
-use Rattle.std.proofs.lemmas.Int.{ints}
-use Rattle.mobile_core.proofs.Common.{ℕ, ◌≡◌, ◌-◌, ◌+◌, ◌++◌, ◌≤◌, ◌∙◌, arith, length, take, length-take, []}
+use Rattle.mobile_core.proofs.Common.{common_steps, ints, ℕ, ◌≡◌, ◌-◌, ◌+◌, ◌++◌, ◌≤◌, ◌∙◌, arith, length, take, length-take, []}
 use Rattle.mobile_core.proofs.Stood.{others_wait, stands_come, stands_taken, sync_waits}
 use Rattle.mobile_core.proofs.mobile.Mobile.advance.Goals as goal
 

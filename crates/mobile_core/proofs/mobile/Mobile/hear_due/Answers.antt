@@ -1,8 +1,4 @@
--- Why `hear_due` of `mobile::Mobile` keeps its contract.
-use Rattle.mobile_core.proofs.Common.{arith}
-use Rattle.std.proofs.lemmas.Grind.{common_steps}
-use Rattle.std.proofs.lemmas.Int.{ints}
-use Rattle.mobile_core.proofs.Common.{None, Some}
+use Rattle.mobile_core.proofs.Common.{arith, common_steps, ints, None, Some}
 use Rattle.mobile_core.proofs.StepJoins.{told_on}
 use Rattle.mobile_core.proofs.mobile.Mobile.hear_due.Goals as goal
 

@@ -1,4 +1,3 @@
--- What each pass of the loops in `hear_due` of `mobile::Mobile` keeps, and why they end.
 use Rattle.mobile_core.proofs.Common.{List, None, Sample, Steps, due_parts}
 use Rattle.mobile_core.proofs.mobile.Mobile.hear_due.Given as goal
 

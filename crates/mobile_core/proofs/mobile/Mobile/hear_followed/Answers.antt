@@ -1,4 +1,3 @@
--- Why `hear_followed` of `mobile::Mobile` keeps its contract.
 use Rattle.mobile_core.proofs.Common.{◌∙◌, arith, refl}
 use Rattle.mobile_core.proofs.StepJoins.{ends_here, one_or_none}
 use Rattle.mobile_core.proofs.Stood.{stands_followed}

@@ -1,7 +1,4 @@
--- Why `hear_next` of `mobile::Mobile` keeps its contract.
-use Rattle.mobile_core.proofs.Common.{arith}
-use Rattle.std.proofs.lemmas.Grind.{common_steps}
-use Rattle.std.proofs.lemmas.Int.{ints}
+use Rattle.mobile_core.proofs.Common.{arith, common_steps, ints}
 use Rattle.mobile_core.proofs.mobile.Mobile.hear_next.Goals as goal
 
 pub hear_sync-requires-clause-due : goal.hear_sync-requires-clause-due

@@ -1,9 +1,5 @@
--- Why `hear_sync` of `mobile::Mobile` keeps its contract.
-use Rattle.std.proofs.lemmas.Grind.{common_steps}
-use Rattle.std.proofs.lemmas.Int.{ints}
-use Rattle.mobile_core.proofs.Common.{◌≡◌, ◌∙◌, ap, arith, length, subst, sym, refl, Option, HearsFollowed, followed_events_left, SetsMark}
-use Rattle.mobile_core.proofs.Common.{FrameClock, Mark}
-use Rattle.mobile_core.specs.FollowedChannels.{WaitFrom}
+use Rattle.mobile_core.proofs.Common.{common_steps, ints, ◌≡◌, ◌∙◌, ap, arith, length, subst, sym, refl, Option, HearsFollowed, SetsMark}
+use Rattle.mobile_core.proofs.Common.{followed_events_left, FrameClock, Mark, WaitFrom}
 use Rattle.mobile_core.proofs.StepJoins.{ends_here, one_or_none}
 use Rattle.mobile_core.proofs.Stood.{heard_sets, stands_heard}
 use Rattle.mobile_core.proofs.mobile.Mobile.hear_sync.Goals as goal

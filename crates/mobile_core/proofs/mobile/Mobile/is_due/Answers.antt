@@ -1,7 +1,4 @@
--- Why `is_due` of `mobile::Mobile` keeps its contract.
-use Rattle.mobile_core.proofs.Common.{arith}
-use Rattle.std.proofs.lemmas.Grind.{common_steps}
-use Rattle.std.proofs.lemmas.Int.{ints}
+use Rattle.mobile_core.proofs.Common.{arith, common_steps, ints}
 use Rattle.mobile_core.proofs.mobile.Mobile.is_due.Goals as goal
 
 pub returns-then-is_due : goal.returns-then-is_due

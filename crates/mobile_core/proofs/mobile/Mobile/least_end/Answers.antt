@@ -1,4 +1,3 @@
--- Why `least_end` of `mobile::Mobile` keeps its contract.
 use Rattle.mobile_core.proofs.Common.{arith}
 use Rattle.mobile_core.proofs.mobile.Mobile.least_end.Goals as goal
 

@@ -1,4 +1,3 @@
--- Why `mark` of `mobile::Mobile` keeps its contract.
 use Rattle.mobile_core.proofs.Common.{◌∙◌, sym}
 use Rattle.mobile_core.proofs.MarkAhead.{mark_ahead, mark_is, marked_all}
 use Rattle.mobile_core.proofs.mobile.Mobile.mark.Goals as goal

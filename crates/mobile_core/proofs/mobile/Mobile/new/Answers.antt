@@ -1,6 +1,4 @@
--- Why `new` of `mobile::Mobile` keeps its contract.
-use Rattle.mobile_core.proofs.Common.{[], arith, refl, tuning_by}
-use Rattle.std.proofs.lemmas.Option.{none-some}
+use Rattle.mobile_core.proofs.Common.{[], arith, refl, tuning_by, none-some}
 use Rattle.mobile_core.proofs.Stood.{stands_new}
 use Rattle.mobile_core.proofs.mobile.Mobile.new.Goals as goal
 

@@ -1,10 +1,5 @@
--- Why `step` of `mobile::Mobile` keeps its contract.
-use Rattle.std.proofs.lemmas.Grind.{common_steps}
-use Rattle.std.proofs.lemmas.Int.{ints}
-use Rattle.mobile_core.proofs.Common.{◌≡◌, ◌+◌, ◌++◌, List, arith, drop, subst, take, None, Some, append-nil, take_all, take_rest, Sample}
-use Rattle.mobile_core.proofs.Common.{refl, sym, Steps}
-use Rattle.std.proofs.lemmas.Option.{none-some}
-use Rattle.mobile_core.specs.Standing.{StandsFor}
+use Rattle.mobile_core.proofs.Common.{common_steps, ints, ◌≡◌, ◌+◌, ◌++◌, List, arith, drop, subst, take, None, Some, append-nil, take_all}
+use Rattle.mobile_core.proofs.Common.{take_rest, Sample, refl, sym, Steps, none-some, StandsFor}
 use Rattle.mobile_core.proofs.Stood.{all_given}
 use Rattle.mobile_core.proofs.StepJoins.{steps_joined}
 use Rattle.mobile_core.proofs.mobile.Mobile.step.Goals as goal

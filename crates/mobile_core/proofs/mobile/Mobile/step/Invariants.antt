@@ -1,4 +1,3 @@
--- What each pass of the loops in `step` of `mobile::Mobile` keeps, and why they end.
 use Rattle.mobile_core.proofs.Common.{◌-◌, length, None, Steps}
 use Rattle.mobile_core.proofs.mobile.Mobile.step.Given as goal
 

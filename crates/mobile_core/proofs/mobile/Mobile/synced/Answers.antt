@@ -1,4 +1,3 @@
--- Why `synced` of `mobile::Mobile` keeps its contract.
 use Rattle.mobile_core.proofs.Common.{◌∙◌, sym, ap, is_some}
 use Rattle.mobile_core.proofs.MarkAhead.{marked_all}
 use Rattle.mobile_core.proofs.mobile.Mobile.synced.Goals as goal

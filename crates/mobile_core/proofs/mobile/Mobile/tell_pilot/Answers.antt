@@ -1,8 +1,5 @@
--- Why `tell_pilot` of `mobile::Mobile` keeps its contract.
-use Rattle.std.proofs.lemmas.Grind.{common_steps}
-use Rattle.std.proofs.lemmas.Int.{ints}
-use Rattle.mobile_core.proofs.Common.{◌≡◌, ◌++◌, ◌∷◌, [], Option, Some, ap, arith, length, refl, subst, sym, Best, ℕ, pilot_left, Stands}
-use Rattle.mobile_core.proofs.Common.{Event, Pilot}
+use Rattle.mobile_core.proofs.Common.{common_steps, ints, ◌≡◌, ◌++◌, ◌∷◌, [], Option, Some, ap, arith, length, refl, subst, sym, Best, ℕ}
+use Rattle.mobile_core.proofs.Common.{pilot_left, Stands, Event, Pilot}
 use Rattle.mobile_core.proofs.Stood.{stands_told}
 use Rattle.mobile_core.proofs.mobile.Mobile.tell_pilot.Goals as goal
 

@@ -1,4 +1,3 @@
--- Why `due_bits` of `paging_receiver::PagingReceiver` keeps its contract.
 use Rattle.mobile_core.proofs.Common.{ap, paging_channel, paging_stream, frame_own_bits}
 use Rattle.mobile_core.proofs.paging_receiver.PagingReceiver.due_bits.Goals as goal
 

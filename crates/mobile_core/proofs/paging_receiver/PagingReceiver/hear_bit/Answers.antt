@@ -1,4 +1,3 @@
--- Why `hear_bit` of `paging_receiver::PagingReceiver` keeps its contract.
 use Rattle.mobile_core.proofs.Common.{◌∙◌, ap, page_in}
 use Rattle.mobile_core.proofs.PagesHeard.{hears_bit}
 use Rattle.mobile_core.proofs.paging_receiver.PagingReceiver.hear_bit.Goals as goal

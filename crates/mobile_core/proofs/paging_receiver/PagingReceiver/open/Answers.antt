@@ -1,4 +1,3 @@
--- Why `open` of `paging_receiver::PagingReceiver` keeps its contract.
 use Rattle.mobile_core.proofs.Common.{◌∙◌, ap, refl, rules, ◌≡◌, half_frame_body, paging_rate, paging_stream}
 use Rattle.mobile_core.proofs.ChannelsOpened.{receives_opened}
 use Rattle.mobile_core.proofs.PagesHeard.{hears_none}

@@ -1,4 +1,3 @@
--- Why `hear_next` of `paging_receiver::PagingReceiverReceive` keeps its contract.
 use Rattle.mobile_core.proofs.Common.{◌++◌, ◌∙◌, ℕ, List, ap, option_to_list, map, subst, page_event, IsDueAt, paging_left, Event}
 use Rattle.mobile_core.proofs.PagesFollowed.{bit_left, follows_on}
 use Rattle.mobile_core.proofs.paging_receiver.PagingReceiverReceive.hear_next.Goals as goal

@@ -1,4 +1,3 @@
--- Why `take_ended` of `paging_receiver::PagingReceiverReceive` keeps its contract.
 use Rattle.mobile_core.proofs.Common.{◌∙◌, ap, refl, paging_stream, FrameClock}
 use Rattle.mobile_core.proofs.PagesFollowed.{come_left, follows_on}
 use Rattle.mobile_core.proofs.PagesHeard.{hears_come}

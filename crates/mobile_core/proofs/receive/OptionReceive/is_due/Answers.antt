@@ -1,7 +1,4 @@
--- Why `is_due` of `receive::OptionReceive` keeps its contract.
-use Rattle.mobile_core.proofs.Common.{arith}
-use Rattle.std.proofs.lemmas.Grind.{common_steps}
-use Rattle.std.proofs.lemmas.Int.{ints}
+use Rattle.mobile_core.proofs.Common.{arith, common_steps, ints}
 use Rattle.mobile_core.proofs.receive.OptionReceive.is_due.Goals as goal
 
 pub returns-in-None : goal.returns-in-None

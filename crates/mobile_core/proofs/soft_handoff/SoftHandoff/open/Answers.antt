@@ -1,7 +1,4 @@
--- Why `open` of `soft_handoff::SoftHandoff` keeps its contract.
-use Rattle.mobile_core.proofs.Common.{arith}
-use Rattle.std.proofs.lemmas.Grind.{common_steps}
-use Rattle.std.proofs.lemmas.Int.{ints}
+use Rattle.mobile_core.proofs.Common.{arith, common_steps, ints}
 use Rattle.mobile_core.proofs.soft_handoff.SoftHandoff.open.Goals as goal
 
 pub returns-clause-hears : goal.returns-clause-hears

@@ -1,10 +1,7 @@
--- Why `pass_moment` of `soft_handoff::SoftHandoff` keeps its contract.
-use Rattle.std.proofs.lemmas.Grind.{common_steps}
-use Rattle.std.proofs.lemmas.Int.{ints}
-use Rattle.mobile_core.proofs.Common.{◌∙◌, ◌++◌, ◌+◌, ◌*◌, [], sym, ap, arith, event_list, traffic_left_of, Mark, SetsKeeper, SoftHandoff}
+use Rattle.mobile_core.proofs.Common.{common_steps, ints, ◌∙◌, ◌++◌, ◌+◌, ◌*◌, [], sym, ap, arith, event_list, traffic_left_of, Mark}
+use Rattle.mobile_core.proofs.Common.{SetsKeeper, SoftHandoff, sets_events, passed as passed_of}
 use Rattle.mobile_core.proofs.MomentPassed.{hears_passed}
 use Rattle.mobile_core.proofs.SoundFrames.{passed_close}
-use Rattle.heard_events.specs.Moments.{sets_events, passed as passed_of}
 use Rattle.mobile_core.proofs.soft_handoff.SoftHandoff.pass_moment.Goals as goal
 
 -- A moment at which nothing else is due is told next: the sets and the event are the definition's

@@ -1,8 +1,4 @@
--- Why `take_frame` of `soft_handoff::SoftHandoff` keeps its contract.
-use Rattle.std.proofs.lemmas.Grind.{common_steps}
-use Rattle.std.proofs.lemmas.Int.{ints}
-use Rattle.mobile_core.proofs.Common.{ap, arith, frame_chips, TrafficReceiver}
-use Rattle.rake_finger.proofs.CloseFingers.{close_ends}
+use Rattle.mobile_core.proofs.Common.{common_steps, ints, ap, arith, frame_chips, TrafficReceiver, close_ends}
 use Rattle.mobile_core.proofs.soft_handoff.SoftHandoff.take_frame.Goals as goal
 
 -- After a frame that ended at these samples was taken, the receiver waits for the next one: that

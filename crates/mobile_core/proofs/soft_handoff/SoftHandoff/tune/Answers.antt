@@ -1,8 +1,4 @@
--- Why `tune` of `soft_handoff::SoftHandoff` keeps its contract.
-use Rattle.mobile_core.proofs.Common.{arith}
-use Rattle.std.proofs.lemmas.Grind.{common_steps}
-use Rattle.std.proofs.lemmas.Int.{ints}
-use Rattle.mobile_core.proofs.Common.{rules}
+use Rattle.mobile_core.proofs.Common.{arith, common_steps, ints, rules}
 use Rattle.mobile_core.proofs.FramesHeard.{hears_tuned}
 use Rattle.mobile_core.proofs.soft_handoff.SoftHandoff.tune.Goals as goal
 

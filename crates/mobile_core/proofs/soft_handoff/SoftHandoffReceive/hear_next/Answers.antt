@@ -1,11 +1,6 @@
--- Why `hear_next` of `soft_handoff::SoftHandoffReceive` keeps its contract.
-use Rattle.mobile_core.proofs.Common.{arith}
-use Rattle.std.proofs.lemmas.Grind.{common_steps}
-use Rattle.std.proofs.lemmas.Int.{ints}
-use Rattle.mobile_core.proofs.Common.{◌∙◌, [], ◌∷◌, event_list, noted_by}
+use Rattle.mobile_core.proofs.Common.{arith, common_steps, ints, ◌∙◌, [], ◌∷◌, event_list, noted_by, beside}
 use Rattle.mobile_core.proofs.FramesFollowed.{tells_first}
 use Rattle.mobile_core.proofs.FramesTold.{hears_noted}
-use Rattle.mobile_core.specs.TrafficReceiving.{beside}
 use Rattle.mobile_core.proofs.soft_handoff.SoftHandoffReceive.hear_next.Goals as goal
 
 -- The event of a frame or of its message is the first that the traffic channel had left, and the

@@ -1,7 +1,4 @@
--- Why `take_ended` of `soft_handoff::SoftHandoffReceive` keeps its contract.
-use Rattle.mobile_core.proofs.Common.{arith}
-use Rattle.std.proofs.lemmas.Grind.{common_steps}
-use Rattle.std.proofs.lemmas.Int.{ints}
+use Rattle.mobile_core.proofs.Common.{arith, common_steps, ints}
 use Rattle.mobile_core.proofs.soft_handoff.SoftHandoffReceive.take_ended.Goals as goal
 
 pub returns-clause-hears : goal.returns-clause-hears

@@ -1,13 +1,8 @@
--- Why `hear_next` of `sync_receiver::SyncReceiver` keeps its contract.
 use Rattle.mobile_core.proofs.Common.{◌≡◌, ℕ, ◌+◌, ◌-◌, ◌++◌, ◌∷◌, ◌∙◌, ◌||◌, [], ap, refl, sym, arith, is_some, length, list_any, map}
-use Rattle.mobile_core.proofs.Common.{frames_with, frame_start, frames_before, frames_open, heard_in, events_of, sync_stream, piece}
+use Rattle.mobile_core.proofs.Common.{frames_with, frame_start, frames_before, frames_open, heard_in, events_of, sync_stream, piece, List}
 use Rattle.mobile_core.proofs.Common.{frame_own_bits, capsule_ending, first_of, marks_of, marks_at, heard_at, sync_capsule_at, option_or}
-use Rattle.mobile_core.proofs.Common.{List, Event, sync_events_left, sets_mark}
-use Rattle.reception.proofs.ClockSteps.{due_inside, due_known, start_before}
-use Rattle.reception.proofs.Received.{receives_heard}
-use Rattle.heard_events.proofs.Growth.{frames_before_more, left_next}
-use Rattle.heard_events.proofs.MarkGrowth.{frames_open-more, mark_before_more}
-use Rattle.heard_events.proofs.MarkTold.{noted_event}
+use Rattle.mobile_core.proofs.Common.{Event, sync_events_left, sets_mark, due_inside, due_known, start_before, receives_heard, left_next}
+use Rattle.mobile_core.proofs.Common.{frames_before_more, frames_open-more, mark_before_more, noted_event}
 use Rattle.mobile_core.proofs.SyncHeard.{either, starts_is}
 use Rattle.mobile_core.proofs.sync_receiver.SyncReceiver.hear_next.Goals as goal
 

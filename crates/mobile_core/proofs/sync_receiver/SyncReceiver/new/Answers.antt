@@ -1,8 +1,5 @@
--- Why `new` of `sync_receiver::SyncReceiver` keeps its contract.
 use Rattle.mobile_core.proofs.Common.{◌≡◌, ℕ, ◌+◌, ◌-◌, ◌*◌, ◌%◌, ◌∙◌, [], sym, ap, refl, arith, frame_chips, Sync, first_frame, frame_end}
-use Rattle.mobile_core.proofs.Common.{sync_stream, FrameClock}
-use Rattle.std.proofs.lemmas.Option.{none-some}
-use Rattle.reception.proofs.ClockSteps.{first_end}
+use Rattle.mobile_core.proofs.Common.{sync_stream, FrameClock, none-some, first_end}
 use Rattle.mobile_core.proofs.ChannelsOpened.{receives_opened}
 use Rattle.mobile_core.proofs.SyncHeard.{hears_new}
 use Rattle.mobile_core.proofs.sync_receiver.SyncReceiver.new.Goals as goal

@@ -1,4 +1,3 @@
--- Why `take_ended` of `sync_receiver::SyncReceiver` keeps its contract.
 use Rattle.mobile_core.proofs.Common.{ap, refl, sync_stream, FrameClock}
 use Rattle.mobile_core.proofs.SyncHeard.{hears_come}
 use Rattle.mobile_core.proofs.sync_receiver.SyncReceiver.take_ended.Goals as goal

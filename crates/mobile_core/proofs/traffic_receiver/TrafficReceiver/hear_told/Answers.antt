@@ -1,8 +1,4 @@
--- Why `hear_told` of `traffic_receiver::TrafficReceiver` keeps its contract.
-use Rattle.mobile_core.proofs.Common.{arith}
-use Rattle.std.proofs.lemmas.Grind.{common_steps}
-use Rattle.std.proofs.lemmas.Int.{ints}
-use Rattle.mobile_core.proofs.Common.{◌≡◌, ◌<◌, None, rules, []}
+use Rattle.mobile_core.proofs.Common.{arith, common_steps, ints, ◌≡◌, ◌<◌, None, rules, []}
 use Rattle.mobile_core.proofs.FramesTold.{hears_heard}
 use Rattle.mobile_core.proofs.traffic_receiver.TrafficReceiver.hear_told.Goals as goal
 

@@ -1,4 +1,3 @@
--- Why `next_frame` of `traffic_receiver::TrafficReceiver` keeps its contract.
 use Rattle.mobile_core.proofs.Common.{◌∙◌, ℕ, ap, power_places}
 use Rattle.mobile_core.proofs.FramesHeard.{next_here}
 use Rattle.heard_events.proofs.SignalParts.{decoded_long}

@@ -1,9 +1,7 @@
--- Why `open` of `traffic_receiver::TrafficReceiver` keeps its contract.
-use Rattle.mobile_core.proofs.Common.{◌≡◌, ◌+◌, ◌*◌, ◌∙◌, ℕ, ℤ, List, true, false, ap, sym, subst, arith, refl, take, length-take, pos}
-use Rattle.mobile_core.proofs.Common.{new_standing, AreClose, all_begun, all_close, all_fingers, legs_of, FrameClock, Leg, Scrambling}
-use Rattle.mobile_core.proofs.Common.{clock_from, Data, if◌then◌else◌}
+use Rattle.mobile_core.proofs.Common.{◌≡◌, ◌+◌, ◌*◌, ◌∙◌, ℕ, ℤ, List, true, false, ap, sym, subst, arith, refl, take, length-take, pos, Leg}
+use Rattle.mobile_core.proofs.Common.{new_standing, AreClose, all_begun, all_close, all_fingers, legs_of, FrameClock, Scrambling, Data}
+use Rattle.mobile_core.proofs.Common.{clock_from, if◌then◌else◌, close_begun}
 use Rattle.mobile_core.proofs.FramesOpened.{first_paths, hears_opened, paths_some, zeros_few}
-use Rattle.rake_finger.proofs.CloseFingers.{close_begun}
 use Rattle.mobile_core.proofs.traffic_receiver.TrafficReceiver.open.Goals.{After-new-frames}
 use Rattle.mobile_core.proofs.traffic_receiver.TrafficReceiver.open.Goals as goal
 

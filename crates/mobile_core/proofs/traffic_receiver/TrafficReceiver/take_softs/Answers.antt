@@ -1,8 +1,5 @@
--- Why `take_softs` of `traffic_receiver::TrafficReceiver` keeps its contract.
-use Rattle.std.proofs.lemmas.Grind.{common_steps}
-use Rattle.std.proofs.lemmas.Int.{ints}
-use Rattle.mobile_core.proofs.Common.{◌≤◌, ◌*◌, ◌^◌, ◌∙◌, ℕ, ap, arith, sym, power_places, length, sum_by, unsigned_abs}
-use Rattle.heard_events.proofs.LegFingers.{fingers_few}
+use Rattle.mobile_core.proofs.Common.{common_steps, ints, ◌≤◌, ◌*◌, ◌^◌, ◌∙◌, ℕ, ap, arith, sym, power_places, length, sum_by, unsigned_abs}
+use Rattle.mobile_core.proofs.Common.{fingers_few}
 use Rattle.heard_events.proofs.LegSubsets.{eight_small}
 use Rattle.mobile_core.proofs.FramesHeard.{hears_come}
 use Rattle.mobile_core.proofs.SoundFrames.{legs_held, sound_taken}

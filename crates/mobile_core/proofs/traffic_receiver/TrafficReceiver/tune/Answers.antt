@@ -1,4 +1,3 @@
--- Why `tune` of `traffic_receiver::TrafficReceiver` keeps its contract.
 use Rattle.mobile_core.proofs.Common.{ap}
 use Rattle.mobile_core.proofs.SoundFrames.{waits_tuned}
 use Rattle.reception.specs.declared.frame_receiver.FrameReceiver.{FrameReceiver}

@@ -1,4 +1,3 @@
--- Why `new` of `half_framer::HalfFramer` keeps its contract.
 use Rattle.paging_message.proofs.Common.{◌∙◌}
 use Rattle.paging_message.proofs.Cutting.{nothing_open, nothing_placed}
 use Rattle.paging_message.proofs.half_framer.HalfFramer.new.Goals as goal

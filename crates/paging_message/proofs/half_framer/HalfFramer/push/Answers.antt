@@ -1,7 +1,5 @@
--- Why `push` of `half_framer::HalfFramer` keeps its contract.
 use Rattle.paging_message.proofs.Common.{◌≡◌, ◌+◌, ◌-◌, ◌%◌, ◌++◌, ◌∷◌, [], length, sym, ap, ◌∙◌, arith, rules, Option, List, Bool, IsTrue}
-use Rattle.paging_message.proofs.Common.{IsSome, ◌↔◌, completed, Framing, half_frame_capsule_ending, half_under_way}
-use Rattle.paging_message.specs.HalfFrames.{HalfFramesStandFor}
+use Rattle.paging_message.proofs.Common.{IsSome, ◌↔◌, completed, Framing, half_frame_capsule_ending, half_under_way, HalfFramesStandFor}
 use Rattle.paging_message.proofs.Chains.{after}
 use Rattle.paging_message.proofs.Cutting.{sci_opens, sci_ends, body_step, place_more, place_over, after_is}
 use Rattle.paging_message.proofs.half_framer.HalfFramer.push.Goals.{then-left-eq0, else-left-eq0}

@@ -1,4 +1,3 @@
--- Why `append` of `layout::Layout` keeps its contract.
 use Rattle.paging_message.proofs.Common.{◌≡◌, ◌≤◌, ◌%◌, ◌++◌, ◌∷◌, [], length, ap, sym, ◌∙◌, arith, subst, List, Bool, Place, HasLaid}
 use Rattle.paging_message.proofs.Common.{bit_on}
 use Rattle.paging_message.proofs.Layings.{bit_first, bit_next}

@@ -1,4 +1,3 @@
--- Why `fits` of `layout::Layout` keeps its contract.
 use Rattle.paging_message.proofs.Common.{◌≡◌, length, ◌∙◌, arith, leb-true, le-leb, bits_left}
 use Rattle.paging_message.proofs.Layings.{left_is, same_left}
 use Rattle.paging_message.proofs.layout.Layout.fits.Goals as goal

@@ -1,4 +1,3 @@
--- Why `make_way` of `layout::Layout` keeps its contract.
 use Rattle.paging_message.proofs.Common.{◌≡◌, ◌++◌, false, cond, length, replicate, ap, ◌∙◌, arith, subst, List, Bool, HasLaid, Laid, fill}
 use Rattle.paging_message.proofs.Layings.{left_is, zero_more, way_is, left_most}
 use Rattle.paging_message.proofs.layout.Layout.make_way.Goals as goal

@@ -1,4 +1,3 @@
--- What each pass of the loops in `make_way` of `layout::Layout` keeps, and why they end.
 use Rattle.paging_message.proofs.Common.{◌≡◌, ◌+◌, ◌*◌, ◌≤◌, ◌++◌, false, length, replicate, Laid, HasLaid}
 use Rattle.paging_message.proofs.layout.Layout.make_way.Given as goal
 

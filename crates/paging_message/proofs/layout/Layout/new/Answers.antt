@@ -1,4 +1,3 @@
--- Why `new` of `layout::Layout` keeps its contract.
 use Rattle.paging_message.proofs.Common.{arith}
 use Rattle.paging_message.proofs.Layings.{none_laid}
 use Rattle.paging_message.proofs.layout.Layout.new.Goals as goal

@@ -1,4 +1,3 @@
--- Why `put` of `layout::Layout` keeps its contract.
 use Rattle.paging_message.proofs.Common.{◌≡◌, ◌+◌, ◌%◌, ◌≤◌, ◌++◌, ◌∷◌, [], false, not, length, take, ap, ◌∙◌, arith, subst, taken_more}
 use Rattle.paging_message.proofs.Common.{HasLaid, Laid, bit_on, way_for, laid_on}
 use Rattle.paging_message.proofs.Layings.{capsule_first, capsule_next, way_whole}

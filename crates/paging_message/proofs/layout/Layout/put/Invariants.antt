@@ -1,4 +1,3 @@
--- What each pass of the loops in `put` of `layout::Layout` keeps, and why they end.
 use Rattle.paging_message.proofs.Common.{◌≡◌, ◌+◌, ◌*◌, ◌≤◌, length, take, Laid, laid_on, HasLaid}
 use Rattle.paging_message.proofs.layout.Layout.put.Given as goal
 

@@ -1,4 +1,3 @@
--- Why `body` of `message::PagingMessage` keeps its contract.
 use Rattle.paging_message.proofs.Common.{◌≡◌, ◌++◌, List, Bool, length, sym, ap, subst, ◌∙◌, arith, length-append, binary, length-binary}
 use Rattle.paging_message.proofs.Common.{FillsCapsule, M30, shape, spelling}
 use Rattle.paging_message.proofs.ByLayout.{lawful}

@@ -1,4 +1,3 @@
--- Why `contents` of `message::PagingMessage` keeps its contract.
 use Rattle.paging_message.proofs.Common.{subst, sym, IsPagingMessage}
 use Rattle.paging_message.proofs.message.PagingMessage.contents.Goals as goal
 

@@ -1,10 +1,8 @@
--- Why `decode` of `message::PagingMessage` keeps its contract.
-use Rattle.std.proofs.Common.{Ok, Err}
-use Rattle.paging_message.proofs.Common.{rules, M30, IsPagingMessage, paging_capsule, paging_reading, Tells, bad_body_told, told}
+use Rattle.paging_message.proofs.Common.{Ok, Err, rules, M30, IsPagingMessage, paging_capsule, paging_reading, Tells, bad_body_told, told}
 use Rattle.paging_message.proofs.Common.{uncapsuled, ◌≡◌}
 use Rattle.paging_message.proofs.Readings.{are_read}
-use Rattle.paging_message.proofs.message.PagingMessage.decode.Goals as goal
 use Rattle.paging_message.proofs.message.PagingMessage.decode.Goals.{After-from_residual, After-ok_or}
+use Rattle.paging_message.proofs.message.PagingMessage.decode.Goals as goal
 
 -- a fault is no value
 err_is_no_ok : {A E : Type 0} {value : A} {fault : E} → ¬ (Err fault ≡ Ok value)

@@ -1,4 +1,3 @@
--- Why `encode` of `message::PagingMessage` keeps its contract.
 use Rattle.paging_message.proofs.Common.{ap, ◌∙◌, capsule, M30, paging_capsule}
 use Rattle.paging_message.proofs.message.PagingMessage.encode.Goals as goal
 

@@ -1,4 +1,3 @@
--- Why `from_body` of `message::PagingMessage` keeps its contract.
 use Rattle.paging_message.proofs.Common.{ap, ◌∙◌, body_reading}
 use Rattle.paging_message.proofs.Messages.{body_found, reads_body}
 use Rattle.paging_message.proofs.message.PagingMessage.from_body.Goals as goal

@@ -1,4 +1,3 @@
--- Why `read` of `message::PagingMessage` keeps its contract.
 use Rattle.paging_message.proofs.Common.{◌≡◌, ◌≤◌, None, Some, drop, length, subst, sym, ap, ◌∙◌, count_in, MessageShape}
 use Rattle.paging_message.proofs.ByLayout.{few_records, lawful}
 use Rattle.paging_message.proofs.Messages.{no_body, no_type, told, told_is, typed_length}

@@ -1,4 +1,3 @@
--- Why `contents` of `system::SystemParameters` keeps its contract.
 use Rattle.paging_message.proofs.Common.{subst, IsSystem}
 use Rattle.paging_message.proofs.system.SystemParameters.contents.Goals as goal
 

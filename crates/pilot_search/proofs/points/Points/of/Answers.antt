@@ -1,4 +1,3 @@
--- Why `of` of `points::Points` keeps its contract.
 use Rattle.pilot_search.proofs.Common.{pos, All-get_or, IsUnit, arith, common_steps, ints}
 use Rattle.pilot_search.proofs.CorrelationSums.{units}
 use Rattle.pilot_search.proofs.points.Points.of.Goals as goal

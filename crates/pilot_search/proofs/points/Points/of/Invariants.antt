@@ -1,4 +1,3 @@
--- What each pass of the loops in `of` of `points::Points` keeps, and why they end.
 use Rattle.pilot_search.proofs.Common.{◌≡◌, map, take, across, both}
 use Rattle.pilot_search.proofs.points.Points.of.Given as goal
 

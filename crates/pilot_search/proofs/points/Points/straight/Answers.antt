@@ -1,4 +1,3 @@
--- Why `straight` of `points::Points` keeps its contract.
 use Rattle.pilot_search.proofs.Common.{length, map, ap, sym, ◌∙◌, length-map, length-pilot_signs, both}
 use Rattle.pilot_search.proofs.points.Points.straight.Goals as goal
 

@@ -1,4 +1,3 @@
--- Why `turned` of `points::Points` keeps its contract.
 use Rattle.pilot_search.proofs.Common.{length, map, ap, sym, ◌∙◌, across, length-map, length-pilot_signs, pilot_signs, both}
 use Rattle.pilot_search.proofs.points.Points.turned.Goals as goal
 

@@ -1,4 +1,3 @@
--- Why `begin` of `shared::Shared` keeps its contract.
 use Rattle.pilot_search.proofs.Common.{arith, sym, ap, ◌∙◌, Knowledge}
 use Rattle.pilot_search.proofs.SharedKeeps.{begins}
 use Rattle.pilot_search.proofs.shared.Shared.begin.Goals as goal

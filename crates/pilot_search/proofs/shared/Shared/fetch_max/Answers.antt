@@ -1,4 +1,3 @@
--- Why `fetch_max` of `shared::Shared` keeps its contract.
 use Rattle.pilot_search.proofs.Common.{arith, max, sym, ap, ◌∙◌, Knowledge}
 use Rattle.pilot_search.proofs.SharedKeeps.{moves}
 use Rattle.pilot_search.proofs.shared.Shared.fetch_max.Goals as goal

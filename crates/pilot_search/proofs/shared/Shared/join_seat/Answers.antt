@@ -1,4 +1,3 @@
--- Why `join_seat` of `shared::Shared` keeps its contract.
 use Rattle.pilot_search.proofs.Common.{arith, sym, ap, ◌∙◌, Knowledge}
 use Rattle.pilot_search.proofs.SharedKeeps.{joins}
 use Rattle.pilot_search.proofs.shared.Shared.join_seat.Goals as goal

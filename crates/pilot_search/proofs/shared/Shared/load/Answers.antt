@@ -1,4 +1,3 @@
--- Why `load` of `shared::Shared` keeps its contract.
 use Rattle.pilot_search.proofs.Common.{arith, sym, ap, ◌∙◌, Knowledge}
 use Rattle.pilot_search.proofs.SharedKeeps.{moves}
 use Rattle.pilot_search.proofs.shared.Shared.load.Goals as goal

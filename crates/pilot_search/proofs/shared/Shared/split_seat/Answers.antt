@@ -1,4 +1,3 @@
--- Why `split_seat` of `shared::Shared` keeps its contract.
 use Rattle.pilot_search.proofs.Common.{arith, sym, ap, ◌∙◌, Knowledge}
 use Rattle.pilot_search.proofs.SharedKeeps.{splits}
 use Rattle.pilot_search.proofs.shared.Shared.split_seat.Goals as goal

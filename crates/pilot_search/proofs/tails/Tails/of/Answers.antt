@@ -1,6 +1,5 @@
--- Why `of` of `tails::Tails` keeps its contract.
-use Rattle.pilot_search.proofs.Common.{◌≡◌, ◌≤◌, ◌+◌, ◌*◌, ℕ, arith, rules, sym, ap, subst, get_or, ◌∙◌, common_steps, ints}
-use Rattle.pilot_search.proofs.Common.{get_or-replicate, drop_all, magnitudes}
+use Rattle.pilot_search.proofs.Common.{◌≡◌, ◌≤◌, ◌+◌, ◌*◌, ℕ, arith, rules, sym, ap, subst, get_or, ◌∙◌, common_steps, ints, drop_all}
+use Rattle.pilot_search.proofs.Common.{get_or-replicate, magnitudes}
 use Rattle.pilot_search.proofs.tails.Tails.of.Goals as goal
 
 pub loop-k-init : goal.loop-k-init

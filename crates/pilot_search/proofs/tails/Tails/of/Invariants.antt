@@ -1,4 +1,3 @@
--- What each pass of the loops in `of` of `tails::Tails` keeps, and why they end.
 use Rattle.pilot_search.proofs.Common.{◌≡◌, ℕ, ◌+◌, ◌*◌, ◌<◌, ◌≤◌, length, drop, get_or, magnitudes}
 use Rattle.pilot_search.proofs.tails.Tails.of.Given as goal
 

@@ -1,6 +1,4 @@
--- Why `add` of `each_pilot::EachPilot` keeps its contract.
-use Rattle.pilot_sets.proofs.Common.{arith, common_steps}
-use Rattle.std.proofs.lemmas.Int.{ints}
+use Rattle.pilot_sets.proofs.Common.{arith, common_steps, ints}
 use Rattle.pilot_sets.proofs.each_pilot.EachPilot.add.Goals as goal
 
 pub loop-t-preserved : goal.loop-t-preserved

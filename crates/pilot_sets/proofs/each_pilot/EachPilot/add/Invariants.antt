@@ -1,4 +1,3 @@
--- What each pass of the loops in `add` of `each_pilot::EachPilot` keeps, and why they end.
 use Rattle.pilot_sets.proofs.Common.{◌≡◌, ◌++◌, take}
 use Rattle.pilot_sets.proofs.each_pilot.EachPilot.add.Given as goal
 

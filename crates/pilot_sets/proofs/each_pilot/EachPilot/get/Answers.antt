@@ -1,7 +1,4 @@
--- Why `get` of `each_pilot::EachPilot` keeps its contract.
-use Rattle.pilot_sets.proofs.Common.{arith, common_steps}
-use Rattle.std.proofs.lemmas.Grind.{elements}
-use Rattle.std.proofs.lemmas.Int.{ints}
+use Rattle.pilot_sets.proofs.Common.{arith, common_steps, elements, ints}
 use Rattle.pilot_sets.proofs.each_pilot.EachPilot.get.Goals as goal
 
 pub bounds-all-from : goal.bounds-all-from

@@ -1,6 +1,4 @@
--- Why `push` of `each_pilot::EachPilot` keeps its contract.
-use Rattle.pilot_sets.proofs.Common.{arith, common_steps}
-use Rattle.std.proofs.lemmas.Int.{ints}
+use Rattle.pilot_sets.proofs.Common.{arith, common_steps, ints}
 use Rattle.pilot_sets.proofs.each_pilot.EachPilot.push.Goals as goal
 
 pub push-requires : goal.push-requires

@@ -1,6 +1,4 @@
--- Why `empty` of `few::Few` keeps its contract.
-use Rattle.pilot_sets.proofs.Common.{arith, common_steps}
-use Rattle.std.proofs.lemmas.Int.{ints}
+use Rattle.pilot_sets.proofs.Common.{arith, common_steps, ints}
 use Rattle.pilot_sets.proofs.few.Few.empty.Goals as goal
 
 pub invariant_of-result : goal.invariant_of-result

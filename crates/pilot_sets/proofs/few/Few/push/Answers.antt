@@ -1,7 +1,4 @@
--- Why `push` of `few::Few` keeps its contract.
-use Rattle.pilot_sets.proofs.Common.{common_steps}
-use Rattle.std.proofs.lemmas.Int.{ints}
-use Rattle.pilot_sets.proofs.Common.{length, ap, arith, filled_more, length-filled}
+use Rattle.pilot_sets.proofs.Common.{common_steps, ints, length, ap, arith, filled_more, length-filled}
 use Rattle.pilot_sets.proofs.few.Few.push.Goals as goal
 
 pub invariant_of-self : goal.invariant_of-self

@@ -1,6 +1,4 @@
--- Why `push_within` of `few::Few` keeps its contract.
-use Rattle.pilot_sets.proofs.Common.{arith, common_steps}
-use Rattle.std.proofs.lemmas.Int.{ints}
+use Rattle.pilot_sets.proofs.Common.{arith, common_steps, ints}
 use Rattle.pilot_sets.proofs.few.Few.push_within.Goals as goal
 
 pub returns-then-self-room-clause-value : goal.returns-then-self-room-clause-value

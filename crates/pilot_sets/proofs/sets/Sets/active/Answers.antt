@@ -1,4 +1,3 @@
--- Why `active` of `sets::Sets` keeps its contract.
 use Rattle.pilot_sets.proofs.Common.{◌≡◌, ◌<◌, map, subst, sym, rules, All, shown_active, Active}
 use Rattle.pilot_sets.proofs.Rows.{shown_rows, shown_subchannels}
 use Rattle.pilot_sets.proofs.sets.Sets.active.Goals as goal

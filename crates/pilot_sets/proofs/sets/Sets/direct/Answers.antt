@@ -1,4 +1,3 @@
--- Why `direct` of `sets::Sets` keeps its contract.
 use Rattle.pilot_sets.proofs.Common.{subst, sym, ◌∙◌, IsActiveSet, Accepted}
 use Rattle.pilot_sets.proofs.Orders.{waiting_orderly, accepted_active_set}
 use Rattle.pilot_sets.proofs.sets.Sets.direct.Goals as goal

@@ -1,4 +1,3 @@
--- Why `due` of `sets::Sets` keeps its contract.
 use Rattle.pilot_sets.proofs.Common.{subst, sym, IsOrderly, IsActiveSetIfAny}
 use Rattle.pilot_sets.proofs.Orders.{handed_off_orderly}
 use Rattle.pilot_sets.proofs.sets.Sets.due.Goals as goal

@@ -1,4 +1,3 @@
--- Why `neighbors` of `sets::Sets` keeps its contract.
 use Rattle.pilot_sets.proofs.Common.{subst, sym, IsOrderly}
 use Rattle.pilot_sets.proofs.Orders.{neighbors_orderly}
 use Rattle.pilot_sets.proofs.sets.Sets.neighbors.Goals as goal

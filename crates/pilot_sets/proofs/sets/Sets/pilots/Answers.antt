@@ -1,7 +1,4 @@
--- Why `pilots` of `sets::Sets` keeps its contract.
-use Rattle.pilot_sets.proofs.Common.{arith, common_steps}
-use Rattle.std.proofs.lemmas.Int.{ints}
-use Rattle.pilot_sets.proofs.Common.{◌≡◌, ◌<◌, subst, sym, rules, All, pilots}
+use Rattle.pilot_sets.proofs.Common.{arith, common_steps, ints, ◌≡◌, ◌<◌, subst, sym, rules, All, pilots}
 use Rattle.pilot_sets.proofs.Orders.{pilots_offsets}
 use Rattle.pilot_sets.proofs.sets.Sets.pilots.Goals as goal
 

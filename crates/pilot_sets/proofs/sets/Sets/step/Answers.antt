@@ -1,10 +1,6 @@
--- Why `step` of `sets::Sets` keeps its contract.
 use Rattle.pilot_sets.proofs.Common.{◌≡◌, refl, ℕ, List, None, ap, ◌∙◌, subst, sym, energy_in, measured, deltas_with, IsOrderly, Standing}
-use Rattle.pilot_sets.proofs.Common.{PilotSets}
-use Rattle.std.specs.Prelude.{ℤ, Bool}
-use Rattle.pilot_sets.proofs.Common.{began_in}
-use Rattle.pilot_sets.specs.Moments.{is_reported}
-use Rattle.pilot_sets.specs.Standing.{change_at, is_changed, stepped}
+use Rattle.pilot_sets.proofs.Common.{PilotSets, Bool, began_in, is_reported, change_at, is_changed, stepped}
+use Rattle.std.specs.Prelude.{ℤ}
 use Rattle.pilot_sets.specs.declared.change.SetChange.{SetChange}
 use Rattle.pilot_sets.specs.declared.standing.Began.{Began}
 use Rattle.pilot_sets.specs.declared.strengths.Strength.{Strength}

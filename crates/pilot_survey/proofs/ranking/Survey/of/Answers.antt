@@ -1,7 +1,5 @@
--- Why `of` of `ranking::Survey` keeps its contract.
-use Rattle.std.proofs.Common.{rules, arith}
+use Rattle.pilot_survey.proofs.Common.{rules, arith, Rank}
 use Rattle.std.proofs.lemmas.List.Sorted.{answers_always}
-use Rattle.pilot_survey.specs.declared.rank.Rank.{Rank}
 use Rattle.pilot_survey.proofs.Orders.{neighbours}
 use Rattle.pilot_survey.proofs.ranking.Survey.of.Goals as goal
 

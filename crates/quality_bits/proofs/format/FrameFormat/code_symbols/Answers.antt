@@ -1,6 +1,4 @@
--- Why `code_symbols` of `format::FrameFormat` keeps its contract.
-use Rattle.std.proofs.Common.{◌*◌, ◌∙◌, sym}
-use Rattle.quality_bits.specs.Formats.{bits_in}
+use Rattle.quality_bits.proofs.Common.{◌*◌, ◌∙◌, sym, bits_in}
 use Rattle.quality_bits.proofs.Formats.{symbols_over_repeats}
 use Rattle.quality_bits.proofs.format.FrameFormat.code_symbols.Goals as goal
 

@@ -1,5 +1,4 @@
--- Why `codeword` of `format::FrameFormat` keeps its contract.
-use Rattle.std.proofs.Common.{length, ap, ◌∙◌, arith}
+use Rattle.quality_bits.proofs.Common.{length, ap, ◌∙◌, arith}
 use Rattle.quality_bits.proofs.Formats.{length-checked, length-format_codeword, tailed}
 use Rattle.quality_bits.proofs.format.FrameFormat.codeword.Goals as goal
 

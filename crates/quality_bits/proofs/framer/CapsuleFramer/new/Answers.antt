@@ -1,5 +1,4 @@
--- Why `new` of `framer::CapsuleFramer` keeps its contract.
-use Rattle.std.proofs.Common.{sym, ◌∙◌}
+use Rattle.quality_bits.proofs.Common.{sym, ◌∙◌}
 use Rattle.quality_bits.proofs.Streams.{under_way-none}
 use Rattle.quality_bits.proofs.framer.CapsuleFramer.new.Goals as goal
 

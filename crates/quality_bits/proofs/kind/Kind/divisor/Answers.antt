@@ -1,7 +1,6 @@
--- Why `divisor` of `kind::Kind` keeps its contract.
-use Rattle.chip_core.specs.Bits.{places}
-use Rattle.quality_bits.proofs.kind.Kind.divisor.Goals as goal
+use Rattle.quality_bits.proofs.Common.{places}
 use Rattle.quality_bits.proofs.kind.Kind.divisor.Goals.{in-Q6, in-Q8, in-Q10, in-Q12, in-M16, in-M30}
+use Rattle.quality_bits.proofs.kind.Kind.divisor.Goals as goal
 
 pub returns-clause-below : goal.returns-clause-below
 unfolding places

@@ -1,5 +1,4 @@
--- Why `new` of `open_capsule::OpenCapsule` keeps its contract.
-use Rattle.std.proofs.Common.{arith, []}
+use Rattle.quality_bits.proofs.Common.{arith, []}
 use Rattle.quality_bits.proofs.Opened.{awaits_few}
 use Rattle.quality_bits.proofs.open_capsule.OpenCapsule.new.Goals as goal
 

@@ -1,9 +1,7 @@
--- Why `push` of `open_capsule::OpenCapsule` keeps its contract.
-use Rattle.std.proofs.Common.{◌≡◌, ◌++◌, ◌∷◌, [], true, false, sym, ap, ◌∙◌, Some, List, Bool, Option}
-use Rattle.quality_bits.specs.Capsules.{awaits_more, continued}
+use Rattle.quality_bits.proofs.Common.{◌≡◌, ◌++◌, ◌∷◌, [], true, false, sym, ap, ◌∙◌, Some, List, Bool, Option, awaits_more, continued}
 use Rattle.quality_bits.proofs.Opened.{awaits_short, still_open-awaits, still_open-over}
-use Rattle.quality_bits.proofs.open_capsule.OpenCapsule.push.Goals as goal
 use Rattle.quality_bits.proofs.open_capsule.OpenCapsule.push.Goals.{then-may_go_on, else-may_go_on}
+use Rattle.quality_bits.proofs.open_capsule.OpenCapsule.push.Goals as goal
 
 pub append-requires : goal.append-requires
 append-requires c =

@@ -1,7 +1,4 @@
--- Why `push_all` of `open_capsule::OpenCapsule` keeps its contract.
-use Rattle.std.proofs.Common.{◌≡◌, ◌-◌, ◌∷◌, [], take, drop, ap, ◌∙◌, arith, List, Bool, Option}
-use Rattle.std.specs.Option.{option_or}
-use Rattle.quality_bits.specs.Capsules.{continued, completed}
+use Rattle.quality_bits.proofs.Common.{◌≡◌, ◌-◌, ◌∷◌, [], take, drop, ap, ◌∙◌, arith, List, Bool, Option, option_or, continued, completed}
 use Rattle.quality_bits.proofs.Opened.{continued_none, completed_none, continued-append, completed-append, taken_more_from}
 use Rattle.quality_bits.proofs.open_capsule.OpenCapsule.push_all.Goals as goal
 

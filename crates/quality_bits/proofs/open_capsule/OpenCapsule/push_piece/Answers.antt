@@ -1,5 +1,4 @@
--- Why `push_piece` of `open_capsule::OpenCapsule` keeps its contract.
-use Rattle.std.proofs.Common.{◌∙◌}
+use Rattle.quality_bits.proofs.Common.{◌∙◌}
 use Rattle.quality_bits.proofs.Marked.{marked_goes_on, marked_gives}
 use Rattle.quality_bits.proofs.open_capsule.OpenCapsule.push_piece.Goals as goal
 

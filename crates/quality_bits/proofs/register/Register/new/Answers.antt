@@ -1,9 +1,4 @@
--- Why `new` of `register::Register` keeps its contract.
-use Rattle.std.proofs.Common.{◌≡◌, ◌^◌, ◌≤◌, ◌<◌, ◌+◌, [], refl, arith}
-use Rattle.chip_core.specs.Bits.{number}
-use Rattle.quality_bits.specs.Quality.{check_bits}
-use Rattle.std.proofs.Math.Pow.{pow_mono}
-use Rattle.quality_bits.specs.Kinds.{generator_of}
+use Rattle.quality_bits.proofs.Common.{◌≡◌, ◌^◌, ◌≤◌, ◌<◌, ◌+◌, [], refl, arith, number, check_bits, pow_mono, generator_of}
 use Rattle.quality_bits.proofs.Steps.{check_none}
 use Rattle.quality_bits.proofs.register.Register.new.Goals as goal
 

@@ -1,12 +1,8 @@
--- Why `push` of `register::Register` keeps its contract.
-use Rattle.std.proofs.Common.{◌≡◌, ℕ, ◌<◌, ◌^◌, ◌++◌, [], ◌∷◌, ap, sym, ◌∙◌, arith}
-use Rattle.chip_core.specs.Bits.{number}
-use Rattle.quality_bits.specs.Quality.{check_bits}
-use Rattle.quality_bits.specs.Kinds.{generator_of, Division}
-use Rattle.quality_bits.specs.declared.kind.Kind.{Kind}
+use Rattle.quality_bits.proofs.Common.{◌≡◌, ℕ, ◌<◌, ◌^◌, ◌++◌, [], ◌∷◌, ap, sym, ◌∙◌, arith, number, check_bits, generator_of, Division}
+use Rattle.quality_bits.proofs.Common.{Kind}
 use Rattle.quality_bits.proofs.Steps.{next, next_then, next_else, next_lt, check_more}
-use Rattle.quality_bits.proofs.register.Register.push.Goals as goal
 use Rattle.quality_bits.proofs.register.Register.push.Goals.{then-lead-bit, else-lead-bit}
+use Rattle.quality_bits.proofs.register.Register.push.Goals as goal
 
 -- A register stays below 2^degree: whether the bit that leaves it differs from the new one or not,
 -- the next value is the definition's, which is below that bound where the value before was.

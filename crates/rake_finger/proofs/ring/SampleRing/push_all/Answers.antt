@@ -1,10 +1,5 @@
--- Why `push_all` of `ring::SampleRing` keeps its contract.
-use Rattle.rake_finger.proofs.Common.{ints}
-use Rattle.std.proofs.lemmas.Grind.{common_steps}
-use Rattle.std.proofs.Common.{◌<◌, ◌++◌, List, length, take, sym, subst, ap, ◌∙◌, arith}
-use Rattle.std.proofs.lemmas.List.{append_assoc, take_more}
-use Rattle.chip_core.specs.declared.sample.Sample.{Sample}
-use Rattle.rake_finger.specs.Held.{HoldsLast}
+use Rattle.rake_finger.proofs.Common.{ints, common_steps, ◌<◌, ◌++◌, List, length, take, sym, subst, ap, ◌∙◌, arith, append_assoc, Sample}
+use Rattle.rake_finger.proofs.Common.{take_more, HoldsLast}
 use Rattle.rake_finger.proofs.Rings.{cell_further}
 use Rattle.rake_finger.proofs.ring.SampleRing.push_all.Goals as goal
 

@@ -1,7 +1,4 @@
--- What each pass of the loops in `push_all` of `ring::SampleRing` keeps, and why they end.
-use Rattle.std.proofs.Common.{◌≡◌, ◌+◌, ◌%◌, ◌<◌, ◌++◌, List, take}
-use Rattle.chip_core.specs.declared.sample.Sample.{Sample}
-use Rattle.rake_finger.specs.Held.{HoldsLast}
+use Rattle.rake_finger.proofs.Common.{◌≡◌, ◌+◌, ◌%◌, ◌<◌, ◌++◌, List, take, Sample, HoldsLast}
 use Rattle.rake_finger.proofs.ring.SampleRing.push_all.Given as goal
 
 abbrev pub invariant-loop-sample : goal.invariant-loop-sample

@@ -1,5 +1,4 @@
--- Why `put` of `ring::SampleRing` keeps its contract.
-use Rattle.std.proofs.Common.{◌≡◌, ◌%◌, arith, vec_len, refl}
+use Rattle.rake_finger.proofs.Common.{◌≡◌, ◌%◌, arith, vec_len, refl}
 use Rattle.rake_finger.proofs.Rings.{HoldsLast-more}
 use Rattle.rake_finger.proofs.ring.SampleRing.put.Goals as goal
 

@@ -1,6 +1,4 @@
--- Why `new` of `continued::Continued` keeps its contract.
-use Rattle.reception.proofs.Common.{refl, pos, length-replicate, symbols}
-use Rattle.rake_finger.proofs.CloseFingers.{near_are_close}
+use Rattle.reception.proofs.Common.{refl, pos, length-replicate, symbols, near_are_close}
 use Rattle.reception.proofs.SoftSums.{zeros_small}
 use Rattle.reception.proofs.continued.Continued.new.Goals as goal
 

@@ -1,8 +1,4 @@
--- Why `own_bits` of `continued::Continued` keeps its contract.
-use Rattle.reception.proofs.Common.{arith}
-use Rattle.std.proofs.lemmas.Grind.{common_steps}
-use Rattle.std.proofs.lemmas.Int.{ints}
-use Rattle.reception.proofs.Common.{◌≡◌, ℕ, ◌-◌, ◌*◌, List, take, drop, ◌∙◌, ap, refl, ℤ, own_bits, symbols}
+use Rattle.reception.proofs.Common.{arith, common_steps, ints, ◌≡◌, ℕ, ◌-◌, ◌*◌, List, take, drop, ◌∙◌, ap, refl, ℤ, own_bits, symbols}
 use Rattle.reception.proofs.Received.{own_bits_are}
 use Rattle.reception.proofs.continued.Continued.own_bits.Goals as goal
 

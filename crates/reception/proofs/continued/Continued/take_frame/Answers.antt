@@ -1,10 +1,5 @@
--- Why `take_frame` of `continued::Continued` keeps its contract.
-use Rattle.reception.proofs.Common.{arith}
-use Rattle.std.proofs.lemmas.Grind.{common_steps}
-use Rattle.std.proofs.lemmas.Int.{ints}
-use Rattle.reception.proofs.Common.{◌≡◌, ℕ, ◌+◌, length, List, ℤ, ◌∙◌, sym, ap, refl, rules, frame_chips, softs, symbols, unscrambled}
-use Rattle.reception.proofs.Common.{frame_softs, frame_start}
-use Rattle.rake_finger.proofs.FingerTimes.{in_ring, ends_step, begun_on}
+use Rattle.reception.proofs.Common.{arith, common_steps, ints, ◌≡◌, ℕ, ◌+◌, length, List, ℤ, ◌∙◌, sym, ap, refl, rules, frame_chips, softs}
+use Rattle.reception.proofs.Common.{symbols, unscrambled, frame_softs, frame_start, in_ring, ends_step, begun_on}
 use Rattle.reception.proofs.Received.{receives_frame}
 use Rattle.reception.proofs.continued.Continued.take_frame.Goals as goal
 

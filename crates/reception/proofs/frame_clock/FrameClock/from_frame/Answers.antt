@@ -1,7 +1,4 @@
--- Why `from_frame` of `frame_clock::FrameClock` keeps its contract.
-use Rattle.reception.proofs.Common.{ℕ, ◌+◌, ◌*◌, arith}
-use Rattle.rake_finger.proofs.CloseFingers.{ends_high, ends_low, some_chips, most_chips}
-use Rattle.rake_finger.proofs.FingerTimes.{times_one}
+use Rattle.reception.proofs.Common.{ℕ, ◌+◌, ◌*◌, arith, ends_high, ends_low, some_chips, most_chips, times_one}
 use Rattle.reception.proofs.frame_clock.FrameClock.from_frame.Goals as goal
 
 -- A clock that begins at a frame is sound: close fingers end the frame at most some chips away from

@@ -1,6 +1,4 @@
--- Why `new` of `frame_clock::FrameClock` keeps its contract.
-use Rattle.reception.proofs.Common.{ℕ, sym, ap, subst, AreBegun, FrameClock}
-use Rattle.rake_finger.proofs.FingerTimes.{begun_first}
+use Rattle.reception.proofs.Common.{ℕ, sym, ap, subst, AreBegun, FrameClock, begun_first}
 use Rattle.reception.proofs.frame_clock.FrameClock.new.Goals as goal
 
 pub returns-clause-begun : goal.returns-clause-begun

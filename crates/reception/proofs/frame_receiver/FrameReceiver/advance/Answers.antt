@@ -1,7 +1,4 @@
--- Why `advance` of `frame_receiver::FrameReceiver` keeps its contract.
-use Rattle.reception.proofs.Common.{◌∙◌, ◌+◌, ap, sym, frame_chips}
-use Rattle.rake_finger.proofs.CloseFingers.{later_by}
-use Rattle.rake_finger.proofs.FingerTimes.{begun_on}
+use Rattle.reception.proofs.Common.{◌∙◌, ◌+◌, ap, sym, frame_chips, later_by, begun_on}
 use Rattle.reception.proofs.frame_receiver.FrameReceiver.advance.Goals as goal
 
 -- The receiver is sound after a frame: the next one begins 24,576 chips later, on every finger and

@@ -1,9 +1,4 @@
--- Why `raw` of `frame_receiver::FrameReceiver` keeps its contract.
-use Rattle.reception.proofs.Common.{arith}
-use Rattle.std.proofs.lemmas.Grind.{common_steps}
-use Rattle.std.proofs.lemmas.Int.{ints}
-use Rattle.reception.proofs.Common.{◌∙◌, Data}
-use Rattle.rake_finger.proofs.CloseFingers.{begun_in_ring}
+use Rattle.reception.proofs.Common.{arith, common_steps, ints, ◌∙◌, Data, begun_in_ring}
 use Rattle.reception.proofs.frame_receiver.FrameReceiver.raw.Goals as goal
 
 pub combine_into-requires-clause-ring : goal.combine_into-requires-clause-ring

@@ -1,6 +1,4 @@
--- Why `tune` of `frame_receiver::FrameReceiver` keeps its contract.
-use Rattle.reception.proofs.Common.{◌*◌, ◌≤◌, arith, Data}
-use Rattle.rake_finger.proofs.CloseFingers.{close_begun, ends_high, ends_low}
+use Rattle.reception.proofs.Common.{◌*◌, ◌≤◌, arith, Data, close_begun, ends_high, ends_low}
 use Rattle.reception.proofs.frame_receiver.FrameReceiver.tune.Goals as goal
 
 -- Other fingers leave the receiver sound: the clock's numbers stay, by the new fingers the frame

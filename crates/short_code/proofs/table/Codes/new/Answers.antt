@@ -1,4 +1,3 @@
--- Why `new` of `table::Codes` keeps its contract.
 use Rattle.std.proofs.Common.{◌≡◌, ◌+◌, Bool, List, [], ◌∷◌, ◌++◌, length, refl, ap, ◌∙◌, arith, ℤ, pos, rules}
 use Rattle.std.proofs.lemmas.List.{length_push}
 use Rattle.short_code.specs.ShortCode.{pilot_chip, chip_signs, chips_to, i_lags, q_lags, code_chip}

@@ -1,4 +1,3 @@
--- What each pass of the loops in `new` of `table::Codes` keeps, and why they end.
 use Rattle.std.proofs.Common.{◌≡◌, ◌<◌, ◌+◌, ℕ, pos, length, get_or}
 use Rattle.short_code.specs.ShortCode.{pilot_chip, chip_signs, chips_to, i_lags, q_lags}
 use Rattle.short_code.proofs.RegisterChips.{Holds}

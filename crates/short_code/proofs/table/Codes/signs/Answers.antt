@@ -1,4 +1,3 @@
--- Why `signs` of `table::Codes` keeps its contract.
 use Rattle.std.proofs.Common.{◌≡◌, length, ap, ◌∙◌, arith}
 use Rattle.short_code.proofs.Signs.{length-pilot_signs, get_or-pilot_signs}
 use Rattle.short_code.proofs.table.Codes.signs.Goals as goal

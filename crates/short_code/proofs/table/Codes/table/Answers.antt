@@ -1,4 +1,3 @@
--- Why `table` of `table::Codes` keeps its contract.
 use Rattle.std.proofs.Common.{length, ap, ◌∙◌}
 use Rattle.short_code.proofs.Signs.{length-pilot_signs}
 use Rattle.short_code.proofs.table.Codes.table.Goals as goal

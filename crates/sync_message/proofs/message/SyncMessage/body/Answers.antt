@@ -1,12 +1,5 @@
--- Why `body` of `message::SyncMessage` keeps its contract.
-use Rattle.std.proofs.Common.{◌≡◌, ◌++◌, List, Bool, length, sym, ap, subst, ◌∙◌, arith}
-use Rattle.chip_core.specs.Bits.{binary}
-use Rattle.chip_core.proofs.FieldLists.{length-binary}
-use Rattle.message_layout.specs.Spelling.{spelling, IsOf}
-use Rattle.quality_bits.specs.Capsules.{FillsCapsule}
-use Rattle.quality_bits.specs.declared.kind.Kind.TheVariants.{M30}
-use Rattle.sync_message.specs.Layouts.{sync_message_shape}
-use Rattle.sync_message.specs.SyncMessage.{sync_body}
+use Rattle.sync_message.proofs.Common.{◌≡◌, ◌++◌, List, Bool, length, sym, ap, subst, ◌∙◌, arith, binary, length-binary, spelling, IsOf}
+use Rattle.sync_message.proofs.Common.{FillsCapsule, M30, sync_message_shape, sync_body}
 use Rattle.sync_message.proofs.ByLayout.{body_room, body_written, sync_lawful}
 use Rattle.sync_message.proofs.message.SyncMessage.body.Goals as goal
 

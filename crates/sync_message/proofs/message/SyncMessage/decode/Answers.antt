@@ -1,13 +1,10 @@
--- Why `decode` of `message::SyncMessage` keeps its contract.
-use Rattle.std.proofs.Common.{rules, refl, ◌≡◌, None, Some, Ok, Err}
+use Rattle.sync_message.proofs.Common.{rules, refl, ◌≡◌, None, Some, Ok, Err, M30, sync_capsule, IsSyncMessage}
 use Rattle.quality_bits.proofs.Decoded.{Tells, bad_body_told, told, uncapsuled}
-use Rattle.quality_bits.specs.declared.kind.Kind.TheVariants.{M30}
 use Rattle.quality_bits.specs.declared.message_fault.MessageFault.TheVariants.{BadBody}
 use Rattle.sync_message.specs.Reading.{sync_reading}
-use Rattle.sync_message.specs.SyncMessage.{sync_capsule, IsSyncMessage}
 use Rattle.sync_message.proofs.Readings.{are_read}
-use Rattle.sync_message.proofs.message.SyncMessage.decode.Goals as goal
 use Rattle.sync_message.proofs.message.SyncMessage.decode.Goals.{After-from_residual, In-None, In-Some}
+use Rattle.sync_message.proofs.message.SyncMessage.decode.Goals as goal
 
 -- a fault is no value
 err_is_no_ok : {A E : Type 0} {value : A} {fault : E} → ¬ (Err fault ≡ Ok value)

@@ -1,7 +1,5 @@
--- Why `append_to` of `body::TrafficBody` keeps its contract.
-use Rattle.traffic_message.proofs.Common.{◌++◌, length, refl, ap, ◌∙◌, arith}
+use Rattle.traffic_message.proofs.Common.{◌++◌, length, refl, ap, ◌∙◌, arith, form_in}
 use Rattle.traffic_message.proofs.ByLayout.{lawful, written}
-use Rattle.traffic_message.specs.Layouts.{form_in}
 use Rattle.traffic_message.proofs.body.TrafficBody.append_to.Goals as goal
 
 pub append-requires-clause-lawful : goal.append-requires-clause-lawful

@@ -1,4 +1,3 @@
--- Why `read` of `body::TrafficBody` keeps its contract.
 use Rattle.traffic_message.proofs.Common.{◌≡◌, Some, None, drop, ap, ◌∙◌}
 use Rattle.traffic_message.proofs.ByLayout.{lawful, told, told_is}
 use Rattle.traffic_message.proofs.body.TrafficBody.read.Goals as goal

@@ -1,4 +1,3 @@
--- Why `fields` of `handoff::HandoffDirection` keeps its contract.
 use Rattle.traffic_message.proofs.Common.{◌<◌, arith, All-from_get_or}
 use Rattle.traffic_message.proofs.ByLayout.{combs_paired, record_fits, rows_paired}
 use Rattle.traffic_message.proofs.handoff.HandoffDirection.fields.Goals as goal

@@ -1,4 +1,3 @@
--- Why `of` of `handoff::HandoffDirection` keeps its contract.
 use Rattle.traffic_message.proofs.ByLayout.{search_fits}
 use Rattle.traffic_message.specs.Handoff.{direction_of, search_from}
 use Rattle.traffic_message.proofs.handoff.HandoffDirection.of.Goals as goal

@@ -1,10 +1,8 @@
--- Why `decode` of `message::TrafficMessage` keeps its contract.
-use Rattle.std.proofs.Common.{Ok, Err}
-use Rattle.traffic_message.proofs.Common.{rules, M16, IsTrafficMessage, traffic_capsule, traffic_reading, Tells, bad_body_told, told}
-use Rattle.traffic_message.proofs.Common.{uncapsuled, ◌≡◌}
+use Rattle.traffic_message.proofs.Common.{Ok, Err, rules, M16, IsTrafficMessage, traffic_capsule, traffic_reading, Tells, bad_body_told}
+use Rattle.traffic_message.proofs.Common.{told, uncapsuled, ◌≡◌}
 use Rattle.traffic_message.proofs.Readings.{are_read}
-use Rattle.traffic_message.proofs.message.TrafficMessage.decode.Goals as goal
 use Rattle.traffic_message.proofs.message.TrafficMessage.decode.Goals.{After-from_residual, After-ok_or}
+use Rattle.traffic_message.proofs.message.TrafficMessage.decode.Goals as goal
 
 -- a fault is no value
 err_is_no_ok : {A E : Type 0} {value : A} {fault : E} → ¬ (Err fault ≡ Ok value)

@@ -1,4 +1,3 @@
--- Why `encode` of `message::TrafficMessage` keeps its contract.
 use Rattle.traffic_message.proofs.Common.{ap, ◌∙◌, capsule, M16, traffic_capsule}
 use Rattle.traffic_message.proofs.message.TrafficMessage.encode.Goals as goal
 

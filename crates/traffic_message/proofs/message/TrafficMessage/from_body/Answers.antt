@@ -1,4 +1,3 @@
--- Why `from_body` of `message::TrafficMessage` keeps its contract.
 use Rattle.traffic_message.proofs.Common.{ap, ◌∙◌, traffic_body_reading}
 use Rattle.traffic_message.proofs.Readings.{body_found, body_only}
 use Rattle.traffic_message.proofs.message.TrafficMessage.from_body.Goals as goal

@@ -1,9 +1,8 @@
--- Why `read` of `message::TrafficMessage` keeps its contract.
-use Rattle.traffic_message.proofs.Common.{◌≡◌, ℕ, true, Option, None, Some, drop, length, get_or, sym, ap, ◌∙◌, arith}
-use Rattle.traffic_message.proofs.Common.{length-drop, is_traffic_body, traffic_body_reading, mapped, part_reading, TrafficBody}
+use Rattle.traffic_message.proofs.Common.{◌≡◌, ℕ, true, Option, None, Some, drop, length, get_or, sym, ap, ◌∙◌, arith, length-drop, mapped}
+use Rattle.traffic_message.proofs.Common.{is_traffic_body, traffic_body_reading, part_reading, TrafficBody}
 use Rattle.traffic_message.proofs.Bodies.{AreParts, are_parts, is_body_parts, message, message_there, no_body, no_head, part_read}
-use Rattle.traffic_message.proofs.message.TrafficMessage.read.Goals as goal
 use Rattle.traffic_message.proofs.message.TrafficMessage.read.Goals.{After-head_from-head}
+use Rattle.traffic_message.proofs.message.TrafficMessage.read.Goals as goal
 
 -- what is known after the head
 tested : (c : After-head_from-head) → is_traffic_body c.args.body.now ≡ true

@@ -1,11 +1,10 @@
--- Why `spelled_body` of `message::TrafficMessage` keeps its contract.
 use Rattle.traffic_message.proofs.Common.{◌≡◌, ◌+◌, ◌≤◌, ◌++◌, List, ◌∷◌, Bool, length, refl, sym, ap, subst, ◌∙◌, arith, FillsCapsule, M16}
 use Rattle.traffic_message.proofs.Common.{bits_of, head_contents, head_shape, head_values, kind_of, length-in_widths, traffic_message_body}
 use Rattle.traffic_message.proofs.Common.{spelling, typed_widths, Message}
 use Rattle.traffic_message.proofs.Bodies.{length-message, message_written}
 use Rattle.traffic_message.proofs.ByLayout.{head_lawful, head_written}
-use Rattle.traffic_message.proofs.message.TrafficMessage.spelled_body.Goals as goal
 use Rattle.traffic_message.proofs.message.TrafficMessage.spelled_body.Goals.{After-append, After-contents}
+use Rattle.traffic_message.proofs.message.TrafficMessage.spelled_body.Goals as goal
 
 -- the type and the head, which have 17 bits
 head_is : (c : After-contents) →

@@ -1,4 +1,3 @@
--- Why `fields` of `neighbors::NeighborUpdate` keeps its contract.
 use Rattle.traffic_message.proofs.Common.{◌<◌, arith, All-from_get_or}
 use Rattle.traffic_message.proofs.ByLayout.{neighbor_fits}
 use Rattle.traffic_message.proofs.neighbors.NeighborUpdate.fields.Goals as goal

@@ -1,6 +1,5 @@
--- Why `bits` of `trial::Draws` keeps its contract.
-use Rattle.trial_link.proofs.Common.{◌≡◌, ◌+◌, ◌%◌, ◌==◌, ◌++◌, ◌∷◌, [], length, sym, ap, ◌∙◌, arith, List, Bool, ℕ, past_draw}
-use Rattle.trial_link.proofs.Common.{past_draws, bits_drawn, drawn}
+use Rattle.trial_link.proofs.Common.{◌≡◌, ◌+◌, ◌%◌, ◌==◌, ◌++◌, ◌∷◌, [], length, sym, ap, ◌∙◌, arith, List, Bool, ℕ, past_draw, past_draws}
+use Rattle.trial_link.proofs.Common.{bits_drawn, drawn}
 use Rattle.trial_link.proofs.TrialDraws.{bits_more, draws_more, length-bits_drawn, no_bits_drawn, no_draws}
 use Rattle.trial_link.proofs.trial.Draws.bits.Goals as goal
 

@@ -1,4 +1,3 @@
--- What each pass of the loops in `bits` of `trial::Draws` keeps, and why they end.
 use Rattle.trial_link.proofs.Common.{◌≡◌, length, past_draws, bits_drawn}
 use Rattle.trial_link.proofs.trial.Draws.bits.Given as goal
 

@@ -1,8 +1,4 @@
--- Why `coming` of `channel_receiver::ChannelReceiver` keeps its contract.
-use Rattle.tuned_listener.proofs.Common.{arith}
 use Rattle.tuned_listener.proofs.FramesGiven.{frame_is}
-use Rattle.reception.proofs.SoftSums.{frame_small}
-use Rattle.rake_finger.specs.declared.form.Form.TheVariants.{Data}
 use Rattle.tuned_listener.proofs.channel_receiver.ChannelReceiver.coming.Goals as goal
 
 pub returns-clause-value : goal.returns-clause-value

@@ -1,8 +1,5 @@
--- Why `open` of `channel_receiver::ChannelReceiver` keeps its contract.
-use Rattle.tuned_listener.proofs.Common.{◌≡◌, ◌∙◌, ℕ, ◌+◌, ◌*◌, ◌≤◌, ap, arith, false, refl, subst, Data, channel_stream, clock_from}
-use Rattle.tuned_listener.proofs.Common.{first_frame, AreNear, FrameClock, Scrambling, after}
-use Rattle.heard_events.proofs.ChannelFrames.{first_by}
-use Rattle.rake_finger.proofs.CloseFingers.{near_are_close}
+use Rattle.tuned_listener.proofs.Common.{◌≡◌, ◌∙◌, ℕ, ◌+◌, ◌*◌, ◌≤◌, ap, arith, false, refl, subst, Data, channel_stream, clock_from, after}
+use Rattle.tuned_listener.proofs.Common.{first_frame, AreNear, FrameClock, Scrambling, first_by, near_are_close}
 use Rattle.tuned_listener.proofs.FramesGiven.{none_given}
 use Rattle.tuned_listener.proofs.channel_receiver.ChannelReceiver.open.Goals as goal
 

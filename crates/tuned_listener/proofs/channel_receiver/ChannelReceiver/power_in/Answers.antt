@@ -1,6 +1,4 @@
--- Why `power_in` of `channel_receiver::ChannelReceiver` keeps its contract.
-use Rattle.tuned_listener.proofs.Common.{arith, ints}
-use Rattle.std.proofs.lemmas.Grind.{common_steps}
+use Rattle.tuned_listener.proofs.Common.{arith, ints, common_steps}
 use Rattle.tuned_listener.proofs.channel_receiver.ChannelReceiver.power_in.Goals as goal
 
 pub push-requires-clause-below : goal.push-requires-clause-below

@@ -1,6 +1,4 @@
--- Why `write` of `frame_writer::FrameWriter` keeps its contract.
-use Rattle.tuned_listener.proofs.Common.{arith, ints}
-use Rattle.std.proofs.lemmas.Grind.{common_steps}
+use Rattle.tuned_listener.proofs.Common.{arith, ints, common_steps}
 use Rattle.tuned_listener.proofs.frame_writer.FrameWriter.write.Goals as goal
 
 pub returns-in-Slots-clause-ready : goal.returns-in-Slots-clause-ready

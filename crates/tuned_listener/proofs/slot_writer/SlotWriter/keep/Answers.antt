@@ -1,7 +1,4 @@
--- Why `keep` of `slot_writer::SlotWriter` keeps its contract.
-use Rattle.tuned_listener.proofs.Common.{arith, ints}
-use Rattle.std.proofs.lemmas.Grind.{common_steps}
-use Rattle.tuned_listener.proofs.Common.{◌≡◌, ◌⊎◌, ◌≤◌, ◌+◌, ◌*◌, ◌∙◌, ℕ, ap, length, refl, rules, sym}
+use Rattle.tuned_listener.proofs.Common.{arith, ints, common_steps, ◌≡◌, ◌⊎◌, ◌≤◌, ◌+◌, ◌*◌, ◌∙◌, ℕ, ap, length, refl, rules, sym}
 use Rattle.tuned_listener.proofs.SlotFrames.{holds_put, ready_put}
 use Rattle.tuned_listener.proofs.slot_writer.SlotWriter.keep.Goals.{After-copy_from_slice}
 use Rattle.tuned_listener.proofs.slot_writer.SlotWriter.keep.Goals as goal

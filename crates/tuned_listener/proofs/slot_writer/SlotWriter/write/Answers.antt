@@ -1,6 +1,4 @@
--- Why `write` of `slot_writer::SlotWriter` keeps its contract.
-use Rattle.tuned_listener.proofs.Common.{arith, ints}
-use Rattle.std.proofs.lemmas.Grind.{common_steps}
+use Rattle.tuned_listener.proofs.Common.{arith, ints, common_steps}
 use Rattle.tuned_listener.proofs.slot_writer.SlotWriter.write.Goals as goal
 
 pub returns-clause-cycle : goal.returns-clause-cycle

@@ -1,10 +1,6 @@
--- Why `write_slot` of `slot_writer::SlotWriter` keeps its contract.
-use Rattle.tuned_listener.proofs.Common.{ints}
-use Rattle.std.proofs.lemmas.Grind.{common_steps}
-use Rattle.tuned_listener.proofs.Common.{◌≡◌, true, length, rules, arith, sym, subst, Some, None, nat_lt, if◌then◌else◌, Appends, List}
-use Rattle.tuned_listener.proofs.Common.{SoftFrame, HoldsSlot, AppendsPrefix, paging_rate, is_monitored}
+use Rattle.tuned_listener.proofs.Common.{ints, common_steps, ◌≡◌, true, length, rules, arith, sym, subst, Some, None, nat_lt, if◌then◌else◌}
+use Rattle.tuned_listener.proofs.Common.{Appends, List, SoftFrame, HoldsSlot, AppendsPrefix, paging_rate, is_monitored, on_err, on_ok}
 use Rattle.tuned_listener.proofs.HeardSlots.{slot_told, spans_small}
-use Rattle.event_tap.proofs.Prefixes.{on_err, on_ok}
 use Rattle.tuned_listener.proofs.slot_writer.SlotWriter.write_slot.Goals as goal
 
 pub slot_bits-bits-requires-clause-bound : goal.slot_bits-bits-requires-clause-bound

@@ -1,7 +1,4 @@
--- Why `opened` of `tuned::Hearer` keeps its contract.
-use Rattle.tuned_listener.proofs.Common.{arith, ints}
-use Rattle.std.proofs.lemmas.Grind.{common_steps}
-use Rattle.tuned_listener.proofs.Common.{◌≡◌, [], subst, sym, Channel, IsTunedTo, soft_frames}
+use Rattle.tuned_listener.proofs.Common.{arith, ints, common_steps, ◌≡◌, [], subst, sym, Channel, IsTunedTo, soft_frames}
 use Rattle.tuned_listener.proofs.TunedListeners.{can_open, lawful_channel, was_told}
 use Rattle.tuned_listener.proofs.tuned.Hearer.opened.Goals as goal
 

@@ -1,6 +1,4 @@
--- Why `hear` of `tuned::TunedListener` keeps its contract.
-use Rattle.tuned_listener.proofs.Common.{◌++◌, take, take_rest}
-use Rattle.event_tap.proofs.Prefixes.{on_err, on_ok}
+use Rattle.tuned_listener.proofs.Common.{◌++◌, take, take_rest, on_err, on_ok}
 use Rattle.tuned_listener.proofs.TunedListeners.{cut_after, tells_after}
 use Rattle.tuned_listener.proofs.tuned.TunedListener.hear.Goals as goal
 

@@ -1,9 +1,5 @@
--- Why `open` of `tuned::TunedListener` keeps its contract.
-use Rattle.tuned_listener.proofs.Common.{arith, ints}
-use Rattle.std.proofs.lemmas.Grind.{common_steps}
-use Rattle.tuned_listener.proofs.Common.{[], refl}
+use Rattle.tuned_listener.proofs.Common.{arith, ints, common_steps, [], refl, none_marked}
 use Rattle.tuned_listener.proofs.TunedListeners.{holds_nothing}
-use Rattle.heard_events.proofs.MarkGrowth.{none_marked}
 use Rattle.tuned_listener.proofs.TunedMarks.{stands_near}
 use Rattle.tuned_listener.proofs.tuned.TunedListener.open.Goals as goal
 

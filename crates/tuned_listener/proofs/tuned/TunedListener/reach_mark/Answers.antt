@@ -1,6 +1,4 @@
--- Why `reach_mark` of `tuned::TunedListener` keeps its contract.
-use Rattle.std.proofs.lemmas.Bool.{false≢true}
-use Rattle.tuned_listener.proofs.Common.{◌≡◌, ◌++◌, ◌∙◌, List, None, refl, rules, sym, take, Sample}
+use Rattle.tuned_listener.proofs.Common.{false≢true, ◌≡◌, ◌++◌, ◌∙◌, List, None, refl, rules, sym, take, Sample}
 use Rattle.tuned_listener.proofs.TunedListeners.{ahead_sound, listens_after, listens_ahead, silent_ahead, silent_at_mark, waits}
 use Rattle.tuned_listener.proofs.tuned.TunedListener.reach_mark.Goals as goal
 

@@ -1,8 +1,4 @@
--- Why `write_frames` of `tuned::TunedListener` keeps its contract.
-use Rattle.tuned_listener.proofs.Common.{arith, ints}
-use Rattle.std.proofs.lemmas.Grind.{common_steps}
-use Rattle.tuned_listener.proofs.Common.{refl}
-use Rattle.event_tap.proofs.Prefixes.{on_err, on_ok}
+use Rattle.tuned_listener.proofs.Common.{arith, ints, common_steps, refl, on_err, on_ok}
 use Rattle.tuned_listener.proofs.TunedListeners.{ready_writer, tells_frames_after, tells_cut, tells_nothing}
 use Rattle.tuned_listener.proofs.tuned.TunedListener.write_frames.Goals as goal
 

@@ -1,4 +1,3 @@
--- Why `open` of `tuner::Tuner` keeps its contract.
 use Rattle.tuned_listener.proofs.Common.{arith, length, sym}
 use Rattle.tuned_listener.proofs.FramesGiven.{none_within}
 use Rattle.tuned_listener.proofs.tuner.Tuner.open.Goals as goal

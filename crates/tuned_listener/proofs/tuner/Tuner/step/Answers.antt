@@ -1,10 +1,6 @@
--- Why `step` of `tuner::Tuner` keeps its contract.
-use Rattle.tuned_listener.proofs.Common.{ints}
-use Rattle.std.proofs.lemmas.Grind.{common_steps}
-use Rattle.tuned_listener.proofs.Common.{◌≡◌, ◌∙◌, ℕ, ◌-◌, ◌++◌, ◌∷◌, [], List, append-nil, ap, arith, length, length-take, refl, subst}
-use Rattle.tuned_listener.proofs.Common.{sym, take, take_all, HasGiven, IsTunedTo, soft_frames, Channel, ChannelReceiver, Mark, Sample}
-use Rattle.tuned_listener.proofs.Common.{SoftFrame, Tuning}
-use Rattle.std.proofs.lemmas.Option.{none-some}
+use Rattle.tuned_listener.proofs.Common.{ints, common_steps, ◌≡◌, ◌∙◌, ℕ, ◌-◌, ◌++◌, ◌∷◌, [], List, append-nil, ap, arith, length, refl}
+use Rattle.tuned_listener.proofs.Common.{length-take, subst, sym, take, take_all, HasGiven, IsTunedTo, soft_frames, Channel, Mark, Sample}
+use Rattle.tuned_listener.proofs.Common.{ChannelReceiver, SoftFrame, Tuning, none-some}
 use Rattle.tuned_listener.proofs.FramesGiven.{step_frame, step_none}
 use Rattle.tuned_listener.proofs.tuner.Tuner.step.Goals as goal
 

@@ -1,0 +1,6 @@
+-- What the definitions of this crate cite of the crates below, and of its own types.
+pub use Rattle.chip_core.specs.Complex.{norm, plus, sum_of}
+pub use Rattle.chip_core.specs.Sums.{first_greatest, first_places, total}
+pub use Rattle.chip_core.specs.declared.sample.Pair.{Pair}
+pub use Rattle.chip_core.specs.declared.sample.Sample.{Sample}
+pub use Rattle.short_code.specs.Despread.{IsUnit, despread, turned}
