@@ -63,7 +63,7 @@ impl Cell {
         self.samples.header()
     }
 
-    /// How many samples the cell has still to give.
+    /// Returns how many samples the cell has still to give.
     pub fn left(&self) -> u64
         ensures { result + self.now.given ≡ self.now.plan.link.samples }
     {

@@ -1,4 +1,4 @@
--- What the source and the sink in memory hold.
+-- The states of the source and the sink in memory.
 use Rattle.std.specs.Prelude.{ℕ, ◌-◌, min, List, ◌++◌, length, drop}
 use Rattle.cdma_io.specs.Outside.{next_count}
 

@@ -1,4 +1,4 @@
--- What calls on the outside say: which bytes moved, where they are told, and why a call failed.
+-- The results of calls of the operating system: which bytes moved, if known, and why a call failed.
 use Rattle.std.specs.Prelude.{◌≡◌, ℕ, ◌+◌, ◌-◌, ◌^◌, ◌<◌, ◌≤◌, min, List, length, take, Option}
 use Rattle.std.specs.Prelude.{Result, OnErr, IfOk, MatchResult}
 use Rattle.std.specs.Io.KnownBytes.{Appends, Consumes}

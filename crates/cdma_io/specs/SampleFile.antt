@@ -1,4 +1,4 @@
--- The sample file: its header and samples as bytes, and what a reader of it answers.
+-- The sample file: its header and samples as bytes, and what its reader returns.
 use Rattle.std.specs.Prelude.{◌≡◌, ◌≢◌, ℕ, ◌+◌, ◌*◌, ◌-◌, ◌/◌, ◌%◌, ◌<◌, ◌≤◌, ◌==◌, nat_eq, nat_le}
 use Rattle.std.specs.Prelude.{nat_lt, Bool, true, if◌then◌else◌, List, [], ◌∷◌, ◌++◌, length, drop}
 use Rattle.std.specs.Prelude.{All, Option, None, Some, Result, Ok, Err, OnOk, OnErr, IfErr, ℤ, ⊤}

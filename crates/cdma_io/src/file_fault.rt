@@ -8,7 +8,7 @@ use thiserror::Error;
 
 /// Why a sample file couldn't be read.
 ///
-/// Its text is the kind of the fault alone; the place is [`FileFault::place`].
+/// Its text names only the kind of fault; [`FileFault::place`] is the place.
 #[derive(Clone, Copy, PartialEq, Eq, Debug, Error)]
 pub enum FileFault {
     /// The first four bytes aren't `IS95`.

@@ -6,10 +6,10 @@ ghost use Rattle.cdma_io.specs.Outside.{ConsumesAtMost, ConsumesFewer, HasCause}
 
 use crate::source::{Failed, Source};
 
-/// Takes bytes until the buffer is full or the source ends: how many, which then stand at the
-/// buffer's front. Fewer than there is room for means that the source is at its end.
+/// Takes bytes into the front of the buffer until it is full or the source ends, and returns how
+/// many. Fewer than the buffer's length means that the source is at its end.
 ///
-/// The first failed take ends it with [`Failed`]; what was taken before it is lost.
+/// Returns [`Failed`] at the first failed take; the bytes taken before it are lost.
 pub fn fill<S: Source>(source: &mut S, buf: &mut [u8]) -> Result<usize, Failed>
     ensures bound { IfOk result (λ n. n ≤ length buf.new) }
     ensures bytes { IfOk result (λ n. Consumes (S.rest source.old) (S.rest source.new)

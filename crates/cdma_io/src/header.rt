@@ -29,7 +29,7 @@ pub struct Header {
 }
 
 impl Header {
-    /// How wide each part of the samples is: 8 bits in version 2, and else 16.
+    /// Returns the width of each part of a sample: 8 bits in version 2, otherwise 16.
     pub fn width(&self) -> Width
         ensures { result ≡ width_of self.now }
     {
@@ -37,7 +37,7 @@ impl Header {
     }
 }
 
-/// The 16 bytes of a header.
+/// Returns the 16 bytes of a header.
 pub fn header_bytes(header: &Header) -> [u8; 16]
     ensures { result ≡ header_spelling header.now }
 {
@@ -56,7 +56,7 @@ fn flags_for(header: &Header) -> u16
     flag_for(header.check30) + 2 * flag_for(header.check16)
 }
 
-/// 1 where check bits are complemented.
+/// Returns 1 if check bits are complemented, otherwise 0.
 fn flag_for(form: CheckForm) -> u16
     ensures value { result ≡ form_flag form }
     ensures most { result ≤ 1 }
@@ -67,7 +67,7 @@ fn flag_for(form: CheckForm) -> u16
     }
 }
 
-/// The header that 16 bytes hold, or the first fault in them.
+/// Returns the header that 16 bytes spell, or the first fault in them.
 pub fn parse_header(bytes: &[u8]) -> Result<Header, FileFault>
     requires { length bytes.now ≡ HEADER_LEN }
     ensures value { result ≡ opening bytes.now }
@@ -98,7 +98,7 @@ pub fn parse_header(bytes: &[u8]) -> Result<Header, FileFault>
     })
 }
 
-/// Complemented where the flag is set.
+/// Returns the complemented form if the flag is set.
 fn check_form(flag: bool) -> CheckForm
     ensures { result ≡ check_form_of flag }
 {

@@ -1,4 +1,4 @@
-//! Laws of the definitions alone. Each function's clause is the law, and its body is empty.
+//! Laws of the definitions. Each function's clause is the law, and its body is empty.
 
 ghost use Rattle.std.specs.Prelude.{◌≡◌, ◌<◌, ◌≤◌, ◌++◌, ℕ, ◌*◌, [], List, All, Option, Some, Ok};
 ghost use Rattle.std.specs.Prelude.{Result, MatchResult, length, take, drop};
@@ -26,7 +26,7 @@ pub fn spelled_header_opens()
         opening (header_spelling header ++ rest) ≡ Ok header }
 {}
 
-/// Bytes that open begin with the spelling of their header, which is lawful.
+/// Bytes that open as a file begin with the spelling of their header, which is lawful.
 pub fn opened_header_is_spelled()
     ensures { (bytes : List ℕ) (header : Header) →
         All (λ b. b < 256) bytes → opening bytes ≡ Ok header →
@@ -41,8 +41,8 @@ pub fn file_opens()
         MatchResult answer (λ reading. reading.header ≡ header) (λ e. e ≡ FileFault.ReadFault) }
 {}
 
-/// Samples that were read where the source has the bytes of samples left are the first of these,
-/// and the source has the bytes of the others left.
+/// If the source's remaining bytes spell samples, those that are read are the first of these, and
+/// the remaining bytes spell the others.
 pub fn file_is_read_in_order()
     ensures { (width : Width) (samples next : List Sample) (new : Option (List ℕ)) →
         All (HasBits width) samples → All (HasBits width) next →
@@ -53,7 +53,7 @@ pub fn file_is_read_in_order()
         × (new ≡ Some (flat_map (sample_spelling width) (drop (length next) samples))) }
 {}
 
-/// No read within the samples that the source has left is cut short, unless a read failed.
+/// No read within the source's remaining samples is cut short, unless a read failed.
 pub fn file_is_not_short()
     ensures { (e : FileFault) (width : Width) (samples : List Sample) (count from : ℕ)
         (new : Option (List ℕ)) →
@@ -63,7 +63,7 @@ pub fn file_is_not_short()
         e ≡ FileFault.ReadFault }
 {}
 
-/// No further byte comes where the source has none left, unless a read failed.
+/// No further byte comes from a source at its end, unless a read failed.
 pub fn file_is_not_long()
     ensures { (e : FileFault) (end : ℕ) → RunsOn e end (Some []) → e ≡ FileFault.ReadFault }
 {}

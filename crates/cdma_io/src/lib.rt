@@ -1,10 +1,9 @@
-//! The outside: sources and sinks of bytes that count their faults, and the sample file.
+//! Input and output: sources and sinks of bytes that count their faults, and the sample file.
 //!
-//! All that the program reads comes through a [`Source`], and all that it writes goes through a
-//! [`Sink`]. Their contracts say which bytes moved, where that is told, and that a call fails only
-//! where the count of faults rose. On a source stands the reader of sample files,
-//! [`SampleReader`], whose contracts say that the samples read are those that the file's bytes
-//! spell, and which fault a bad file has.
+//! The program reads everything through a [`Source`] and writes everything through a [`Sink`].
+//! Their contracts state which bytes moved, if that is known, and that a call fails only if the
+//! count of faults rose. [`SampleReader`] reads a sample file from a source: by its contracts the
+//! samples are those that the file's bytes spell, and a bad file gets its fault.
 #![tactic(auto)]
 
 mod file_fault;

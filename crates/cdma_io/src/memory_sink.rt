@@ -13,10 +13,10 @@ use chip_core::OutOfMemory;
 use std::alloc::Global;
 use std::marker::Model;
 
-/// A sink that keeps its bytes in memory, has room for so many, takes at most so many a call and
-/// fails at chosen calls.
+/// A sink that keeps its bytes in memory, with a fixed room, a limit per call, and chosen calls
+/// that fail.
 ///
-/// It always tells what it was given.
+/// Contracts always see the bytes that it was given.
 #[derive(Drop)]
 pub struct MemorySink {
     bytes: Vec<u8>,
@@ -44,11 +44,10 @@ impl Model for MemorySink {
 }
 
 impl MemorySink {
-    /// An empty sink with room for `room` bytes, which takes at most `piece` of them a call and
-    /// fails at the calls whose numbers are listed, counted from 1. The number of a call stops at
-    /// 2^64 - 1.
+    /// Makes an empty sink with room for `room` bytes. It takes at most `piece` bytes per call and
+    /// fails at the calls whose numbers, from 1, are listed. The count of calls stops at 2^64 - 1.
     ///
-    /// All of its memory is taken here. [`OutOfMemory`]: there was none.
+    /// Allocates all of its memory; returns [`OutOfMemory`] if that fails.
     pub fn new(
         alloc: Global,
         room: usize,
@@ -76,7 +75,7 @@ impl MemorySink {
         })
     }
 
-    /// The bytes that it was given, in order.
+    /// Returns the bytes that it was given, in order.
     pub fn bytes(&self) -> &[u8]
         ensures { result.now ≡ self.now.bytes }
     {

@@ -10,10 +10,9 @@ ghost use Rattle.cdma_io.specs.Memory.{SourceState, given, given_count, source_f
 use crate::source::{Failed, Source};
 use std::marker::Model;
 
-/// A source over bytes in memory, which gives at most so many bytes a call and fails at chosen
-/// calls.
+/// A source over bytes in memory, with a limit per call and chosen calls that fail.
 ///
-/// It always tells what is left.
+/// Contracts always see the bytes that are left.
 #[derive(Drop)]
 pub struct MemorySource {
     bytes: Vec<u8>,
@@ -39,8 +38,8 @@ impl Model for MemorySource {
 }
 
 impl MemorySource {
-    /// A source of these bytes, which gives at most `piece` of them a call and fails at the calls
-    /// whose numbers are listed, counted from 1. The number of a call stops at 2^64 - 1.
+    /// Makes a source of these bytes. It gives at most `piece` bytes per call and fails at the
+    /// calls whose numbers, from 1, are listed. The count of calls stops at 2^64 - 1.
     pub fn new(bytes: Vec<u8>, piece: usize, failing: Vec<u64>) -> MemorySource
         requires { 1 ≤ piece }
         ensures { result ≡ record {

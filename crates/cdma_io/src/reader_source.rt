@@ -8,10 +8,10 @@ ghost use Rattle.cdma_io.specs.Outside.{CountsFaults, HasCause};
 use crate::source::{Failed, Source};
 use std::io::Read;
 
-/// A source over a reader: it tells what the reader does, which is nothing over standard input.
+/// A source over a reader. Contracts see the remaining bytes if the reader specifies them, which
+/// standard input does not.
 ///
-/// The count of faults is 0 when it is made. Each error of the reader raises it, until it stands at
-/// the last number of 64 bits.
+/// The count of faults starts at 0. Each error of the reader raises it, up to 2^64 - 1.
 #[derive(Drop)]
 pub struct ReaderSource<R: Read> {
     reader: R,
@@ -19,7 +19,7 @@ pub struct ReaderSource<R: Read> {
 }
 
 impl<R: Read> ReaderSource<R> {
-    /// A source over this reader.
+    /// Makes a source over this reader.
     pub fn new(reader: R) -> ReaderSource<R>
         ensures rest { ⟦<ReaderSource<R> as Source>⟧.rest result ≡ R.remaining reader }
         ensures faults { ⟦<ReaderSource<R> as Source>⟧.faults result ≡ 0 }

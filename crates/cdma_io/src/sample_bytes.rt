@@ -35,7 +35,7 @@ fn narrow_bytes(sample: Sample) -> [u8; 2]
     [part_byte(sample.i), part_byte(sample.q)]
 }
 
-/// Spells a sample in as many bytes as it has.
+/// Spells a sample in the bytes of its width.
 fn spell_sample(width: Width, sample: Sample, bytes: &mut [u8])
     requires fits { HasBits width sample }
     requires bytes { length bytes.old ≡ sample_len width }
@@ -47,11 +47,11 @@ fn spell_sample(width: Width, sample: Sample, bytes: &mut [u8])
     }
 }
 
-/// Spells samples as a file of this width holds them: each part in two's complement, the high byte
-/// first, `i` before
-/// `q`.
+/// Spells samples as in a file of this width: each part in two's complement, high byte first, `i`
+/// before `q`.
 ///
-/// `bytes` has just as many bytes as the samples: four for each with 16 bits, and two with 8 bits.
+/// `bytes` has exactly the length of the samples: four bytes per sample with 16 bits, two with 8
+/// bits.
 pub fn sample_bytes_into(width: Width, samples: &[Sample], bytes: &mut [u8])
     requires fit { All (HasBits width) samples.now }
     requires room { length bytes.old ≡ sample_len width * length samples.now }

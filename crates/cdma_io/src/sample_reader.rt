@@ -18,10 +18,10 @@ use crate::width::bytes_for;
 use chip_core::Sample;
 use std::marker::Model;
 
-/// A reader of a sample file: it has read the header, and gives the samples in order.
+/// A reader of a sample file: it has read the header and returns the samples in order.
 ///
-/// It is used with the one source that it was opened on. After a fault it answers that fault for
-/// good, and takes nothing more from the source.
+/// Use it only with the source that it was opened on. After a fault it returns that fault from
+/// every call and takes nothing more from the source.
 #[derive(Drop)]
 pub struct SampleReader {
     header: Header,
@@ -40,10 +40,9 @@ impl Model for SampleReader {
 impl SampleReader {
     /// Reads a file's header, 16 bytes.
     ///
-    /// The fault is the first of these: [`FileFault::ReadFault`] where a take failed,
-    /// [`FileFault::Short`] where the source ends before the 16 bytes, and then
-    /// [`FileFault::Magic`], [`FileFault::Version`], [`FileFault::Flags`] and
-    /// [`FileFault::Count`] by what the bytes hold.
+    /// The fault is the first of these: [`FileFault::ReadFault`] if a take failed,
+    /// [`FileFault::Short`] if the source ends before the 16 bytes, then [`FileFault::Magic`],
+    /// [`FileFault::Version`], [`FileFault::Flags`] and [`FileFault::Count`] for invalid bytes.
     pub fn open<S: Source>(source: &mut S) -> Result<SampleReader, FileFault>
         ensures header { IfOk result (λ r. Consumes (S.rest source.old) (S.rest source.new)
             (header_spelling r.header)) }
@@ -76,7 +75,7 @@ impl SampleReader {
         self.header
     }
 
-    /// How many samples aren't read yet.
+    /// Returns how many samples are not read yet.
     pub fn left(&self) -> u64
         ensures value { result ≡ self.now.left }
         ensures most { result ≤ self.now.header.count }
@@ -84,12 +83,11 @@ impl SampleReader {
         self.left
     }
 
-    /// Reads the next samples, as many as there is room for and are left: how many.
+    /// Reads the next samples, up to the length of `out` and the number left, and returns how many.
     ///
-    /// No byte past them is taken, on a fault too. [`FileFault::Short`] comes where the source ends
-    /// before them, and [`FileFault::ReadFault`] at once where a take fails. Nothing is said of
-    /// what
-    /// `out` holds after a fault.
+    /// Takes no byte after them, also on a fault. Returns [`FileFault::Short`] if the source ends
+    /// before them, and [`FileFault::ReadFault`] as soon as a take fails. The content of `out`
+    /// after a fault is unspecified.
     pub fn read<S: Source>(
         &mut self,
         source: &mut S,
@@ -139,9 +137,9 @@ impl SampleReader {
         }
     }
 
-    /// Sees that the file ends after its samples.
+    /// Checks that the file ends after its samples.
     ///
-    /// [`FileFault::Extra`] comes where a further byte does, and [`FileFault::ReadFault`] where the
+    /// Returns [`FileFault::Extra`] if another byte follows, and [`FileFault::ReadFault`] if the
     /// take fails.
     pub fn finish<S: Source>(&mut self, source: &mut S) -> Result<(), FileFault>
         requires { self.old.left ≡ 0 }
@@ -176,7 +174,7 @@ impl SampleReader {
     }
 }
 
-/// Takes a byte, of which there must be none: the file ends at this place.
+/// Checks that the file ends at offset `end`, by trying to take a byte.
 fn expect_end<S: Source>(source: &mut S, end: u64) -> Result<(), FileFault>
     ensures ends { OnOk result (IsAtEnd (S.rest source.new)) }
     ensures nothing_taken { OnOk result (Keeps (S.rest source.old) (S.rest source.new)) }

@@ -64,7 +64,7 @@ fn parse_samples(width: Width, bytes: &[u8], out: &mut [Sample])
     }
 }
 
-/// Reads a piece of the samples, which begins at a place of the file.
+/// Reads one piece of the samples, from offset `place` of the file.
 fn read_piece<S: Source>(
     source: &mut S,
     width: Width,
@@ -89,7 +89,7 @@ fn read_piece<S: Source>(
     Ok(())
 }
 
-/// Reads as many samples as there is room for, which begin at a place of the file.
+/// Fills `out` with samples, from offset `place` of the file.
 pub fn read_samples<S: Source>(
     source: &mut S,
     width: Width,

@@ -9,8 +9,8 @@ use crate::source::Failed;
 
 /// A sink of bytes that counts its faults.
 ///
-/// Contracts see the bytes that it was given, where they are told, and the count of faults, which
-/// never falls and stops at the last number of 64 bits.
+/// Contracts see the bytes that it was given, if known, and the count of faults, which never falls
+/// and stops at 2^64 - 1.
 pub trait Sink {
     // The bytes that were given, where they are told.
     ghost written: { Self → Option (List ℕ) };
@@ -18,9 +18,9 @@ pub trait Sink {
     // How often calls failed.
     ghost faults: { Self → ℕ };
 
-    /// Takes the first bytes of a piece: how many, at least 1 of a piece that has any.
+    /// Takes the first bytes of a piece and returns how many: at least 1 unless the piece is empty.
     ///
-    /// [`Failed`] comes only where the count of faults rose, and then no byte was taken.
+    /// Returns [`Failed`] only if the count of faults rose; no byte was taken then.
     fn give(&mut self, piece: &[u8]) -> Result<usize, Failed>
         ensures bound { WritesAtMost result piece.now }
         ensures progress { Progresses result piece.now }
@@ -30,8 +30,8 @@ pub trait Sink {
 
 /// Gives all of the bytes to the sink.
 ///
-/// [`Failed`] comes only where the sink's count of faults rose, and the sink took then the first
-/// of the bytes.
+/// Returns [`Failed`] only if the sink's count of faults rose; the sink then took a prefix of the
+/// bytes.
 pub fn write_all<K: Sink>(sink: &mut K, bytes: &[u8]) -> Result<(), Failed>
     ensures ok { OnOk result (Appends (K.written sink.old) (K.written sink.new) bytes.now) }
     ensures err { OnErr result (AppendsPrefix (K.written sink.old) (K.written sink.new) bytes.now) }

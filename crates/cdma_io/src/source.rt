@@ -7,15 +7,15 @@ ghost use Rattle.cdma_io.specs.Outside.{HasCause};
 
 use thiserror::Error;
 
-/// A call on the outside failed.
+/// A call of the operating system failed.
 #[derive(Clone, Copy, PartialEq, Eq, Debug, Error)]
 #[error("a call on the outside failed")]
 pub struct Failed;
 
 /// A source of bytes that counts its faults.
 ///
-/// Contracts see the bytes that are left, where they are told, and the count of faults, which
-/// never falls and stops at the last number of 64 bits.
+/// Contracts see the remaining bytes, if known, and the count of faults, which never falls and
+/// stops at 2^64 - 1.
 pub trait Source {
     // The bytes that are left, where they are told.
     ghost rest: { Self → Option (List ℕ) };
@@ -23,10 +23,10 @@ pub trait Source {
     // How often calls failed.
     ghost faults: { Self → ℕ };
 
-    /// Moves the next bytes to the front of the buffer: how many. 0 of a buffer that has room means
-    /// the end.
+    /// Moves the next bytes to the front of the buffer and returns how many. 0 means the end,
+    /// unless the buffer is empty.
     ///
-    /// [`Failed`] comes only where the count of faults rose, and then no byte moved.
+    /// Returns [`Failed`] only if the count of faults rose; no byte moved then.
     fn take(&mut self, buf: &mut [u8]) -> Result<usize, Failed>
         ensures bound { ReadsAtMost result buf.new }
         ensures bytes { ReadConsumes (rest self.old) (rest self.new) result buf.new }

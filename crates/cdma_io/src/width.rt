@@ -1,4 +1,4 @@
-//! How wide the parts of samples are.
+//! The width of the parts of samples.
 
 ghost use Rattle.std.specs.Prelude.{◌≡◌, ◌≤◌, ◌<◌, ◌*◌, ◌^◌};
 ghost use Rattle.cdma_io.specs.SampleFile.{is_version, most_samples, sample_len, width_in};
@@ -12,7 +12,7 @@ pub fn is_known(version: u16) -> bool
     version == 1 || version == 2
 }
 
-/// The width of the samples of a file of this version.
+/// Returns the sample width of a file of this version.
 pub fn width_for(version: u16) -> Width
     ensures { result ≡ width_in version }
 {
@@ -23,7 +23,7 @@ pub fn width_for(version: u16) -> Width
     }
 }
 
-/// The most samples that a file of this width has.
+/// Returns the largest number of samples in a file of this width.
 pub fn most_for(width: Width) -> u64
     ensures value { result ≡ most_samples width }
 {
@@ -33,7 +33,7 @@ pub fn most_for(width: Width) -> u64
     }
 }
 
-/// How many bytes so many samples have.
+/// Returns how many bytes `count` samples take.
 pub fn bytes_for(width: Width, count: u64) -> u64
     requires { count < 2 ^ 62 }
     ensures value { result ≡ sample_len width * count }

@@ -9,10 +9,11 @@ use crate::sink::Sink;
 use crate::source::Failed;
 use std::io::Write;
 
-/// A sink over a writer: it tells what the writer does, which is nothing over standard output.
+/// A sink over a writer. Contracts see the written bytes if the writer specifies them, which
+/// standard output does not.
 ///
-/// The count of faults is 0 when it is made. Each error of the writer raises it, and so does each
-/// piece of which the writer took no byte, until it stands at the last number of 64 bits.
+/// The count of faults starts at 0. Each error of the writer raises it, and so does each piece of
+/// which the writer took no byte, up to 2^64 - 1.
 #[derive(Drop)]
 pub struct WriterSink<W: Write> {
     writer: W,
@@ -20,7 +21,7 @@ pub struct WriterSink<W: Write> {
 }
 
 impl<W: Write> WriterSink<W> {
-    /// A sink over this writer.
+    /// Makes a sink over this writer.
     pub fn new(writer: W) -> WriterSink<W>
         ensures written { ⟦<WriterSink<W> as Sink>⟧.written result ≡ W.contents writer }
         ensures faults { ⟦<WriterSink<W> as Sink>⟧.faults result ≡ 0 }
@@ -28,9 +29,9 @@ impl<W: Write> WriterSink<W> {
         WriterSink { writer, faults: 0 }
     }
 
-    /// Passes on what the writer holds back, as a buffered one does.
+    /// Flushes what the writer has buffered.
     ///
-    /// [`Failed`] comes only where the count of faults rose.
+    /// Returns [`Failed`] only if the count of faults rose.
     pub fn flush(&mut self) -> Result<(), Failed>
         ensures written { Keeps
             (⟦<WriterSink<W> as Sink>⟧.written self.old)
@@ -48,7 +49,7 @@ impl<W: Write> WriterSink<W> {
         }
     }
 
-    /// Counts a fault.
+    /// Counts a fault and returns the error.
     fn fault(&mut self) -> Failed
         ensures written { ⟦<WriterSink<W> as Sink>⟧.written self.new
             ≡ ⟦<WriterSink<W> as Sink>⟧.written self.old }

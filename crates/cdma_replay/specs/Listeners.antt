@@ -1,4 +1,5 @@
--- Who hears a file on the way: what was taken and told so far, and what is still to come.
+-- The listener of a file during a run: the samples taken, the text written so far, and what is
+-- left.
 use Rattle.cdma_replay.specs.Common.{Sample, HasBits, sample_spelling, events, Tuning, Event}
 use Rattle.cdma_replay.specs.Common.{Mobile, KeptTap, run_taps, run_text, ranks_text}
 use Rattle.std.specs.Prelude.{◌≡◌, ℕ, ◌≤◌, List, [], ◌++◌, length, take, All, Option}

@@ -1,4 +1,4 @@
--- What is told of a handset before it takes any sample: its pilot.
+-- The text of a handset before it takes any sample: its pilot.
 use Rattle.cdma_replay.specs.Common.{Tuning, Mobile, KeptTap}
 use Rattle.std.specs.Prelude.{ℕ, List, [], Option}
 use Rattle.std.specs.Io.KnownBytes.{Appends}

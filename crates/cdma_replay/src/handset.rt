@@ -1,4 +1,4 @@
-//! How a handset is opened on the pilot's paths.
+//! Opens a handset on the pilot's paths.
 
 ghost use Rattle.cdma_replay.specs.Common.{Sample as TheSample};
 ghost use Rattle.std.specs.Prelude.{◌≡◌, ◌≤◌, List, [], IfOk};
@@ -15,8 +15,8 @@ use pilot_search::{Best, Near};
 use short_code::Codes;
 use std::alloc::Global;
 
-/// The settings of a handset for a file of this header: over how many fingers it follows the
-/// signal, 1 to 3, the number of its paging channel, 1 to 7, and its traffic channel.
+/// Returns the settings of a handset for a file with this header: `fingers` paths (1 to 3), the
+/// number of its paging channel (1 to 7), and its traffic channel, if any.
 pub fn settings_for(header: &Header, fingers: u8, paging: u8, traffic: Option<Traffic>) -> Settings
     ensures { result ≡ settings_for header.now fingers paging traffic }
 {
@@ -30,7 +30,7 @@ pub fn settings_for(header: &Header, fingers: u8, paging: u8, traffic: Option<Tr
     }
 }
 
-/// A handset of these settings, with paths near the pilot's phase.
+/// Opens a handset with these settings on paths near the pilot's phase.
 #[tactic(auto, using(crate::proofs::Hearings::sound_assignment))]
 pub fn handset(
     alloc: Global,
@@ -52,7 +52,7 @@ pub fn handset(
     Mobile::new(alloc, settings, codes, best, near)
 }
 
-/// Such a handset in memory of its own.
+/// Opens such a handset in its own box.
 // Its frame holds the handset several times over, and is free again before the handset hears.
 #[inline(never)]
 pub fn boxed_handset(

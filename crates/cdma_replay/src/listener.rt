@@ -1,4 +1,4 @@
-//! Who hears the samples of a file.
+//! The listener that takes the samples of a file.
 
 ghost use Rattle.cdma_replay.specs.Common.{Sample as TheSample, AppendsPrefix, HasCause, events};
 ghost use Rattle.cdma_replay.specs.Common.{Tuning, IsKept, KeptTap, run_taps};
@@ -18,21 +18,21 @@ use pilot_search::Best;
 use pilot_survey::Survey;
 use tuned_listener::TunedListener;
 
-/// Who hears the samples of a file, with what is told of its first ones.
+/// The listener that takes the samples of a file, with the results of its first samples.
 #[derive(Drop)]
 pub enum Listener {
-    /// Nobody: the pilot that the first samples show is all that is wanted.
+    /// No listener: only the pilot found in the first samples is written.
     Pilot(Best),
-    /// Nobody: how strong each pilot is in the first samples is all that is wanted.
+    /// No listener: only the strength of each pilot in the first samples is written.
     Ranks {
-        /// The ranks of all pilots.
+        /// The ranks of all 512 pilots, strongest first.
         ranks: Survey,
-        /// How many of them are told.
+        /// How many of them are written.
         top: u16,
     },
-    /// A handset, whose events taps hear.
+    /// A handset whose events the taps receive.
     Handset(Box<Mobile>),
-    /// Who writes what is made of the frames of one channel.
+    /// A listener that writes text for the frames of one channel.
     Tuned(Box<TunedListener>),
 }
 
@@ -47,11 +47,11 @@ impl Listener {
     ghost use Rattle.cdma_replay.specs.Listeners.{Listens, ListenerTells};
     ghost use Rattle.owed_replies.specs.Hearing.{told};
 
-    /// Tells what is told before any sample is taken: the pilot's line, or those of the ranks; and
-    /// the taps hear the pilot of a handset.
+    /// Writes the text that comes before any sample is taken: the pilot's line, or the lines of the
+    /// ranks. The taps of a handset receive its pilot event.
     ///
-    /// [`Failed`] comes only where the sink's count of faults rose, and the sink got then a
-    /// beginning of the text.
+    /// Returns [`Failed`] only if the sink's count of faults rose; the sink then holds a prefix of
+    /// the text.
     pub fn begin<T: KeepsTaps, K: Sink>(&mut self, taps: &mut T, sink: &mut K) -> Result<(), Failed>
         requires tellable { IsTellable self.old }
         requires kept { All IsKept (T.kept taps.old) }
@@ -74,11 +74,10 @@ impl Listener {
         }
     }
 
-    /// Takes samples, and tells what is heard in them.
+    /// Takes samples and writes the text for what is received in them.
     ///
-    /// The samples are those of the file that follow on those taken before, as many of them as
-    /// there are or fewer. [`Failed`] comes only where the sink's count of faults rose, and the
-    /// sink got then a beginning of the text.
+    /// `samples` are the next ones of the file. Returns [`Failed`] only if the sink's count of
+    /// faults rose; the sink then holds a prefix of the text.
     pub fn hear<T: KeepsTaps, K: Sink>(
         &mut self,
         samples: &[Sample],
@@ -107,7 +106,7 @@ impl Listener {
         }
     }
 
-    /// Whether a message told the time, where somebody hears the file.
+    /// Whether a sync message has set the time; true if there is no listener.
     pub fn is_told(&self) -> bool
         ensures { (l : Listening) (kept : List KeptTap) (heard : List TheSample) →
             Listens l self.now kept heard → result ≡ is_told l heard }
@@ -121,7 +120,7 @@ impl Listener {
     }
 }
 
-/// Lets the taps hear the first event of a handset, which is the pilot.
+/// Gives the taps the first event of a handset, which is the pilot.
 fn tell_pilot<T: KeepsTaps, K: Sink>(
     mobile: &mut Mobile,
     taps: &mut T,
@@ -145,7 +144,7 @@ fn tell_pilot<T: KeepsTaps, K: Sink>(
     taps.tell(&event, sink)
 }
 
-/// Gives samples to a handset, and lets the taps hear each event.
+/// Gives samples to a handset and each of its events to the taps.
 fn tell<T: KeepsTaps, K: Sink>(
     mobile: &mut Mobile,
     samples: &[Sample],

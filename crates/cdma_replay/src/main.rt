@@ -1,9 +1,9 @@
 //! `cdma_replay` reads a file of received samples and writes what a handset finds in it.
 //!
-//! All that the program does is [`replay`], over the arguments of its command line, a source and a
-//! sink; [`program::run`] says what the process does with what it owes, and what it tells of a run
-//! that isn't done. What is here makes these of the process: its arguments, standard input,
-//! standard output and standard error.
+//! The whole program is [`replay`], over command-line arguments, a source and a sink.
+//! [`program::run`] adds what the process does around it: it flushes the output and reports a
+//! failed run on standard error. This file only makes these parameters of the process's arguments
+//! and its standard input, output and error.
 #![tactic(auto)]
 
 mod handset;
@@ -32,7 +32,7 @@ use std::process::ExitCode;
 use std::rt::Env;
 use std::{env, io};
 
-/// The arguments that the process was given, its own name the first.
+/// Returns the arguments of the process, its own name first.
 fn args_of_process<R: Env + AllocGlobal>(rt: &R) -> Result<Vec<String>, Status> {
     let args = env::args(rt).map_err(without_args)?;
     args.collect(rt.alloc()).map_err(|_| Status::NoMemory)

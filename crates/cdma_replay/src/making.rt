@@ -1,4 +1,4 @@
-//! The command `make`: the samples of the cell that a script names, as a file.
+//! The command `make`: writes the samples of a script's cell as a file.
 
 ghost use Rattle.cdma_replay.specs.Common.{FileFault, ConsumesAtMost, Rose, ended, MakesFile};
 ghost use Rattle.std.specs.Prelude.{◌≡◌, ◌≢◌, ◌<◌, ◌≤◌, ◌*◌, length, vec_len, Ok, Err, IsOk, IfOk};
@@ -17,10 +17,11 @@ use owed_replies::Status;
 use std::alloc::Global;
 use writing::write_cell;
 
-/// How many bytes are read at most: one more than a script may have, so that a longer one shows.
+/// The most bytes that are read: one more than the longest script, so that a longer input is
+/// noticed.
 const MOST_READ: usize = 1_048_577;
 
-/// What a cell is read and written with. All of its memory is taken before anything is read.
+/// The buffers for reading a script and writing its cell, allocated before anything is read.
 #[derive(Drop)]
 struct Workspace {
     script: Vec<u8>,
@@ -44,7 +45,7 @@ impl Workspace {
     }
 }
 
-/// Reads a script into `script` and makes its cell.
+/// Reads a script into `script` and opens its cell.
 fn open_cell<S: Source>(
     alloc: Global,
     width: Width,
@@ -76,7 +77,7 @@ fn open_cell<S: Source>(
     Ok(Cell::new(alloc, &script[..count], width)?)
 }
 
-/// Reads a script, and writes the file of its cell by way of `samples` and `bytes`.
+/// Reads a script and writes the file of its cell, using `samples` and `bytes` as buffers.
 fn make_file<S: Source, K: Sink>(
     alloc: Global,
     width: Width,
@@ -102,11 +103,11 @@ fn make_file<S: Source, K: Sink>(
     }
 }
 
-/// Reads a script (at most one byte more than a script may have) and writes the file of the cell
-/// that it names, in samples of a width: its header, and then its samples.
+/// Reads a script (at most one byte more than the longest one) and writes the file of its cell,
+/// header first, with samples of this width.
 ///
-/// All memory is taken before anything is written, and nothing is written of a script that names no
-/// cell.
+/// All memory is allocated before anything is written. Nothing is written if the script is
+/// rejected.
 // No other command is to have its frame beneath its own.
 #[inline(never)]
 pub fn make<S: Source, K: Sink>(

@@ -1,4 +1,4 @@
-//! Who hears a file for a purpose, with what its first samples show.
+//! Opens the listener for a purpose from a file's first samples.
 
 ghost use Rattle.cdma_replay.specs.Common.{Sample as TheSample, IsLawfulHeader, IsFingers};
 ghost use Rattle.cdma_replay.specs.Common.{IsWorkers, IsLawfulPurpose};
@@ -23,8 +23,8 @@ use std::alloc::Global;
 use std::thread::Threads;
 use tuned_listener::TunedListener;
 
-/// Who hears the frames of one channel after a handset of these settings, with paths near the
-/// pilot's phase, in memory of its own.
+/// Opens a listener for the frames of one channel in its own box, with these settings and on paths
+/// near the pilot's phase.
 // Its frame holds the listener several times over, and is free again before the listener hears.
 #[inline(never)]
 fn tuned_listener(
@@ -53,7 +53,7 @@ fn tuned_listener(
     Ok(Box::new(alloc, tuned)?)
 }
 
-/// Nobody hears a file of which the pilot alone is wanted.
+/// Searches the pilot; no listener takes the samples.
 fn find_pilot<R: Threads + Sync, G: Gate + Sync>(
     rt: &R,
     alloc: Global,
@@ -70,7 +70,7 @@ fn find_pilot<R: Threads + Sync, G: Gate + Sync>(
     Ok(Listener::Pilot(best))
 }
 
-/// A handset for a file of this header on the paths near the pilot in its first samples.
+/// Opens a handset for a file with this header, on the paths near the pilot in its first samples.
 fn handset_near(
     alloc: Global,
     fingers: u8,
@@ -94,8 +94,8 @@ fn handset_near(
     Ok(Listener::Handset(mobile))
 }
 
-/// Who hears the frames of one channel in a file of this header, on the paths near the pilot in its
-/// first samples.
+/// Opens a listener for the frames of one channel of a file with this header, on the paths near the
+/// pilot in its first samples.
 fn tuned_near(
     alloc: Global,
     fingers: u8,
@@ -119,7 +119,7 @@ fn tuned_near(
     Ok(Listener::Tuned(tuned))
 }
 
-/// Nobody hears a file of which it is wanted how strong each pilot is.
+/// Ranks the pilots by strength; no listener takes the samples.
 fn rank_pilots<R: Threads + Sync, G: Gate + Sync>(
     rt: &R,
     alloc: Global,
@@ -142,7 +142,7 @@ fn rank_pilots<R: Threads + Sync, G: Gate + Sync>(
     Ok(Listener::Ranks { ranks, top })
 }
 
-/// Who hears a file of this header for a purpose, with what its first samples show.
+/// Opens the listener for a purpose, given a file's header and first samples.
 pub fn listener_for<R: Threads + Sync, G: Gate + Sync>(
     rt: &R,
     alloc: Global,

@@ -1,6 +1,6 @@
-//! Runs over sources and sinks of which a call fails, and with other taps than the program's own:
-//! how each ends, and what it has written. Only one call fails, so a run that tried it again would
-//! be done. What runs write otherwise, the cases of `conformance/` show.
+//! Tests of runs in which one call of a source or sink fails, and of runs with other taps than the
+//! program's: how each ends, and what it has written. Only one call fails, so a run that retried it
+//! would succeed. The cases of `conformance/` show the output of ordinary runs.
 
 use crate::Status;
 use crate::program::Output;
@@ -32,13 +32,13 @@ const SCRIPT: &[u8] = b"cell pn=0 time=1000 lc=20000000000 checks=0\n\
 /// and its file.
 const MADE: &[u8] = b"IS95\x00\x01\x00\x00\x00\x00\x00\x00\x00\x00\x00\x01\xfe\xd4\x01\x2c";
 
-/// The script of a cell whose first sync message is known by 262,144 samples,
+/// The script of a cell whose first sync message is complete within 262,144 samples,
 const CELL: &[u8] = b"cell pn=0 time=1000 lc=20000000000 checks=0\n\
     link re=1 im=1 start=0 samples=300000\n\
     pilot gain=100\n\
     sync gain=30 prev=3 min=1 sid=1 nid=2 lp=13 ltm=0 daylt=0 prat=0 rest=3:00\n";
 
-/// and what is heard of it: a line of 34 bytes, and one more.
+/// and the output of `follow` for it: a line of 34 bytes, and a second line.
 const HEARD: &str = "pilot phase=0 energy=335544320000\n\
     sync at=262144 prev=3 min=1 sid=1 nid=2 pn=0 lc=102a1d2e508 time=1007 lp=13 ltm=0 daylt=0 \
         prat=0 rest=3:00\n";
@@ -49,8 +49,8 @@ fn cell<R: AllocGlobal + Threads + Sync>(rt: &R) -> Result<Vec<u8>, Fail> {
     Ok(file)
 }
 
-/// Fails where a run of a command line didn't end so, or didn't write just the first so many bytes
-/// of a text.
+/// Fails unless a run of a command line ends with `status` and writes exactly the first `count`
+/// bytes of a text.
 fn expect<R: AllocGlobal>(
     rt: &R,
     line: &str,
@@ -137,7 +137,7 @@ fn ends_where_a_call_fails_while_a_cell_is_followed(rt: HostRuntime) -> Result<(
     Ok(())
 }
 
-/// A writer that takes every byte, and fails to pass them on.
+/// A writer that takes every byte and whose flush fails.
 #[derive(Drop)]
 struct Stuck;
 

@@ -1,4 +1,4 @@
-//! What the process does with its arguments and its streams.
+//! What the process does with its arguments and standard streams.
 
 ghost use Rattle.cdma_replay.specs.Common.{CountsFaults, HasCause, Rose, job_named, IsEnd};
 ghost use Rattle.std.specs.Prelude.{◌≡◌, ◌≢◌, ◌↔◌, ◌⊎◌, Bool, IfErr, IfOk, IsTrue, OnErr, OnOk};
@@ -22,14 +22,14 @@ use std::io::{ErrorKind, Write};
 use std::process::ExitCode;
 use std::thread::Threads;
 
-/// A sink that may hold back what it was given, until it is flushed.
+/// A sink that may buffer what it was given until it is flushed.
 pub trait Output: Sink {
     // Nothing is held back.
     ghost is_flushed: { Self → Bool };
 
-    /// Passes on what is held back.
+    /// Writes out what is buffered.
     ///
-    /// [`Failed`] comes only where the count of faults rose, by one.
+    /// Returns [`Failed`] only if the count of faults rose, by one.
     fn flush(&mut self) -> Result<(), Failed>
         ensures written { Keeps (Self.written self.old) (Self.written self.new) }
         ensures cause { HasCause (Self.faults self.old) (Self.faults self.new) result }
@@ -46,7 +46,7 @@ impl<W: Write> Output for WriterSink<W> {
     }
 }
 
-/// How a run ends that isn't given its arguments.
+/// Returns the status of a run whose arguments could not be read.
 pub fn without_args(refused: io::Error) -> Status
     ensures memory { error_kind refused ≡ ErrorKind.OutOfMemory → result ≡ Status.NoMemory }
     ensures others { error_kind refused ≢ ErrorKind.OutOfMemory → result ≡ Status.BadWords }
@@ -57,8 +57,8 @@ pub fn without_args(refused: io::Error) -> Status
     }
 }
 
-/// How a run ends whose output was then flushed: a flush that fails is a write that fails, where
-/// nothing else did.
+/// Returns the status of a run after its output was flushed: a failed flush counts as a failed
+/// write if the run succeeded otherwise.
 fn flushed(status: Status, flush: Result<(), Failed>) -> Status
     ensures done { OnOk flush (result ≡ status) }
     ensures lost { OnErr flush (IsEnd status → result ≡ Status.WriteFault) }
@@ -70,7 +70,7 @@ fn flushed(status: Status, flush: Result<(), Failed>) -> Status
     }
 }
 
-/// Whether a sink may hold text back after a run that ended so.
+/// Whether a sink may still buffer text after a run with this status.
 fn may_hold(status: Status) -> bool
     ensures { IsTrue result ↔ MayHold status }
 {
@@ -81,15 +81,15 @@ fn may_hold(status: Status) -> bool
     }
 }
 
-/// Whether text may have been written before this fault of a file shows.
+/// Whether text may have been written before this fault of a file is found.
 fn shows_late(fault: FileFault) -> bool
     ensures { IsTrue result ↔ MayHold (Status.BadFile fault) }
 {
     matches!(fault, FileFault::Short { .. } | FileFault::Extra { .. })
 }
 
-/// Passes on what a sink may hold back after a run that ended so, and says how the run ends then. A
-/// sink that the run left, or whose write failed, is left.
+/// Flushes a sink that may buffer text after a run with this status, and returns the final status.
+/// A sink without text, or whose write failed, is not flushed.
 fn pass_on<K: Output>(status: Status, sink: &mut K) -> Status
     ensures { PassesOn status result (K.written sink.old) (K.written sink.new)
         (K.faults sink.old) (K.faults sink.new) (sink.new ≡ sink.old)
@@ -102,7 +102,7 @@ fn pass_on<K: Output>(status: Status, sink: &mut K) -> Status
     flushed(status, flush)
 }
 
-/// Runs the command that the arguments name, with these taps, and passes on what it wrote.
+/// Runs the command that the arguments name, with these taps, and flushes the output.
 fn run_tapped<R: Threads + Sync, S: Source, K: Output>(
     rt: &R,
     alloc: Global,
@@ -123,8 +123,8 @@ fn run_tapped<R: Threads + Sync, S: Source, K: Output>(
     pass_on(status, sink)
 }
 
-/// Runs the command that the arguments name, with a tap of each form, and passes on what it wrote.
-/// It fails where there is no memory for the taps.
+/// Runs the command that the arguments name, with a tap of each form, and flushes the output. Fails
+/// if there is no memory for the taps.
 fn run_args<R: AllocGlobal + Threads + Sync, S: Source, K: Output>(
     rt: &R,
     args: &[String],
@@ -150,8 +150,8 @@ fn run_args<R: AllocGlobal + Threads + Sync, S: Source, K: Output>(
     Ok(run_tapped(rt, alloc, args, source, sink, taps))
 }
 
-/// How a run ends that found no memory for its taps: arguments that name no job are told as such,
-/// whatever memory there is.
+/// Returns the status of a run that found no memory for its taps. Invalid arguments are reported as
+/// such whatever memory there is.
 fn without_taps(alloc: Global, args: &[String]) -> Status
     ensures bad_words { (result ≡ Status.BadWords) ↔ (job_named args.now ≡ None) }
     ensures either { (result ≡ Status.BadWords) ⊎ (result ≡ Status.NoMemory) }
@@ -162,7 +162,7 @@ fn without_taps(alloc: Global, args: &[String]) -> Status
     }
 }
 
-/// The arguments after the first, which is the program's own name.
+/// Returns the arguments after the program's own name.
 fn args_after_name(args: &[String]) -> &[String]
     ensures { result.now ≡ drop 1 args.now }
 {
@@ -172,7 +172,7 @@ fn args_after_name(args: &[String]) -> &[String]
     }
 }
 
-/// Runs the command that the process was given, or ends as the want of its arguments says.
+/// Runs the command of the process, or returns the status of unreadable arguments.
 fn run_given<R: AllocGlobal + Threads + Sync, S: Source, K: Output>(
     rt: &R,
     args: Result<Vec<String>, Status>,
@@ -202,8 +202,8 @@ fn run_given<R: AllocGlobal + Threads + Sync, S: Source, K: Output>(
     }
 }
 
-/// Tells how a run ended on the stream of errors: its line, or nothing where it is done. Where that
-/// fails too, there is nowhere left to say so.
+/// Writes the line of a status to standard error, and nothing for [`Status::Done`]. A failure of
+/// that write is ignored, since it cannot be reported.
 fn report<E: Sink>(status: Status, errors: &mut E)
     ensures { TellsEnd status (E.written errors.old) (E.written errors.new)
         (E.faults errors.old) (E.faults errors.new) (errors.new ≡ errors.old) }
@@ -215,11 +215,9 @@ fn report<E: Sink>(status: Status, errors: &mut E)
     let _told = write_all(errors, line.bytes());
 }
 
-/// All that the process does with its arguments, of which the first is its own name, with its
-/// input, its output and its stream of errors, and what it exits with: the status of the command
-/// that the arguments after the name tell, with a tap of each form, or that of a process which
-/// wasn't given its arguments. The line of any end but [`Status::Done`] is written on the stream of
-/// errors.
+/// Runs the process: its arguments (its own name first), standard input, output and error. Returns
+/// the exit status of the command that the arguments name, run with a tap of each form, or that of
+/// unreadable arguments. The line of any status but [`Status::Done`] is written to standard error.
 pub fn run<R: AllocGlobal + Threads + Sync, S: Source, K: Output, E: Sink>(
     rt: &R,
     args: Result<Vec<String>, Status>,

@@ -1,4 +1,4 @@
-//! The lines of a survey: one for each rank.
+//! Writes the lines of a survey, one for each rank.
 
 ghost use Rattle.cdma_replay.specs.Common.{AppendsPrefix, HasCause, rank_line, ranks_text};
 ghost use Rattle.std.specs.Prelude.{◌≡◌, ◌≤◌, OnErr, OnOk, take};
@@ -8,7 +8,7 @@ use cdma_io::{Failed, Sink, write_all};
 use event_tap::Text;
 use pilot_survey::{Rank, Survey};
 
-/// The line of a rank.
+/// Returns the line of a rank.
 #[tactic(auto, unfolding(owed_replies::specs::Ranks::rank_line))]
 fn line_of(rank: Rank) -> Text
     ensures { result ≡ rank_line rank }
@@ -35,8 +35,8 @@ fn write_rank<K: Sink>(rank: Rank, sink: &mut K) -> Result<(), Failed>
 
 /// Writes the lines of the first `top` ranks.
 ///
-/// [`Failed`] comes only where the sink's count of faults rose, and the sink took then the first
-/// bytes of the lines.
+/// Returns [`Failed`] only if the sink's count of faults rose; the sink then took a prefix of the
+/// lines.
 pub fn write_ranks<K: Sink>(ranks: &Survey, top: u16, sink: &mut K) -> Result<(), Failed>
     requires { top ≤ 512 }
     ensures ok { OnOk result (Appends (K.written sink.old) (K.written sink.new)

@@ -1,4 +1,4 @@
-//! How a sample file is received: what its first samples show, and what is heard in all.
+//! Receives a sample file: first its span, then all of its samples.
 
 ghost use Rattle.cdma_replay.specs.Common.{FileFault, ConsumesAtMost, Rose, sample_len, width_of};
 ghost use Rattle.cdma_replay.specs.Common.{IsKept, IsWorkers, Sample, IsLawfulPurpose, IsEnd};
@@ -24,7 +24,7 @@ use short_code::Codes;
 use std::alloc::Global;
 use std::thread::Threads;
 
-/// Opens a sample file and reads its first samples, as many as `span` has room for.
+/// Opens a sample file and reads its first samples into `span`, up to its length.
 fn open_span<S: Source>(source: &mut S, span: &mut [Sample]) -> Result<SampleReader, FileFault>
     ensures taken { IfOk result (λ r. TakesSpan (length span.old) r.header span.new r.left
         (S.rest source.old) (S.rest source.new)) }
@@ -53,8 +53,8 @@ fn open_span<S: Source>(source: &mut S, span: &mut [Sample]) -> Result<SampleRea
     Ok(reader)
 }
 
-/// Reads the samples that are left in pieces, gives them to the listener, and sees that the file
-/// ends after them.
+/// Reads the remaining samples in pieces, gives them to the listener, and checks that the file ends
+/// after them.
 fn hear_rest<S: Source, T: KeepsTaps, K: Sink>(
     reader: &mut SampleReader,
     source: &mut S,
@@ -117,7 +117,7 @@ fn hear_rest<S: Source, T: KeepsTaps, K: Sink>(
     Ok(())
 }
 
-/// How a run over a good file ends.
+/// Returns how a run over a valid file ends: `NoSync` if no sync message was received.
 fn end_when(told: bool) -> Result<(), Status>
     ensures value { ended result ≡ end_when told }
     ensures ends { IsEnd (ended result) }
@@ -125,9 +125,8 @@ fn end_when(told: bool) -> Result<(), Status>
     if told { Ok(()) } else { Err(Status::NoSync) }
 }
 
-/// Reads the file's first samples into `span` and tells what is wanted of them, and then reads on
-/// to the end of the file by way of `piece`; where the purpose has a listener, it hears all
-/// samples.
+/// Reads the file's first samples into `span`, writes their text, and reads on to the end of the
+/// file through the buffer `piece`. If the purpose has a listener, it takes all samples.
 fn receive_file<R: Threads + Sync, S: Source, K: Sink, T: KeepsTaps, G: Gate + Sync>(
     rt: &R,
     alloc: Global,
@@ -180,11 +179,11 @@ fn receive_file<R: Threads + Sync, S: Source, K: Sink, T: KeepsTaps, G: Gate + S
     end_when(listener.is_told())
 }
 
-/// Tells what is wanted of the file's first samples, and then reads on to the end of the file;
-/// where the purpose has a listener, it hears all samples. Where that is a handset, the taps hear
-/// each of its events, the pilot first.
+/// Writes the text of the file's first samples, then reads on to the end of the file. If the
+/// purpose has a listener, it takes all samples; the taps receive each event of a handset, the
+/// pilot first.
 ///
-/// All memory is taken before the first line is written.
+/// All memory is allocated before the first line is written.
 pub fn receive<R: Threads + Sync, S: Source, K: Sink, T: KeepsTaps, G: Gate + Sync>(
     rt: &R,
     alloc: Global,

@@ -1,4 +1,4 @@
-//! The top call: all that the program does.
+//! The top call: the whole program.
 
 ghost use Rattle.cdma_replay.specs.Common.{IsWorkers, job_named, ended, IsLawfulPurpose, RunsTask};
 ghost use Rattle.cdma_replay.specs.Common.{IsLawfulTask, untapped};
@@ -16,7 +16,7 @@ use pilot_search::Gate;
 use std::alloc::Global;
 use std::thread::Threads;
 
-/// How a run ended that went through, or not.
+/// Returns the status of a result: [`Status::Done`] or the error.
 fn status_of(run: Result<(), Status>) -> Status
     ensures { result ≡ ended run }
 {
@@ -26,7 +26,7 @@ fn status_of(run: Result<(), Status>) -> Status
     }
 }
 
-/// Receives a sample file where taps hear nothing, and says how the run ended.
+/// Receives a sample file without taps, and returns how the run ended.
 fn receive_untapped<R: Threads + Sync, S: Source, K: Sink, G: Gate + Sync>(
     rt: &R,
     alloc: Global,
@@ -48,7 +48,7 @@ fn receive_untapped<R: Threads + Sync, S: Source, K: Sink, G: Gate + Sync>(
     status_of(receive(rt, alloc, reception, source, sink, taps, gate))
 }
 
-/// Does a task over a source and a sink, and says how it ended.
+/// Performs a task over a source and a sink, and returns how it ended.
 fn run_task<R: Threads + Sync, S: Source, K: Sink, G: Gate + Sync>(
     rt: &R,
     alloc: Global,
@@ -80,7 +80,7 @@ fn run_task<R: Threads + Sync, S: Source, K: Sink, G: Gate + Sync>(
     }
 }
 
-/// Runs the command that the arguments name, over a source and a sink, and says how it ended.
+/// Runs the command that the arguments name over a source and a sink, and returns how it ended.
 ///
 /// `find` reads a sample file, searches the phase of the pilot (TIA/EIA-95-B, 7.1.3.1.9) in the
 /// first samples, as many as its span is, writes its line, and reads on to the end of the file.
@@ -98,11 +98,10 @@ fn run_task<R: Threads + Sync, S: Source, K: Sink, G: Gate + Sync>(
 /// a key wakes for (TIA/EIA-95-B, 6.6.2.1.1.3), and writes the line of each and those of its
 /// messages.
 ///
-/// The arguments, their options and the numbers that stand where an option isn't given are those of
-/// [`command_line::words_of`].
+/// [`command_line::words_of`] lists the commands' options and their defaults.
 ///
 /// Each worker of a search or a survey calls the gate before its first phase and after its last.
-/// What is written doesn't depend on the number of workers, nor on how they get on.
+/// The output is the same for any number of workers and any interleaving.
 pub fn replay<R: Threads + Sync, S: Source, K: Sink, G: Gate + Sync>(
     rt: &R,
     alloc: Global,

@@ -1,4 +1,4 @@
-//! Whole runs over memory for the tests: their inputs, how they end, and what they write.
+//! Whole runs in memory for the tests: their inputs, how they end, and what they write.
 
 use crate::{Status, replay};
 use cdma_io::{MemorySink, MemorySource};
@@ -8,14 +8,14 @@ use std::alloc::Global;
 use std::test::Fail;
 use std::thread::Threads;
 
-/// How many bytes a call on the outside moves at most, and which call fails, counted from 1; for 0
-/// none does.
+/// The most bytes that one call of a source or sink moves, and the number of the call that fails,
+/// from 1 (0: none).
 pub type Calls = (usize, u64);
 
 /// Calls that never fail.
 pub const STEADY: Calls = (65536, 0);
 
-/// A source and a sink of which no call fails.
+/// A source and a sink whose calls never fail.
 pub const UNBROKEN: (Calls, Calls) = (STEADY, STEADY);
 
 /// How a run ended, and what it wrote.
@@ -24,17 +24,17 @@ pub type Ran = (Status, Vec<u8>);
 /// Room for the longest file of the tests.
 const ROOM: usize = 2_000_000;
 
-/// The line of the pilot that is found in zeros.
+/// The pilot line for samples of zeros.
 pub const ZERO_LINE: &[u8] = b"pilot phase=0 energy=0\n";
 
-/// The first rank of zeros.
+/// The first survey line for samples of zeros.
 pub const ZERO_RANK: &[u8] = b"survey pn=0 delta=-10 energy=0\n";
 
-/// The line of the trial of 0.
+/// The line of trial 0.
 pub const TRIAL_LINE: &[u8] =
     b"trial number=0 samples=2457600 phase=8320 syncs=8 pagings=144 frames=72 good=72\n";
 
-/// A file of so many samples of zeros.
+/// Returns a file of `count` samples of zeros.
 pub fn zeros(alloc: Global, count: u64) -> Result<Vec<u8>, Fail> {
     let mut file = Vec::from_slice(alloc, b"IS95\x00\x01\x00\x00")?;
     file.extend_from_slice(&count.to_be_bytes())?;
@@ -44,7 +44,7 @@ pub fn zeros(alloc: Global, count: u64) -> Result<Vec<u8>, Fail> {
     Ok(file)
 }
 
-/// A tap of each form, as in the program.
+/// Returns a tap of each form, as in the program.
 pub fn each_tap(alloc: Global) -> Result<Vec<Box<dyn Tap>>, Fail> {
     let mut taps: Vec<Box<dyn Tap>> = Vec::new(alloc);
     taps.push(Box::new(alloc, PilotTap::new())?)?;
@@ -54,7 +54,7 @@ pub fn each_tap(alloc: Global) -> Result<Vec<Box<dyn Tap>>, Fail> {
     Ok(taps)
 }
 
-/// The arguments of a command line, each parted from the next by a blank.
+/// Splits a command line into arguments at blanks.
 fn args_of(alloc: Global, line: &str) -> Result<Vec<String>, Fail> {
     let mut args = Vec::new(alloc);
     for arg in line.split_whitespace() {
@@ -63,8 +63,8 @@ fn args_of(alloc: Global, line: &str) -> Result<Vec<String>, Fail> {
     Ok(args)
 }
 
-/// How a run of a command line over an input ends, and what it writes, with these taps and a gate
-/// that its workers pass.
+/// Runs a command line over an input with these taps and this gate for its workers. Returns how it
+/// ends and what it writes.
 pub fn run_tapped<R: AllocGlobal + Threads + Sync, G: Gate + Sync>(
     rt: &R,
     line: &str,
@@ -85,7 +85,7 @@ pub fn run_tapped<R: AllocGlobal + Threads + Sync, G: Gate + Sync>(
     Ok((status, Vec::from_slice(alloc, sink.bytes())?))
 }
 
-/// The same with a tap of each form, at an open gate.
+/// The same with a tap of each form and an open gate.
 pub fn run<R: AllocGlobal + Threads + Sync>(
     rt: &R,
     line: &str,

@@ -1,5 +1,5 @@
-//! The command `trial`: a link that a number tells is made and followed, and what a handset hears
-//! of it is counted.
+//! The command `trial`: makes the link of a number, follows it with a handset, and counts what was
+//! received.
 
 ghost use Rattle.cdma_replay.specs.Common.{Sample as TheSample, AppendsPrefix, Rose, IsWorkers};
 ghost use Rattle.cdma_replay.specs.Common.{events, Tuning, Event as TheEvent};
@@ -27,11 +27,11 @@ use short_code::Codes;
 use std::alloc::Global;
 use std::thread::Threads;
 
-/// In how many of the first samples the pilot is searched.
+/// How many of the first samples the pilot search uses.
 const SPAN: usize = 2048;
 
-/// How the link of a number is received, of whose samples this is the header: over one finger, with
-/// paging channel 1 and the traffic channel whose frames are drawn from the number.
+/// Returns the settings that receive the link of a number with this header: one finger, paging
+/// channel 1, and the traffic channel whose frames are drawn from the number.
 fn settings_by(number: u64, header: &Header) -> Settings
     requires { header.now ≡ header_of Sixteen (trial_plan number) }
     ensures { result ≡ trial_settings number }
@@ -57,7 +57,7 @@ fn cell_for(alloc: Global, number: u64) -> Result<Cell, OutOfMemory>
     }
 }
 
-/// Gives samples to a handset, and counts what it tells.
+/// Gives samples to a handset and counts its events.
 fn count(mobile: &mut Mobile, samples: &[Sample], counts: &mut Counts)
     requires room { length samples.now ≤ has_room mobile.old }
     requires few { LeavesRoom counts.old (steps_left mobile.old) }
@@ -98,7 +98,8 @@ fn count_next(mobile: &mut Mobile, cell: &mut Cell, samples: &mut [Sample], coun
     count(mobile, samples, counts);
 }
 
-/// Gives a handset all samples that a cell has left, by way of `piece`, and counts what it tells.
+/// Gives a handset all remaining samples of a cell through the buffer `piece`, and counts its
+/// events.
 fn count_rest(mobile: &mut Mobile, cell: &mut Cell, piece: &mut [Sample], counts: &mut Counts)
     requires piece { 0 < length piece.old }
     requires room { has_room mobile.old + cell.old.given ≡ cell.old.plan.link.samples }
@@ -114,7 +115,7 @@ fn count_rest(mobile: &mut Mobile, cell: &mut Cell, piece: &mut [Sample], counts
     }
 }
 
-/// The line that tells what was counted.
+/// Returns the line with the counts.
 #[tactic(auto, unfolding(owed_replies::specs::Trials::summary))]
 fn summary_of(number: u64, samples: u64, phase: u16, counts: &Counts) -> Text
     ensures { result ≡ summary number samples phase counts.now }
@@ -186,8 +187,8 @@ fn followed<R: Threads + Sync, G: Gate + Sync>(
     )
 }
 
-/// Makes the link that a number tells, follows it with a handset, and writes what was heard, as one
-/// line. No more samples are held than the pilot is searched in, or a piece of them.
+/// Makes the link of a number, follows it with a handset, and writes one line with the counts of
+/// what was received.
 ///
 /// All memory is taken before the line is written.
 // No other command is to have its frame beneath its own.

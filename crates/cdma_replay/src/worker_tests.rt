@@ -7,7 +7,7 @@ use pilot_search::Gate;
 use std::sync::atomic::{AtomicU64, Ordering};
 use std::test::Fail;
 
-/// Where workers wait until all are there, or so many turns are spent.
+/// A gate at which workers wait until all have arrived or a limit of turns is reached.
 #[derive(Drop)]
 struct Meeting {
     /// The flags of the workers that are waited for.
@@ -36,7 +36,7 @@ impl Meeting {
         }
     }
 
-    /// Whether each worker has seen all the others and has left, and no other was there.
+    /// Whether each worker has met all others and left, and no other worker came.
     fn is_over(&self) -> bool {
         self.arrived.load(Ordering::SeqCst) == self.all
             && self.met.load(Ordering::SeqCst) == self.all

@@ -14,7 +14,7 @@ pub(crate) const PIECE: usize = 4096;
 pub struct Workspace {
     /// The table of the pilot's codes.
     pub codes: Codes,
-    /// Room for the samples in which the pilot is searched.
+    /// Memory for the samples that the pilot search uses.
     pub span: Vec<Sample>,
     /// Room for a piece of the others.
     pub piece: Vec<Sample>,
@@ -22,7 +22,7 @@ pub struct Workspace {
 }
 
 impl Workspace {
-    /// For a span of so many samples.
+    /// Makes one for a span of `samples` samples.
     pub fn new(alloc: Global, samples: usize) -> Result<Workspace, OutOfMemory>
         ensures { IfOk result (λ w. vec_len w.span ≡ samples) }
     {

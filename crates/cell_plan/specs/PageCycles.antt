@@ -1,5 +1,5 @@
--- What a paging channel sends (TIA/EIA-95-B, 7.1.3.4 and 7.7.2.1): the half-frames of its pages,
--- again and again.
+-- The signal of a paging channel (TIA/EIA-95-B, 7.1.3.4 and 7.7.2.1): the half-frames of its pages,
+-- repeated.
 use Rattle.std.specs.Prelude.{ℕ, ◌+◌, ◌*◌, ◌%◌, ◌^◌, ◌<◌, ◌≤◌, Bool, false, List, length, map}
 use Rattle.std.specs.Prelude.{get_or}
 use Rattle.chip_core.specs.Air.{data_frame_chips}

@@ -1,4 +1,4 @@
--- Which cells a script may name.
+-- The cells that a script may name.
 use Rattle.cell_plan.specs.Common.{IsState, Width, Sixteen, Eight, IsSyncMessage, Rate, PagingPlan}
 use Rattle.cell_plan.specs.Common.{half_frame_body, TrafficPlan, CellPlan, SyncPlan}
 use Rattle.std.specs.Prelude.{ℕ, ◌+◌, ◌*◌, ◌<◌, ◌≤◌, ◌^◌, ◌≢◌, All, List, [], ◌∷◌, length, Option}

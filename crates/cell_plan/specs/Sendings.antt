@@ -1,5 +1,5 @@
--- What the sync channel sends (TIA/EIA-95-B, 7.7.1.2 and 7.7.1.3): one message again and again,
--- with the time and the long code's state of each transmission filled in.
+-- The signal of the sync channel (TIA/EIA-95-B, 7.7.1.2 and 7.7.1.3): one message repeated, with
+-- the time and the long code's state of each transmission filled in.
 use Rattle.std.specs.Prelude.{ℕ, zero, suc, ◌+◌, ◌-◌, ◌*◌, ◌/◌, ◌%◌, Bool, false, ◌==◌, List, ◌∷◌}
 use Rattle.std.specs.Prelude.{◌++◌, length, take, drop, replicate}
 use Rattle.chip_core.specs.Air.{superframe_chips}

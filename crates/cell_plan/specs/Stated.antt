@@ -1,4 +1,5 @@
--- What is stated of a cell, within its bounds, and what a handset can receive of it.
+-- The plan of a cell as stated, within its bounds, and the channels that a handset can receive of
+-- it.
 use Rattle.cell_plan.specs.Common.{CheckForm, norm, IsState, IsSyncMessage, Rate, bits_left, M30}
 use Rattle.cell_plan.specs.Common.{capsules_in, half_frame_body, CellPlan, Page, PagingPlan, Width}
 use Rattle.cell_plan.specs.Common.{SyncPlan, TrafficPlan, CellIdentity, capsule}

@@ -1,4 +1,4 @@
--- What a traffic channel sends (TIA/EIA-95-B, 7.1.3.5): frames, again and again.
+-- The signal of a traffic channel (TIA/EIA-95-B, 7.1.3.5): frames, repeated.
 use Rattle.std.specs.Prelude.{◌≡◌, ℕ, ◌+◌, ◌*◌, ◌%◌, ◌^◌, ◌<◌, ◌≤◌, Bool, false, List, [], ◌∷◌, All}
 use Rattle.std.specs.Prelude.{length, replicate, take, drop, Option, Some, None, option_and_then}
 use Rattle.std.specs.Prelude.{option_map}

@@ -1,4 +1,4 @@
--- What the transmitter's parts stand for.
+-- The meaning of the transmitter's parts.
 use Rattle.cell_plan.specs.Common.{Pair, IsState, Width, Sixteen, Eight, IsSyncMessage, SyncFields}
 use Rattle.cell_plan.specs.Common.{CellIdentity, CellPlan, SyncPlan}
 use Rattle.std.specs.Prelude.{ℕ, ◌+◌, ◌-◌, ◌*◌, ◌<◌, ◌≤◌, ◌%◌, ℤ, unsigned_abs, Option, None, Some}

@@ -1,4 +1,4 @@
--- Worked values of what a cell sends, which the checker computes.
+-- Worked values of a cell's signal, which the checker computes.
 use Rattle.cell_plan.specs.Common.{after, capsule, spelling, sync_body, sync_capsule, walsh}
 use Rattle.cell_plan.specs.Common.{CellPlan, SyncPlan}
 use Rattle.std.specs.Prelude.{◌≡◌, [], refl, ◌^◌, pos, negsuc, Option, Some, None}

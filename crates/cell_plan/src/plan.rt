@@ -1,4 +1,4 @@
-//! What a script says of a cell.
+//! The plan of a cell that a script states.
 
 use crate::series::Series;
 use crate::traffic_frame::TrafficFrame;
@@ -14,7 +14,7 @@ pub struct CellPlan {
     pub link: LinkPlan,
     /// The pilot channel.
     pub pilot: PilotPlan,
-    /// The sync channel, where the cell has one.
+    /// The sync channel, if the cell has one.
     pub sync: Option<SyncPlan>,
     /// The paging channels, in the script's order.
     pub paging: Series<PagingPlan>,
@@ -44,7 +44,7 @@ pub struct CellIdentity {
 /// complex number.
 #[derive(Clone, Copy, PartialEq, Eq, Debug)]
 pub struct LinkPlan {
-    /// What the link multiplies each sent chip by.
+    /// The factor by which the link multiplies each chip.
     pub factor: Pair,
     /// The local chip of the first sample.
     pub start: u64,
@@ -64,8 +64,7 @@ pub struct PilotPlan {
 pub struct SyncPlan {
     /// The gain of the channel.
     pub gain: u16,
-    /// The message. Each transmission has its own PILOT_PN, SYS_TIME and LC_STATE in place of those
-    /// that stand here.
+    /// The message. Each transmission replaces PILOT_PN, SYS_TIME and LC_STATE by its own.
     pub message: SyncFields,
 }
 

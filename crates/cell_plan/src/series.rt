@@ -1,4 +1,4 @@
-//! What a plan has several of.
+//! A list of plans of one kind.
 
 ghost use Rattle.std.specs.Prelude.{◌≡◌, ◌++◌, ◌∷◌, [], IfOk, OnOk, OnErr, MatchOption};
 
@@ -30,7 +30,7 @@ impl<T: Drop> Series<T> {
         }
     }
 
-    /// Adds one at the end. Where there is no memory, the series is as it was.
+    /// Adds one at the end. If there is no memory, the series is as it was.
     pub fn push(&mut self, item: T) -> Result<(), OutOfMemory>
         ensures ok { OnOk result (self.new ≡ self.old ++ item ∷ []) }
         ensures err { OnErr result (self.new ≡ self.old) }

@@ -38,8 +38,8 @@ impl FrameRate {
         }
     }
 
-    /// How many information bits a frame has: 172, 80, 40 or 16 in rate set 1, and 268, 126, 56 or
-    /// 22 in rate set 2, the reserved bit first.
+    /// Returns how many information bits a frame has: 172, 80, 40 or 16 in rate set 1, and 268,
+    /// 126, 56 or 22 in rate set 2, the reserved bit first.
     pub fn information_bits(&self) -> u16
         ensures { result ≡ information_bits_of self.now }
     {
@@ -75,7 +75,7 @@ pub struct TrafficFrame {
     pub rate: FrameRate,
     /// The information bits, as many as a frame of the rate has.
     pub information: Bits,
-    /// The power control bit of each of its 16 groups of 24 symbols: a 1 tells the handset to lower
+    /// The power control bit of each of its 16 groups of 24 symbols: 1 directs the handset to lower
     /// its power (7.1.3.1.7).
     pub power_bits: PowerBits,
 }
@@ -83,8 +83,8 @@ pub struct TrafficFrame {
 impl TrafficFrame {
     ghost use Rattle.cell_plan.specs.TrafficFrames.{traffic_symbols, IsTrafficFrame};
 
-    /// The 384 symbols of the frame where it begins at a state of the long code, under a mask of 42
-    /// bits: those of its rate in their sent order, scrambled, and then the power control bits in
+    /// Returns the 384 symbols of the frame, given the long-code state at its beginning and a mask
+    /// of 42 bits: those of its rate in the sent order, scrambled, with the power control bits in
     /// place of some.
     #[tactic(auto, unfolding(crate::specs::TrafficFrames::traffic_symbols))]
     pub fn symbols(&self, state: &State, mask: u64) -> Bits

@@ -1,4 +1,4 @@
--- What the channels of a cell send over blocks of 64 chips.
+-- The channels of a cell over blocks of 64 chips.
 use Rattle.std.specs.Prelude.{◌≡◌, ℕ, ◌+◌, ◌%◌, ◌<◌, ◌≤◌, List, All, length, map, get_or, ℤ, pos}
 use Rattle.std.specs.Prelude.{unsigned_abs}
 use Rattle.chip_core.specs.Complex.{of_sample, origin, times}

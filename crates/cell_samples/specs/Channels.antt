@@ -1,4 +1,4 @@
--- The channels of a transmitter, as it holds them.
+-- The channels of a transmitter, in its own form.
 use Rattle.std.specs.Prelude.{◌≡◌, ℕ, ◌<◌, ◌%◌, Bool, false, List, [], ◌∷◌, length}
 use Rattle.cell_plan.specs.declared.form.ChannelForm.{ChannelForm}
 use Rattle.cell_samples.specs.declared.symbol_source.SymbolSource.{SymbolSource}

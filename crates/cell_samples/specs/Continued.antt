@@ -1,4 +1,4 @@
--- Channels whose encoder goes on from frame to frame, as the transmitter holds them.
+-- Channels whose encoder continues from frame to frame, in the transmitter's form.
 use Rattle.std.specs.Prelude.{◌≡◌, ℕ, ◌/◌, Bool, List}
 use Rattle.chip_core.specs.Bits.{binary}
 use Rattle.cell_plan.specs.declared.form.ChannelForm.{ChannelForm}

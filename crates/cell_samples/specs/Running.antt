@@ -1,4 +1,4 @@
--- A cell that runs: what it holds before the next sample.
+-- The state of a running cell before the next sample.
 use Rattle.std.specs.Prelude.{◌≡◌, ℕ, ◌≤◌, map}
 use Rattle.chip_core.specs.declared.width.Width.{Width}
 use Rattle.cell_plan.specs.declared.plan.CellPlan.{CellPlan}

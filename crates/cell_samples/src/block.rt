@@ -1,4 +1,4 @@
-//! What a cell sends over one period of the Walsh rows, and the samples that this makes.
+//! The chips of a cell over one period of the Walsh rows, and their samples.
 
 ghost use Rattle.std.specs.Prelude.{◌≡◌, ◌<◌, ◌≤◌, ◌+◌, ◌%◌, ◌^◌, ℕ, length, map, get_or, set, All};
 ghost use Rattle.std.specs.Prelude.{◌*ℤ◌, unsigned_abs, pos, true};
@@ -28,7 +28,7 @@ type Levels = [i64; MOST_CHANNELS];
 /// The sum of the channels' amplitudes at each chip of a block, times the link.
 type BlockSums = [Pair; BLOCK];
 
-/// The same as samples: what each chip is where the codes' point is 1.
+/// The same as samples: each chip at the code point 1.
 type BlockChips = [Sample; BLOCK];
 
 /// The channels of a cell, with what they sent over the block that was asked for last.
@@ -54,7 +54,7 @@ impl Model for Block {
     ghost invariant = { λ b. IsKeptBlock b.channels.items b.factor b.levels b.chips };
 }
 
-/// Keeps the level of a channel, and tells whether it is the one that was kept before.
+/// Keeps the level of a channel and returns whether it is unchanged.
 fn keep_level(levels: &mut Levels, channel: usize, level: i64) -> bool
     requires { channel < 128 }
     ensures kept { result ≡ true → levels.new ≡ levels.old }
@@ -65,8 +65,8 @@ fn keep_level(levels: &mut Levels, channel: usize, level: i64) -> bool
     is_same
 }
 
-/// Makes `levels` those of the channels over the 64 chips from a local chip on, and tells whether
-/// they are the ones that were kept before.
+/// Sets `levels` to those of the channels over the 64 chips from a local chip on, and returns
+/// whether they are unchanged.
 fn keep_levels(channels: &mut [Channel], first: u64, levels: &mut Levels) -> bool
     requires whole { first % 64 ≡ 0 }
     requires soon { first < 2 ^ 34 }
@@ -118,7 +118,7 @@ fn sums_of(channels: &[Channel], factor: Pair, levels: &Levels) -> BlockSums
     sums
 }
 
-/// A sum that has the size of a sample, as one.
+/// Returns a sum that fits a sample as one.
 fn narrowed(sum: Pair) -> Sample
     requires { IsQuiet sum }
     ensures { of_sample result ≡ sum }
@@ -140,8 +140,8 @@ fn narrow(sums: &BlockSums, chips: &mut BlockChips)
     }
 }
 
-/// Makes `levels` and `chips` those of the block that begins with a local chip. Where each channel
-/// has the level that it had, the chips stand.
+/// Sets `levels` and `chips` to those of the block that begins with a local chip. If no channel's
+/// level changed, the chips are reused.
 fn renew(
     channels: &mut [Channel],
     factor: Pair,
@@ -176,7 +176,7 @@ fn with_sign(part: i16, sign: i8) -> i16
     part * i16::from(sign)
 }
 
-/// A chip of a block times a point of the codes, which is given by its signs.
+/// Returns a chip of a block times a point of the codes, given by its signs.
 // All is in 16 bits, so that lanes of them can be turned at once.
 fn turned(chip: Sample, signs: (i8, i8)) -> Sample
     requires small { unsigned_abs chip.i + unsigned_abs chip.q ≤ 32767 }
@@ -220,8 +220,8 @@ impl Block {
         }
     }
 
-    /// Fills `samples` with what the cell sends from a local chip on, within its block: each chip
-    /// times its point of the codes, which are given by their signs.
+    /// Fills `samples` with the cell's signal from a local chip on, within its block: each chip
+    /// times its point of the codes, given by their signs.
     pub fn spread(&mut self, chip: u64, signs: &[(i8, i8)], samples: &mut [Sample])
         requires soon { chip < 2 ^ 34 }
         requires within { chip % 64 + length samples.old ≤ 64 }

@@ -11,7 +11,7 @@ use crate::symbol_source::SymbolSource;
 use chip_core::Bits;
 use std::marker::Model;
 
-/// A channel that is sent, of which the symbols of one frame are kept. Contracts see its gain, its
+/// A transmitted channel, with the symbols of one frame in memory. Contracts see its gain, its
 /// Walsh row, the local chip of its first frame, and the source of its symbols.
 ///
 /// TIA/EIA-95-B, 7.1.3.1: each channel is a stream of symbols that its Walsh row spreads.

@@ -1,4 +1,4 @@
-//! Channels whose encoder goes on from frame to frame.
+//! Channels whose encoder continues from frame to frame.
 
 ghost use Rattle.std.specs.Prelude.{◌≡◌, ◌+◌, ◌*◌, ◌<◌, ◌≤◌, ◌^◌, length};
 ghost use Rattle.chip_core.specs.Bits.{binary};
@@ -13,8 +13,8 @@ use conv_code::encode_into;
 use std::marker::Model;
 use symbol_path::place_into;
 
-/// An encoder that goes on from frame to frame, and starts in state zero (TIA/EIA-95-B, 7.1.3.1.3).
-/// Contracts see the source of the frames' bits.
+/// An encoder that continues from frame to frame and starts in state zero (TIA/EIA-95-B,
+/// 7.1.3.1.3). Contracts see the source of the frames' bits.
 #[derive(Drop)]
 pub struct ContinuedEncoder {
     source: FrameSource,
@@ -61,15 +61,15 @@ impl ContinuedEncoder {
         }
     }
 
-    /// How long the channel's frames and symbols are.
+    /// Returns how long the channel's frames and symbols are.
     pub fn form(&self) -> ChannelForm
         ensures { result ≡ continued_form self.now }
     {
         self.source.form()
     }
 
-    /// The encoder's state before a frame: that after the frame coded last, where this is the
-    /// next.
+    /// Returns the encoder's state before a frame; it is kept from the previous frame if that was
+    /// coded last.
     fn state_at(&mut self, frame: u64) -> u8
         requires { frame < 2 ^ 20 }
         ensures value { binary 8 result ≡ bits_before (frame_bits_of self.old) frame }
@@ -96,8 +96,8 @@ impl ContinuedEncoder {
         code
     }
 
-    /// The symbols of a frame as they are sent: the code symbols, repeated, interleaved, and
-    /// scrambled where the channel is.
+    /// Returns the transmitted symbols of a frame: code symbols, repeated, interleaved, and
+    /// scrambled if the channel is.
     pub fn symbols(&mut self, frame: u64) -> Bits
         requires { frame < 2 ^ 20 }
         ensures value { result ≡ continued_frames self.old frame }

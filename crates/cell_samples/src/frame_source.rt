@@ -11,7 +11,7 @@ use cell_plan::{ChannelForm, PAGING_FORM, SYNC_FORM};
 use chip_core::Bits;
 use symbol_path::Kind;
 
-/// The bits of the frames of a channel whose encoder goes on from frame to frame.
+/// The source of the frames' bits of a channel whose encoder continues from frame to frame.
 #[derive(Drop)]
 pub enum FrameSource {
     /// The transmissions of a sync channel's message (TIA/EIA-95-B, 7.7.1.2).
@@ -34,7 +34,7 @@ impl FrameSource {
         }
     }
 
-    /// How long the channel's frames and symbols are.
+    /// Returns how long the channel's frames and symbols are.
     pub fn form(&self) -> ChannelForm
         ensures { result ≡ continued_form self.now }
     {
@@ -64,7 +64,7 @@ impl FrameSource {
         }
     }
 
-    /// The symbols of a frame, scrambled where the channel is (7.1.3.1.6).
+    /// Returns the symbols of a frame, scrambled if the channel is (7.1.3.1.6).
     pub fn scrambled(&self, frame: u64, symbols: Bits) -> Bits
         requires frame { frame < 2 ^ 20 }
         requires symbols { length symbols ≡ size (shape_of (symbol_kind_of self.now)) }

@@ -41,7 +41,7 @@ impl Model for PageCycle {
         IsCycle (record { cell = c.cell; mask = c.mask; rate = c.rate; bits = c.bits }) };
 }
 
-/// Adds the zeros that make whole half-frames of so many bits each.
+/// Pads with zeros to whole half-frames of `half_frame` body bits.
 fn fill_up(half_frame: u16, bits: &mut HalfBits)
     requires some { 1 ≤ half_frame }
     requires few { half_frame ≤ 96 }

@@ -34,9 +34,9 @@ use symbol_path::Rate;
 /// channels.
 const FIRST_ROOM: usize = 9;
 
-/// A cell that gives its samples in order, as a handset receives them over the cell's link.
+/// A cell that returns its samples in order, as a handset receives them over the cell's link.
 ///
-/// Contracts see the width of the samples, the plan, and how many samples it has given.
+/// Contracts see the width of the samples, the plan, and how many samples it has returned.
 ///
 /// TIA/EIA-95-B, 7.1.3.1.8 and 7.1.3.1.9: each channel is spread by its Walsh row, and the sum of
 /// them by the pilot's codes.
@@ -82,7 +82,7 @@ fn phase_for(plan: &CellPlan, chip: u64) -> u16
     ((chip + CODE_CHIPS - OFFSET_CHIPS * u64::from(plan.cell.pn)) % CODE_CHIPS) as u16
 }
 
-/// The rate of the paging channels, which the sync channel's message tells (TIA/EIA-95-B, 7.7.1.3).
+/// Returns the rate of the paging channels, from the sync message (TIA/EIA-95-B, 7.7.1.3).
 fn paging_rate(sync: Option<SyncPlan>) -> Rate
     ensures value { result ≡ sent_paging_rate sync }
     ensures paging { IsPagingRate result }
@@ -167,8 +167,8 @@ fn with_traffic(
     Ok(channels)
 }
 
-/// The channels of a plan: the pilot, the sync channel where there is one, whose frames begin with
-/// the cell's code, the paging channels and the traffic channels (TIA/EIA-95-B, 7.1.3.2 to
+/// Returns the channels of a plan: the pilot, the sync channel if there is one, whose frames begin
+/// with the cell's code, the paging channels and the traffic channels (TIA/EIA-95-B, 7.1.3.2 to
 /// 7.1.3.5).
 #[tactic(auto, unfolding(cell_plan::specs::Signal::carriers))]
 fn channels_for(alloc: Global, plan: &CellPlan) -> Result<Vec<Channel>, OutOfMemory>
@@ -227,14 +227,14 @@ impl CellSamples {
         }
     }
 
-    /// How many samples the cell has still to give.
+    /// Returns how many samples of the cell are left.
     pub fn left(&self) -> u64
         ensures { result + self.now.given ≡ self.now.plan.link.samples }
     {
         self.plan.link.samples - self.given
     }
 
-    /// How many samples the block of the next one has from that one on.
+    /// Returns how many samples the block of the next one has from that one on.
     fn left_in_block(&self) -> usize
         ensures { (self.now.plan.link.start + self.now.given) % 64 + result ≡ 64 }
     {

@@ -40,15 +40,15 @@ impl Model for Sendings {
     ghost invariant = { λ s. IsKeptCapsule s.cell s.message s.superframes s.kept s.capsule };
 }
 
-/// How many superframes a capsule takes.
+/// Returns how many superframes a capsule takes.
 fn superframes_for(capsule: &Bits) -> u64
     ensures { result ≡ superframes_of capsule.now }
 {
     u64::from((capsule.len() + SUPERFRAME_BITS - 1) / SUPERFRAME_BITS)
 }
 
-/// The message of a transmission: it tells the time and the long code's state four superframes
-/// after its last one, less the pilot's offset.
+/// Returns the message of a transmission: it has the time and the long code's state four
+/// superframes after its last one, less the pilot's offset.
 fn message_for(
     cell: &CellIdentity,
     message: &SyncFields,

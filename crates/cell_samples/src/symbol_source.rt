@@ -14,7 +14,7 @@ use chip_core::Bits;
 pub enum SymbolSource {
     /// The pilot: each symbol is 0 (TIA/EIA-95-B, 7.1.3.2).
     Pilot,
-    /// An encoder that goes on from frame to frame (7.1.3.1.3).
+    /// An encoder that continues from frame to frame (7.1.3.1.3).
     Continued(ContinuedEncoder),
     /// The frames of a traffic channel, each encoded by itself (7.1.3.5).
     Traffic(TrafficCycle),
@@ -30,7 +30,7 @@ fn pilot_symbols() -> Bits
 }
 
 impl SymbolSource {
-    /// How long the frames and symbols are.
+    /// Returns how long the frames and symbols are.
     pub fn form(&self) -> ChannelForm
         ensures { result ≡ form_of self.now }
     {

@@ -1,5 +1,5 @@
--- Lines that state their fields one after another: by one table of keys and of the forms of their
--- values a line is read and written.
+-- Lines that state their fields in order: one table of keys and forms of values serves to read and
+-- to write a line.
 use Rattle.cell_script.specs.Common.{FieldForm}
 use Rattle.std.specs.Prelude.{ℕ, ℤ, ◌≡◌, ◌≤◌, ◌<◌, ◌^◌, Bool, true, if◌then◌else◌, List, [], ◌∷◌}
 use Rattle.std.specs.Prelude.{◌++◌, length, decimal, FitsSigned, Option, None, Some}

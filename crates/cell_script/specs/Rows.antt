@@ -1,4 +1,4 @@
--- Fields that hold numbers, of which several follow one another in a line.
+-- Numeric fields, several of which follow one another in a line.
 use Rattle.std.specs.Prelude.{ℕ, List, [], ◌∷◌, length, map, get_or, ◌<◌, ◌≤◌, ◌^◌, ◌-◌, ◌++◌, ◌+◌}
 use Rattle.std.specs.Prelude.{codes, Option, Some}
 use Rattle.sync_message.specs.Rows.{sync_names, sync_widths}

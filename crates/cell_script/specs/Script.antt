@@ -1,4 +1,4 @@
--- Scripts: the plan that a script states, and the first fault of one that states none.
+-- Scripts: the plan that a script states, or its first fault.
 use Rattle.cell_script.specs.Common.{Width, CellPlan, PagingPlan, PilotPlan, SyncPlan, TrafficPlan}
 use Rattle.cell_script.specs.Common.{ScriptFault, loudness, most_part}
 use Rattle.std.specs.Prelude.{ℕ, ◌+◌, ◌-◌, ◌==◌, nat_lt, Bool, true, false, if◌then◌else◌, List, []}

@@ -1,4 +1,4 @@
--- What a judge knows of a plan while the lines that make it are read.
+-- The knowledge of a plan while the lines that state it are checked.
 use Rattle.cell_script.specs.Common.{Width, CellPlan, Statement, ScriptFault, sync_gain}
 use Rattle.std.specs.Prelude.{◌≡◌, ℕ, ◌+◌, ◌*◌, ◌<◌, ◌^◌, false, length, get_or, List, [], ◌∷◌, Ok}
 use Rattle.std.specs.Prelude.{◌++◌, Option, unsigned_abs}

@@ -1,4 +1,4 @@
--- The lines of a script: what each kind of statement says, whatever stands before it.
+-- The lines of a script: the content of each kind of statement, independent of the lines before it.
 use Rattle.cell_script.specs.Common.{Plain, Complemented, is_body, SyncFields, information_bits_of}
 use Rattle.cell_script.specs.Common.{PilotPlan, SyncPlan, CellIdentity, LinkPlan, Page, FrameRate}
 use Rattle.cell_script.specs.Common.{SetOne, SetTwo, TrafficFrame, R14400, R7200, R3600, R1800}

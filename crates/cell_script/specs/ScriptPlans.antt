@@ -1,4 +1,4 @@
--- What a statement says, within its bounds.
+-- The content of a statement, within its bounds.
 use Rattle.cell_script.specs.Common.{IsStatedCell, IsStatedLink, IsTrafficFrame, Statement}
 use Rattle.std.specs.Prelude.{◌≤◌, ◌<◌}
 use Rattle.chip_core.specs.Complex.{norm}

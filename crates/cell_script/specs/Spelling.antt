@@ -1,4 +1,4 @@
--- How statements are written, the other side of how they are read, and the script of a plan.
+-- The text of statements, and the script of a plan.
 use Rattle.cell_script.specs.Common.{SyncFields, CellIdentity, CellPlan, LinkPlan, Page, PagingPlan}
 use Rattle.cell_script.specs.Common.{PilotPlan, SyncPlan, TrafficPlan, TrafficFrame, Statement}
 use Rattle.cell_script.specs.Common.{TrafficLine, FieldForm}

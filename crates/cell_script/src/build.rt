@@ -12,8 +12,8 @@ use cell_plan::{
 use chip_core::{CheckForm, OutOfMemory, Pair};
 use std::alloc::Global;
 
-/// The plan before the first statement. A part that wasn't stated yet is that of the least cell: no
-/// offset, time 0, state 1, a link of 1, one sample, a pilot of gain 1, no other channels.
+/// Returns the plan before the first statement. Parts that were not stated yet have defaults:
+/// offset 0, time 0, state 1, link factor 1, one sample, a pilot of gain 1, no other channels.
 pub(crate) fn empty_plan(alloc: Global) -> CellPlan
     ensures { result ≡ empty_plan }
 {
@@ -83,7 +83,7 @@ fn add_frame(traffic: &mut Series<TrafficPlan>, frame: &TrafficFrame) -> Result<
     traffic.push(channel)
 }
 
-/// Adds what a statement says to a plan.
+/// Adds the content of a statement to a plan.
 pub(crate) fn add_statement(
     alloc: Global,
     plan: &mut CellPlan,

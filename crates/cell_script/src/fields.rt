@@ -17,8 +17,8 @@ use line_text::{
 use std::marker::Model;
 use sync_message::{FieldRow, sync_name, sync_width};
 
-/// Reads the fields of a line in order. A key is what stands before a value: ` name=`, with the
-/// statement's word before the first. Contracts see the text that is left.
+/// Reads the fields of a line in order. A key is the text before a value: ` name=`, preceded by the
+/// statement's word for the first field. Contracts see the remaining text.
 #[derive(Drop)]
 pub(crate) struct Fields<'a> {
     text: &'a [u8],
@@ -40,7 +40,7 @@ impl<'a> Fields<'a> {
         Fields { text }
     }
 
-    /// Whether all of the text was read.
+    /// Whether the whole text was read.
     pub(crate) fn at_end(&self) -> bool
         ensures { IsTrue result ↔ (self.now ≡ []) }
     {
@@ -76,7 +76,7 @@ impl<'a> Fields<'a> {
         after_name(self.text, row.0).is_some()
     }
 
-    /// The number of this field of a message, of at most as many bits as it has there.
+    /// Returns the number of this field of a message; it must fit the field's width.
     #[tactic(auto, unfolding(crate::specs::ScriptFields::script_field, crate::specs::ScriptFields::past))]
     pub(crate) fn number(&mut self, row: FieldRow) -> Option<u64>
         requires { row.1 ≤ 63 }
@@ -100,7 +100,7 @@ impl<'a> Fields<'a> {
         self.number((sync_name(place), sync_width(place)))
     }
 
-    /// The value of a field whose form has no sign; `None` for one whose form has.
+    /// Returns the value of a field of an unsigned form; `None` for a signed form.
     #[tactic(auto, unfolding(crate::specs::ScriptFields::script_field))]
     pub(crate) fn unsigned(&mut self, row: StatementField) -> Option<u64>
         ensures value { result ≡ script_field row.key.now (unsigned_of row.form) self.old }
@@ -110,7 +110,7 @@ impl<'a> Fields<'a> {
         unsigned_of(row.form, self.value(row.key)?)
     }
 
-    /// The value of a field whose form has a sign; `None` for one whose form has none.
+    /// Returns the value of a field of a signed form; `None` for an unsigned form.
     #[tactic(auto, unfolding(crate::specs::ScriptFields::script_field))]
     pub(crate) fn signed(&mut self, row: StatementField) -> Option<i64>
         ensures value { result ≡ script_field row.key.now (signed_of row.form) self.old }
@@ -142,8 +142,8 @@ impl<'a> Fields<'a> {
 /// Up to four values of the fields of a line, in their order, and zeros after them.
 pub(crate) type LineValues = [u64; 4];
 
-/// The values of a line of at most four fields whose forms have no sign; `None` where a field isn't
-/// there, or something stands after the last.
+/// Returns the values of a line of at most four unsigned fields; `None` if a field is missing or if
+/// text follows the last.
 pub(crate) fn unsigned_line(text: &[u8], rows: &[StatementField]) -> Option<LineValues>
     requires { length rows.now ≤ 4 }
     ensures value { result ≡ unsigned_line rows.now text.now }
@@ -160,7 +160,7 @@ pub(crate) fn unsigned_line(text: &[u8], rows: &[StatementField]) -> Option<Line
     Some(values)
 }
 
-/// What stands after ` name=`, with which a text begins.
+/// Returns the text after an initial ` name=`.
 #[tactic(auto, using(crate::proofs::ScriptKeys::key_told, crate::proofs::ScriptKeys::key_after))]
 fn after_name<'a>(text: &'a [u8], name: &str) -> Option<&'a [u8]>
     ensures { MatchOption result (begins_with text.now (key_of name.now) ≡ false)

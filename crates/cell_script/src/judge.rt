@@ -21,7 +21,7 @@ use chip_core::Pair;
 use chip_core::air::{PILOT_ROW, SYNC_ROW};
 
 /// What is known of the plan that the statements so far make. A part that wasn't stated yet is that
-/// of the least cell: a link of 1, one sample, a pilot of gain 1.
+/// of the smallest cell: a link of 1, one sample, a pilot of gain 1.
 #[derive(Clone, Copy)]
 pub(crate) struct Judge {
     link: LinkPlan,
@@ -196,7 +196,7 @@ impl Judge {
     }
 }
 
-/// The gain of the sync channel, where there is one.
+/// The gain of the sync channel, if there is one.
 fn sync_gain(sync: Option<SyncPlan>) -> u16
     ensures { result ≡ sync_gain sync }
 {
@@ -206,7 +206,7 @@ fn sync_gain(sync: Option<SyncPlan>) -> u16
     }
 }
 
-/// The greatest absolute value of a part of a sample.
+/// Returns the largest absolute value of a part of a sample.
 fn most_part(width: Width) -> u64
     ensures { result ≡ most_part width }
 {
@@ -216,7 +216,7 @@ fn most_part(width: Width) -> u64
     }
 }
 
-/// The most samples that a file has.
+/// Returns the largest number of samples in a file.
 fn most_samples(width: Width) -> u64
     ensures { result ≡ most_samples width }
 {

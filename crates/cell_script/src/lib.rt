@@ -1,12 +1,12 @@
-//! Scripts of cells: lines of text that say what a cell sends, and what a handset receives of it.
+//! Scripts of cells: lines of text that specify what a cell sends and how the link changes it.
 //!
-//! Each line is a statement and ends with LF: `cell`, `link`, `pilot`, and perhaps `sync`, in this
-//! order; after `sync` any number of `paging` lines, each with one or more `page` lines after it,
-//! and then any number of `traffic` lines, each with one or more `frame` lines after it, or one or
-//! more `frame2` lines.
+//! Each line is a statement and ends with LF. `cell`, `link`, `pilot` and optionally `sync` come
+//! first, in this order. After `sync` come any number of `paging` lines, each followed by one or
+//! more `page` lines. Then come any number of `traffic` lines, each followed by one or more `frame`
+//! lines or one or more `frame2` lines.
 //!
-//! A script is read twice. First its statements are judged one after another, without memory; only
-//! of a script without a fault is a plan made.
+//! A script is read twice: first its statements are checked in order, without allocating; then,
+//! only if there is no fault, its plan is made.
 #![tactic(auto)]
 
 mod build;

@@ -1,4 +1,4 @@
-//! From a script to the plan that it names, or to its fault.
+//! Reads a script as the plan that it names, or finds its fault.
 
 ghost use Rattle.cell_script.specs.Common.{IsLawfulPlan};
 ghost use Rattle.std.specs.Prelude.{◌≡◌, ◌≢◌, ◌≤◌, ◌<◌, ◌+◌, length, Ok, Err, IsOk, IfOk, IfErr};
@@ -20,11 +20,11 @@ use chip_core::OutOfMemory;
 use line_text::length_before;
 use std::alloc::Global;
 
-/// The most bytes that a script has.
+/// The largest number of bytes in a script.
 const MOST_BYTES: usize = 1_048_576;
 
-/// The plan that a script names for samples of a width, or its fault. Memory is asked for only
-/// where the script has no fault.
+/// Returns the plan that a script names for samples of a width, or its fault. Allocates only if the
+/// script has no fault.
 pub fn plan_of(alloc: Global, script: &[u8], width: Width) -> Result<CellPlan, ScriptFault>
     ensures value { IfOk result (λ plan. plan_named width script.now ≡ Ok plan) }
     ensures lawful { IfOk result (IsLawfulPlan width) }
@@ -49,8 +49,8 @@ pub fn plan_of(alloc: Global, script: &[u8], width: Width) -> Result<CellPlan, S
     }
 }
 
-/// What is known of the plan that the lines of a script state; else the number of the first line
-/// that can't stand where it stands, or that is missing.
+/// Returns what the checks need of the plan that a script states, or the number of the first line
+/// that is misplaced or missing.
 fn judged(script: &[u8]) -> Result<Judge, u32>
     requires { length script.now ≤ 1048576 }
     ensures judged { IfOk result (IsJudged script.now) }
@@ -79,7 +79,7 @@ fn judged(script: &[u8]) -> Result<Judge, u32>
     }
 }
 
-/// The plan that the lines of a script state, which are at no fault.
+/// Returns the plan of a script without a fault.
 fn plan_in(alloc: Global, script: &[u8]) -> Result<CellPlan, OutOfMemory>
     requires { IsOk (stated_plan script.now) }
     ensures { IfOk result (λ plan. stated_plan script.now ≡ Ok plan) }
@@ -93,8 +93,8 @@ fn plan_in(alloc: Global, script: &[u8]) -> Result<CellPlan, OutOfMemory>
     Ok(plan)
 }
 
-/// What the first line of a text states, and how many bytes it has with its LF; `None` where it
-/// states nothing or has none.
+/// Returns the statement on the first line of a text and the line's number of bytes with its LF;
+/// `None` if it is not a statement or has no LF.
 #[tactic(auto, unfolding(crate::specs::ScriptSplitting::first_stated))]
 fn first_statement(text: &[u8]) -> Option<(Statement, usize)>
     ensures { MatchOption result (first_stated text.now ≡ None)
@@ -107,7 +107,7 @@ fn first_statement(text: &[u8]) -> Option<(Statement, usize)>
     Some((statement, end + 1))
 }
 
-/// How many bytes stand before the first LF.
+/// Returns how many bytes precede the first LF.
 fn line_end(text: &[u8]) -> Option<usize>
     ensures { MatchOption result (length_before 10 text.now ≡ length text.now)
         (λ end. (end ≡ length_before 10 text.now) × (end < length text.now)) }

@@ -1,19 +1,18 @@
-//! What may be wrong with a script.
+//! The faults of a script.
 
 use thiserror::Error;
 
-/// Why a script names no cell.
+/// The reason why a script is rejected.
 ///
-/// The faults are tried in the order `TooBig`, `Line`, `Walsh`, `Gain`, `TooLoud`, `TooLong`, each
-/// over the whole script.
+/// The first of `TooBig`, `Line`, `Walsh`, `Gain`, `TooLoud` and `TooLong` is reported, in this
+/// order; each is checked over the whole script.
 #[derive(Clone, Copy, PartialEq, Eq, Debug, Error)]
 pub enum ScriptFault {
-    /// A line can't stand where it stands, or is missing.
+    /// A line is misplaced or missing.
     #[error("line {n}")]
     Line {
-        /// The least number, counted from 1, such that no script without this fault begins with
-        /// lines 1 to `n`; the number of the line after the last where a needed line is missing at
-        /// the end.
+        /// The smallest number, from 1, such that no script without this fault begins with lines 1
+        /// to `n`; if a required line is missing at the end, the number of the line after the last.
         n: u32,
     },
     /// A traffic channel has the row of the pilot or of the sync channel, or a row is used twice.
@@ -29,19 +28,20 @@ pub enum ScriptFault {
         /// 32 for the sync channel.
         row: u8,
     },
-    /// The signal may pass what the samples can hold: 32,767 with 16 bits, 127 with 8 bits.
+    /// The signal could exceed the samples' range: 32,767 with 16 bits, 127 with 8 bits.
     #[error("too loud {sum}")]
     TooLoud {
         /// The sum of the absolute values of the link's parts, times the sum of all gains.
         sum: u64,
     },
-    /// More samples are wanted than a file has: 33,554,432 with 16 bits, 67,108,864 with 8 bits.
+    /// The script asks for more samples than a file can have: 33,554,432 with 16 bits, 67,108,864
+    /// with 8 bits.
     #[error("too long {n}")]
     TooLong {
-        /// How many samples are wanted.
+        /// How many samples the script asks for.
         n: u64,
     },
-    /// Memory ran out.
+    /// Out of memory.
     #[error("out of memory")]
     OutOfMemory,
     /// The script has more than 1,048,576 bytes.

@@ -1,4 +1,4 @@
-//! How the statements of a script are written, without their LF: the other side of reading them.
+//! Writes the statements of a script, without their LF.
 
 ghost use Rattle.std.specs.Prelude.{◌≡◌, ◌<◌, ◌≤◌, ◌+◌, ◌++◌, [], length, get_or, IsAscii, decimal};
 ghost use Rattle.std.specs.Fmt.{signed_decimal};
@@ -21,7 +21,7 @@ use chip_core::CheckForm;
 use line_text::Text;
 use sync_message::{FREQ_FIELD, FieldRow, SyncFields, sync_name, sync_width};
 
-/// Adds a value by its form, which has no sign.
+/// Adds a value of an unsigned form.
 fn append_value(text: &mut Text, form: FieldForm, value: u64)
     requires digits { HasDigits form value }
     requires room { length text.old + 20 ≤ 1024 }
@@ -35,7 +35,7 @@ fn append_value(text: &mut Text, form: FieldForm, value: u64)
     }
 }
 
-/// Adds a field: its key, and after it a value, whose form has no sign.
+/// Adds a field: its key, then a value of an unsigned form.
 fn append_field(text: &mut Text, field: StatementField, value: u64)
     requires ascii { IsAscii field.key.now }
     requires digits { HasDigits field.form value }
@@ -47,7 +47,7 @@ fn append_field(text: &mut Text, field: StatementField, value: u64)
     append_value(text, field.form, value);
 }
 
-/// Adds a field: its key, and after it a value, whose form has a sign.
+/// Adds a field: its key, then a value of a signed form.
 fn append_signed_field(text: &mut Text, field: StatementField, value: i64)
     requires ascii { IsAscii field.key.now }
     requires room { length text.old + length field.key.now + 20 ≤ 1024 }
@@ -58,7 +58,7 @@ fn append_signed_field(text: &mut Text, field: StatementField, value: i64)
     text.append_number(value);
 }
 
-/// Adds a field of a message, whose value is a number.
+/// Adds a numeric field of a message.
 fn append_number(text: &mut Text, row: FieldRow, value: u64)
     requires ascii { IsAscii row.0.now }
     requires room { length text.old + length (key_of row.0.now) + 20 ≤ 1024 }
@@ -69,7 +69,7 @@ fn append_number(text: &mut Text, row: FieldRow, value: u64)
     text.append_number(value);
 }
 
-/// Adds the field at this place of the sync message's table, whose value is a number.
+/// Adds the numeric field at this place of the sync message's table.
 fn append_sync_number(text: &mut Text, place: usize, value: u64)
     requires place { place < 11 }
     requires ascii { IsAscii (get_or sync_names place []) }
@@ -80,7 +80,7 @@ fn append_sync_number(text: &mut Text, place: usize, value: u64)
     append_number(text, (sync_name(place), sync_width(place)), value);
 }
 
-/// The bit of a form of checks: 1 where they are complemented.
+/// Returns the bit of a form of checks: 1 if they are complemented.
 fn form_bit(form: CheckForm) -> u64
     ensures value { result ≡ form_bit form }
     ensures most { result ≤ 1 }
@@ -158,7 +158,7 @@ fn append_sync(text: &mut Text, sync: &SyncPlan)
     text.append_bits(&sync.message.rest);
 }
 
-/// Adds the fields of a message that tell of the protocol and the network.
+/// Adds a message's fields on the protocol and the network.
 fn append_network(text: &mut Text, message: &SyncFields)
     requires { length text.old ≤ 200 }
     ensures value { text.new ≡ text.old
@@ -171,7 +171,7 @@ fn append_network(text: &mut Text, message: &SyncFields)
     append_sync_number(text, 3, u64::from(message.nid));
 }
 
-/// Adds the fields of a message that tell of local time and the paging channel.
+/// Adds a message's fields on local time and the paging channel.
 fn append_local(text: &mut Text, message: &SyncFields)
     requires { length text.old ≤ 400 }
     ensures value { text.new ≡ text.old ++ numbers_text local_rows (local_values message.now) }
@@ -183,7 +183,7 @@ fn append_local(text: &mut Text, message: &SyncFields)
     append_sync_number(text, 10, u64::from(message.prat));
 }
 
-/// Adds the frequency of a message, where it has one.
+/// Adds the frequency of a message, if it has one.
 fn append_freq(text: &mut Text, freq: Option<u16>)
     requires { length text.old ≤ 600 }
     ensures value { text.new ≡ text.old ++ written_freq freq }

@@ -10,18 +10,17 @@ use crate::statements::Statement;
 use cell_plan::{FrameRate, Page, RateSet, SyncPlan};
 use symbol_path::Rate;
 
-/// The most bits of a cycle up to the end of its last capsule, SCI bits among them.
+/// The largest number of bits of a cycle up to the end of its last capsule, including SCI bits.
 const MOST_CYCLE_BITS: u32 = 8192;
 
-/// How many bits of a capsule stand before and after its body: its length and its check
-/// (TIA/EIA-95-B, 7.7.2).
+/// How many bits a capsule has besides its body: its length and its check (TIA/EIA-95-B, 7.7.2).
 const CAPSULE_BITS: u32 = 38;
 
-/// How many body bits of a half-frame are left at least where a capsule may follow another one at
-/// once (TIA/EIA-95-B, 7.7.2.1).
+/// How many body bits of a half-frame must be left for a capsule to follow another at once
+/// (TIA/EIA-95-B, 7.7.2.1).
 const LEAST_LEFT: u32 = 8;
 
-/// Which statement may stand next.
+/// Which statement may come next.
 #[derive(Clone, Copy)]
 pub enum Stage {
     /// `cell`, the first one.
@@ -51,8 +50,8 @@ pub enum Stage {
     Frames(RateSet),
 }
 
-/// How many body bits a half-frame has: 95 at 9600 bits per second, 47 at 4800 (TIA/EIA-95-B,
-/// 7.7.2.1).
+/// Returns how many body bits a half-frame has: 95 at 9600 bits per second, 47 at 4800
+/// (TIA/EIA-95-B, 7.7.2.1).
 fn half_frame_body(rate: Rate) -> u32
     ensures value { result ≡ half_frame_body rate }
     ensures some { 1 ≤ result }
@@ -66,7 +65,7 @@ fn half_frame_body(rate: Rate) -> u32
     }
 }
 
-/// How many body bits of the half-frame under way are left after so many.
+/// Returns how many body bits of the current half-frame are left after `count` body bits.
 fn bits_left(size: u32, count: u16) -> u32
     requires some { 1 ≤ size }
     requires most { size ≤ 95 }
@@ -77,8 +76,8 @@ fn bits_left(size: u32, count: u16) -> u32
     (size - u32::from(count) % size) % size
 }
 
-/// How many body bits a cycle has after one more page. It begins with a half-frame unless it
-/// follows at once.
+/// Returns how many body bits a cycle has after another page. The page begins a half-frame unless
+/// it follows at once.
 fn count_after(rate: Rate, count: u16, page: &Page) -> u32
     ensures value { result ≡ count_after rate count page.now }
     ensures most { result ≤ 70000 }
@@ -90,7 +89,7 @@ fn count_after(rate: Rate, count: u16, page: &Page) -> u32
     u32::from(count) + bits_left(half_frame_body(rate), count) + capsule
 }
 
-/// Whether a page may stand after so many body bits: one that follows at once needs room for its
+/// Whether a page may come after `count` body bits: one that follows at once needs room for its
 /// capsule's length in the half-frame.
 fn may_follow(rate: Rate, count: u16, follows: bool) -> bool
     ensures { result ≡ may_follow rate count follows }
@@ -101,7 +100,7 @@ fn may_follow(rate: Rate, count: u16, follows: bool) -> bool
     bits_left(half_frame_body(rate), count) >= LEAST_LEFT
 }
 
-/// Whether a cycle of so many body bits isn't too long.
+/// Whether a cycle of `count` body bits is not too long.
 fn is_cycle(rate: Rate, count: u32) -> bool
     requires { count ≤ 70000 }
     ensures value { result ≡ is_cycle rate count }
@@ -111,7 +110,7 @@ fn is_cycle(rate: Rate, count: u32) -> bool
     count + (count + size - 1) / size <= MOST_CYCLE_BITS
 }
 
-/// The stage after a page that stands after so many body bits of its cycle.
+/// Returns the stage after a page that comes after `count` body bits of its cycle.
 #[tactic(auto, unfolding(crate::specs::ScriptStages::page_stage))]
 fn stage_after_page(rate: Rate, count: u16, page: &Page) -> Option<Stage>
     ensures { result ≡ page_stage rate count page.now }
@@ -129,8 +128,8 @@ fn stage_after_page(rate: Rate, count: u16, page: &Page) -> Option<Stage>
     })
 }
 
-/// What may stand after a `sync` line: traffic channels, and before them paging channels where its
-/// message says that they have 9600 or 4800 bits per second (TIA/EIA-95-B, 7.7.1.3).
+/// Returns the stage after a `sync` line: traffic channels, preceded by paging channels if its
+/// message gives them 9600 or 4800 bits per second (TIA/EIA-95-B, 7.7.1.3).
 fn stage_after_sync(sync: &SyncPlan) -> Stage
     ensures { result ≡ stage_after_sync sync.now }
 {
@@ -141,8 +140,8 @@ fn stage_after_sync(sync: &SyncPlan) -> Stage
     }
 }
 
-/// What may stand after one more frame of a channel whose frames are of a rate set; `None` where it
-/// is of the other.
+/// Returns the stage after another frame of a channel of this rate set; `None` if the frame is of
+/// the other rate set.
 fn frames_stage(set: RateSet, rate: FrameRate) -> Option<Stage>
     ensures { result ≡ frames_stage set rate }
 {
@@ -155,7 +154,7 @@ fn frames_stage(set: RateSet, rate: FrameRate) -> Option<Stage>
 }
 
 impl Stage {
-    /// What may stand after a statement; `None` where it can't stand.
+    /// Returns the stage after a statement; `None` if the statement is misplaced.
     pub fn after(self, statement: &Statement) -> Option<Stage>
         ensures { result ≡ next_stage self statement.now }
     {

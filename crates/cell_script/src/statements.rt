@@ -40,7 +40,7 @@ const FRAME_RATES: [FrameRate; 8] = [
     FrameRate::SetTwo(Rate2::R1800),
 ];
 
-/// What a line of a script states.
+/// The content of a line of a script.
 #[derive(Clone, Copy)]
 pub enum Statement {
     /// Which cell it is.
@@ -51,13 +51,13 @@ pub enum Statement {
     Pilot(PilotPlan),
     /// Its sync channel.
     Sync(SyncPlan),
-    /// One more paging channel, whose pages the lines after state.
+    /// Another paging channel; the lines after it state its pages.
     Paging(PagingLine),
-    /// One more page of that channel.
+    /// Another page of that channel.
     Page(Page),
-    /// One more traffic channel, whose frames the lines after state.
+    /// Another traffic channel; the lines after it state its frames.
     Traffic(TrafficLine),
-    /// One more frame of that channel.
+    /// Another frame of that channel.
     Frame(TrafficFrame),
 }
 
@@ -83,7 +83,7 @@ pub struct TrafficLine {
     pub gain: u16,
 }
 
-/// What a line states, given without its LF and whatever stands before it.
+/// Returns the statement on a line, given without its LF and independent of the lines before it.
 #[tactic(auto, unfolding(crate::specs::ScriptLines::statement_in))]
 pub fn statement_in(text: &[u8]) -> Option<Statement>
     ensures value { result ≡ statement_in text.now }
@@ -104,7 +104,7 @@ pub fn statement_in(text: &[u8]) -> Option<Statement>
     channel_statement_in(text)
 }
 
-/// What a line states that tells of a paging or traffic channel.
+/// Returns the statement on a line about a paging or traffic channel.
 fn channel_statement_in(text: &[u8]) -> Option<Statement>
     ensures value { result ≡ channel_statement_in text.now }
     ensures row { IfSome result HasRow }
@@ -124,7 +124,7 @@ fn channel_statement_in(text: &[u8]) -> Option<Statement>
     None
 }
 
-/// The form of checks: complemented where the bit is 1.
+/// Returns the form of checks: complemented if the bit is 1.
 fn check_form(bit: u64) -> CheckForm
     ensures { result ≡ check_form bit }
 {
@@ -135,7 +135,7 @@ fn check_form(bit: u64) -> CheckForm
     }
 }
 
-/// What a `cell` line says.
+/// Reads a `cell` line.
 #[tactic(auto, unfolding(crate::specs::ScriptLines::cell_in))]
 fn cell_in(text: &[u8]) -> Option<CellIdentity>
     ensures value { result ≡ cell_in text.now }
@@ -151,7 +151,7 @@ fn cell_in(text: &[u8]) -> Option<CellIdentity>
     })
 }
 
-/// What a `link` line says.
+/// Reads a `link` line.
 #[tactic(auto, unfolding(crate::specs::ScriptLines::link_in))]
 fn link_in(text: &[u8]) -> Option<LinkPlan>
     ensures value { result ≡ link_in text.now }
@@ -185,7 +185,7 @@ fn is_link(re: i64, im: i64, samples: u64) -> bool
     re.unsigned_abs() + im.unsigned_abs() > 0 && samples > 0
 }
 
-/// What a `pilot` line says.
+/// Reads a `pilot` line.
 #[tactic(auto, unfolding(crate::specs::ScriptLines::pilot_in))]
 fn pilot_in(text: &[u8]) -> Option<PilotPlan>
     ensures { result ≡ pilot_in text.now }
@@ -194,8 +194,8 @@ fn pilot_in(text: &[u8]) -> Option<PilotPlan>
     Some(PilotPlan { gain: gain as u16 })
 }
 
-/// What a `sync` line says: its gain, and the fields of the message, of which each transmission
-/// fills in PILOT_PN, SYS_TIME and LC_STATE (TIA/EIA-95-B, 7.7.1.3), which are zeros here.
+/// Reads a `sync` line: its gain and the fields of the message. PILOT_PN, SYS_TIME and LC_STATE are
+/// zeros here; each transmission fills them in (TIA/EIA-95-B, 7.7.1.3).
 #[tactic(auto, unfolding(crate::specs::ScriptLines::sync_in))]
 fn sync_in(text: &[u8]) -> Option<SyncPlan>
     ensures value { result ≡ sync_in text.now }
@@ -208,10 +208,10 @@ fn sync_in(text: &[u8]) -> Option<SyncPlan>
     sync_after(gain as u16, &network, &local, fields)
 }
 
-/// Four numbers of a `sync` line that stand side by side in the message's table, in its order.
+/// Four numbers of a `sync` line that are adjacent in the message's table, in its order.
 type TableNumbers = [u64; 4];
 
-/// Four numbers of a `sync` line, from this place of the message's table on.
+/// Returns four numbers of a `sync` line, from this place of the message's table.
 #[tactic(auto, unfolding(crate::specs::Rows::numbers_in, crate::specs::Rows::past_numbers))]
 fn numbers_from(fields: &mut Fields<'_>, first: usize) -> Option<TableNumbers>
     requires { first ≤ 7 }
@@ -226,7 +226,7 @@ fn numbers_from(fields: &mut Fields<'_>, first: usize) -> Option<TableNumbers>
     ])
 }
 
-/// What a `sync` line says by its gain, its numbers and the fields after them.
+/// Makes the plan of a `sync` line from its gain, its numbers and the fields after them.
 #[tactic(auto, unfolding(crate::specs::ScriptLines::sync_after))]
 fn sync_after(
     gain: u16,
@@ -248,7 +248,7 @@ fn sync_after(
     Some(SyncPlan { gain, message })
 }
 
-/// What the numbers of a `sync` line say.
+/// Makes the message fields from the numbers of a `sync` line.
 fn sync_fields(
     network: &TableNumbers,
     local: &TableNumbers,
@@ -277,7 +277,7 @@ fn sync_fields(
     }
 }
 
-/// The frequency of a `sync` line, which may be left out.
+/// Returns the frequency of a `sync` line, which is optional.
 #[tactic(auto, unfolding(crate::specs::ScriptLines::freq_in, crate::specs::ScriptLines::past_freq))]
 fn freq_in(fields: &mut Fields<'_>) -> Option<Option<u16>>
     ensures value { result ≡ freq_in fields.old }
@@ -290,7 +290,7 @@ fn freq_in(fields: &mut Fields<'_>) -> Option<Option<u16>>
     Some(Some(fields.number(FREQ_FIELD)? as u16))
 }
 
-/// The message of these fields, if its rest has a length that it admits.
+/// Returns the message of these fields if its rest has an admitted length.
 fn message_with(fields: SyncFields) -> Option<SyncFields>
     requires fixed { FieldsFit (fixed_fields fields) }
     requires freq { IfSome fields.freq (λ n. n < 2 ^ 11) }
@@ -300,7 +300,7 @@ fn message_with(fields: SyncFields) -> Option<SyncFields>
     Some(SyncMessage::new(fields)?.fields())
 }
 
-/// What a `paging` line says.
+/// Reads a `paging` line.
 #[tactic(auto, unfolding(crate::specs::ScriptLines::paging_in))]
 fn paging_in(text: &[u8]) -> Option<PagingLine>
     ensures value { result ≡ paging_in text.now }
@@ -316,7 +316,7 @@ fn paging_in(text: &[u8]) -> Option<PagingLine>
     })
 }
 
-/// What a `page` line says: where its capsule begins, and the body of a message.
+/// Reads a `page` line: where its capsule begins, and the body of a message.
 #[tactic(auto, unfolding(crate::specs::ScriptLines::stated_page_in))]
 fn page_in(text: &[u8]) -> Option<Page>
     ensures { result ≡ stated_page_in text.now }
@@ -324,7 +324,7 @@ fn page_in(text: &[u8]) -> Option<Page>
     page_with(begins_with(text, b"page next "), Fields::new(text))
 }
 
-/// What a `page` line says whose capsule follows the one before at once, or doesn't.
+/// Reads a `page` line whose capsule follows the previous one at once, or does not.
 fn page_with(follows: bool, mut fields: Fields<'_>) -> Option<Page>
     ensures { result ≡ read_as (page_statement follows) fields.entry }
 {
@@ -335,7 +335,7 @@ fn page_with(follows: bool, mut fields: Fields<'_>) -> Option<Page>
     Some(Page { follows, body })
 }
 
-/// What stands before the bits of a `page` line.
+/// Returns the text before the bits of a `page` line.
 pub fn page_key(follows: bool) -> &'static [u8]
     ensures value { result.now ≡ page_key follows }
     ensures ascii { IsAscii result.now }
@@ -355,7 +355,7 @@ fn is_body(body: &Bits) -> bool
     PagingMessage::from_body(body).is_some()
 }
 
-/// What a `traffic` line says.
+/// Reads a `traffic` line.
 #[tactic(auto, unfolding(crate::specs::ScriptLines::traffic_in))]
 fn traffic_in(text: &[u8]) -> Option<TrafficLine>
     ensures value { result ≡ traffic_in text.now }
@@ -370,8 +370,8 @@ fn traffic_in(text: &[u8]) -> Option<TrafficLine>
     })
 }
 
-/// What a `frame` or `frame2` line says: a rate of rate set 1 or 2, as many information bits as a
-/// frame of it has, and sixteen power control bits.
+/// Reads a `frame` or `frame2` line: a rate of rate set 1 or 2, the information bits of such a
+/// frame, and sixteen power control bits.
 #[tactic(auto, unfolding(crate::specs::ScriptLines::traffic_frame_in))]
 fn frame_in(text: &[u8]) -> Option<TrafficFrame>
     ensures { result ≡ traffic_frame_in text.now }
@@ -386,7 +386,7 @@ fn frame_rate(text: &[u8]) -> Option<FrameRate>
     first_rate(&FRAME_RATES, text)
 }
 
-/// The first of some rates whose lines begin as this one does.
+/// Returns the first of some rates whose lines begin like this one.
 fn first_rate(rates: &[FrameRate], text: &[u8]) -> Option<FrameRate>
     ensures { result ≡ rate_by rates.now text.now }
 {
@@ -398,7 +398,7 @@ fn first_rate(rates: &[FrameRate], text: &[u8]) -> Option<FrameRate>
     None
 }
 
-/// What a line of a frame of this rate says.
+/// Reads the line of a frame of this rate.
 fn frame_with(rate: FrameRate, mut fields: Fields<'_>) -> Option<TrafficFrame>
     ensures { result ≡ read_as (frame_statement rate) fields.entry }
 {
@@ -414,7 +414,7 @@ fn frame_with(rate: FrameRate, mut fields: Fields<'_>) -> Option<TrafficFrame>
     })
 }
 
-/// What stands before the bits of a frame of this rate.
+/// Returns the text before the bits of a frame of this rate.
 pub fn frame_key(rate: FrameRate) -> &'static [u8]
     ensures value { result.now ≡ frame_key rate }
     ensures ascii { IsAscii result.now }

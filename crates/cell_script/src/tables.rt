@@ -1,6 +1,6 @@
-//! The fields of statements, which reading and its definition both go by.
+//! The fields of statements, used by both the reader and its definition.
 
-/// How the value of a field is written, and in which range it lies.
+/// The notation and the range of a field's value.
 #[derive(Clone, Copy)]
 pub enum FieldForm {
     /// A number of at most this.
@@ -13,10 +13,10 @@ pub enum FieldForm {
     SerialNumber,
 }
 
-/// A field of a statement: its key, with which it begins, and the form of its value.
+/// A field of a statement: the key with which it begins, and the form of its value.
 #[derive(Clone, Copy)]
 pub struct StatementField {
-    /// What stands before the value: ` name=`, with the statement's word before the first.
+    /// The text before the value: ` name=`, preceded by the statement's word for the first field.
     pub key: &'static [u8],
     /// How the value is written.
     pub form: FieldForm,

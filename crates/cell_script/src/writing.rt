@@ -1,4 +1,4 @@
-//! From a plan to the script that states it.
+//! Writes a plan as the script that states it.
 
 ghost use Rattle.std.specs.Prelude.{◌≡◌, ◌++◌, ◌∷◌, [], IfOk, OnOk, map};
 ghost use Rattle.std.specs.List.{flat_map};
@@ -13,12 +13,12 @@ use chip_core::OutOfMemory;
 use line_text::Text;
 use std::alloc::Global;
 
-/// The script that states a plan, a line for each statement: `cell`, `link`, `pilot`, `sync` where
-/// the plan has a sync channel, each paging channel with its pages, and each traffic channel with
-/// its frames. Where a script names the plan, this one does too, if it isn't too big: see the law
-/// `written_script_names_its_plan` of `script_laws`.
+/// Returns the script that states a plan, one line per statement: `cell`, `link`, `pilot`, `sync`
+/// if the plan has a sync channel, each paging channel with its pages, and each traffic channel
+/// with its frames. If any script names the plan, this one does too unless it is too big: see the
+/// law `written_script_names_its_plan` of `script_laws`.
 ///
-/// [`OutOfMemory`]: there was none.
+/// Returns [`OutOfMemory`] if allocation fails.
 #[tactic(auto, unfolding(crate::specs::Spelling::script_of))]
 pub fn script_text(alloc: Global, plan: &CellPlan) -> Result<Vec<u8>, OutOfMemory>
     ensures { IfOk result (λ script. script.items ≡ script_of plan.now) }
@@ -44,7 +44,7 @@ fn add_line(script: &mut Vec<u8>, statement: &Statement) -> Result<(), OutOfMemo
     Ok(())
 }
 
-/// Adds the line of the sync channel, where there is one.
+/// Adds the line of the sync channel, if there is one.
 fn add_sync(script: &mut Vec<u8>, sync: Option<SyncPlan>) -> Result<(), OutOfMemory>
     ensures { OnOk result (script.new.items ≡
         script.old.items ++ lines_of (sync_statements sync)) }

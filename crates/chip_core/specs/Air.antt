@@ -1,5 +1,5 @@
--- The lengths of the air interface that several crates' definitions speak of, and a bound that
--- several share.
+-- The lengths of the air interface that several crates' definitions use, and a bound that several
+-- share.
 use Rattle.std.specs.Prelude.{ℕ, ◌≤◌}
 
 -- how many chips a superframe of 80 ms has (TIA/EIA-95-B, 7.7.1.2)

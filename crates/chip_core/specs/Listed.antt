@@ -1,4 +1,4 @@
--- Numbers in an array of 128: the first so many, and zeros after them.
+-- Numbers in an array of 128: the first `count`, and zeros after them.
 use Rattle.std.specs.Prelude.{ℕ, ◌-◌, ◌≤◌, ◌≡◌, List, ◌++◌, take, length, replicate}
 
 -- the array of numbers

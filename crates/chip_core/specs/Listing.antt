@@ -1,5 +1,4 @@
--- What the model of a list of numbers rests on: the array can be made again from the numbers that
--- it holds.
+-- The basis of the model of a list of numbers: the array can be rebuilt from its numbers.
 use Rattle.std.proofs.Common.{◌≡◌, ℕ, List, length, take, sym, arith}
 use Rattle.std.proofs.lemmas.List.{length-take}
 use Rattle.chip_core.specs.Listed.{filled_list, IsListed}

@@ -1,4 +1,4 @@
--- Bits packed into 19 words of 64: bit i stands in word i / 64, at place i % 64 from the low end.
+-- Bits packed into 19 words of 64: bit i is in word i / 64, at place i % 64 from the low end.
 use Rattle.std.specs.Prelude.{ℕ, ◌+◌, ◌*◌, ◌/◌, ◌%◌, ◌^◌, ◌<◌, ◌≤◌, ◌≡◌, Bool, false, List, [], ◌∷◌}
 use Rattle.std.specs.Prelude.{map, take, drop, length, get_or}
 use Rattle.std.specs.List.{range_with_len}

@@ -1,5 +1,4 @@
--- What the model of a list of bits rests on: the words can be made again from the bits that they
--- hold.
+-- The basis of the model of a list of bits: the words can be rebuilt from their bits.
 use Rattle.std.proofs.Common.{◌≡◌, ℕ, zero, suc, ◌+◌, ◌*◌, ◌/◌, ◌%◌, ◌^◌, ◌<◌, ◌≤◌, Bool, true, []}
 use Rattle.std.proofs.Common.{false, List, ◌∷◌, length, get_or, take, drop, refl, sym, ap, ◌∙◌}
 use Rattle.std.proofs.Common.{arith, nat_eq, ⊎_elim}

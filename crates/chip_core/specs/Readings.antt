@@ -1,4 +1,4 @@
--- Numbers that stand at places of a list of bits.
+-- Numbers at places of a list of bits.
 use Rattle.std.specs.Prelude.{ℕ, zero, suc, Bool, List, [], ◌∷◌, take, drop}
 use Rattle.chip_core.specs.Bits.{number}
 

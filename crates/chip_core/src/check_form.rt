@@ -2,7 +2,7 @@
 
 /// Whether the check bits of messages are sent as they are computed, or each of them inverted.
 ///
-/// A sample file tells the form of its 30-bit and of its 16-bit checks.
+/// Two flags in a sample file give the form of its 30-bit and 16-bit checks.
 #[derive(Clone, Copy, PartialEq, Eq, Debug)]
 pub enum CheckForm {
     /// The remainder as it stands.

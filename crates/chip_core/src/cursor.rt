@@ -39,7 +39,7 @@ impl<'a> BitReader<'a> {
         BitReader { bits, place: 0 }
     }
 
-    /// How many bits are left.
+    /// Returns how many bits are left.
     pub fn left(&self) -> u16
         ensures { result ≡ length self.now }
     {
@@ -55,7 +55,7 @@ impl<'a> BitReader<'a> {
 
     /// The number that the next `width` bits spell, 1 to 64 of them.
     ///
-    /// `Short` exactly where fewer bits are left; the reader is unchanged then.
+    /// `Short` exactly if fewer bits are left; the reader is unchanged then.
     pub fn take(&mut self, width: u8) -> Result<u64, Short>
         requires { (1 ≤ width) × (width ≤ 64) }
         ensures enough { IsOk result ↔ (width ≤ length self.old) }
@@ -81,8 +81,8 @@ impl<'a> BitReader<'a> {
 
 /// Writes fields into a list of bits. Contracts see the bits written so far.
 ///
-/// For tools that spell a message field by field, each of which may be one too many; where the room
-/// is known, [`Bits::append_fields`] writes a table of fields at once.
+/// For code that spells a message field by field and checks the room each time;
+/// [`Bits::append_fields`] writes a whole table of fields into a list that has room.
 #[derive(Drop)]
 pub struct BitWriter {
     bits: Bits,
@@ -95,7 +95,7 @@ impl Model for BitWriter {
 }
 
 impl BitWriter {
-    /// A writer that has written nothing.
+    /// Makes a writer that has written nothing.
     pub fn new() -> BitWriter
         ensures { result ≡ [] }
     {
@@ -106,7 +106,7 @@ impl BitWriter {
 
     /// Writes a number in `width` bits, 1 to 64 of them.
     ///
-    /// `Full` exactly where 1,184 bits would be passed; nothing is written then.
+    /// Returns `Full` exactly if the list would exceed 1,184 bits; nothing is written then.
     pub fn put(&mut self, width: u8, value: u64) -> Result<(), Full>
         requires width { (1 ≤ width) × (width ≤ 64) }
         requires fits { value < 2 ^ width }

@@ -1,5 +1,5 @@
-//! How many events are told.
+//! How many events are reported.
 
-/// How many events of each form are told: pilots with their sets, messages, frames, and messages as
-/// they came, in this order.
+/// How many events of each form are reported: pilots with their sets, messages, frames, and raw
+/// messages, in this order.
 pub type EventLimits = [u32; 4];

@@ -3,8 +3,8 @@
 ghost use Rattle.std.specs.Prelude.{◌≡◌, ◌<◌, ◌+◌, ℕ, ℤ, ◌<ℤ◌, ◌≤ℤ◌};
 ghost use Rattle.chip_core.specs.Sums.{IsFirstGreatest, first_greatest};
 
-/// `first_greatest` is the number below `n` whose value is the greatest, the least such number, and
-/// no other number is.
+/// `first_greatest` is the number below `n` whose value is the largest, the smallest such number,
+/// and no other number is.
 pub fn first_greatest_is_the_only_one()
     ensures is { (f : ℕ → ℤ) (n : ℕ) → 0 < n → IsFirstGreatest f n (first_greatest f n) }
     ensures only { (f : ℕ → ℤ) (n best : ℕ) → IsFirstGreatest f n best → best ≡ first_greatest f n }

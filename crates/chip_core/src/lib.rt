@@ -1,5 +1,5 @@
-//! What every layer of the forward link speaks of: samples, code phases, bits, and the numbers of
-//! the air interface.
+//! Terms of every layer of the forward link: samples, code phases, bits, and the numbers of the air
+//! interface.
 #![tactic(auto)]
 
 pub mod air;

@@ -3,7 +3,7 @@
 use std::alloc::{AllocError, AllocFailed};
 use thiserror::Error;
 
-/// The allocator had no memory to give.
+/// The allocator is out of memory.
 ///
 /// An ordinary answer of every call that takes an allocator: what was lent is then unchanged.
 #[derive(Clone, Copy, PartialEq, Eq, Debug, Error)]

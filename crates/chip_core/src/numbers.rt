@@ -1,4 +1,4 @@
-//! A list of numbers that needs no memory of its own.
+//! A list of numbers that is not allocated.
 
 ghost use Rattle.std.specs.Prelude.{◌≡◌, ◌<◌, ◌≤◌, List, [], ◌∷◌, ◌++◌, length, slice_get, Some};
 ghost use Rattle.std.specs.Prelude.{IsOk, OnOk, OnErr, ◌↔◌, IsTrue};
@@ -45,7 +45,7 @@ impl Numbers {
         }
     }
 
-    /// How many numbers the list has.
+    /// Returns how many numbers the list has.
     pub fn len(&self) -> u8
         ensures value { result ≡ length self.now }
         ensures most { result ≤ 128 }
@@ -68,7 +68,7 @@ impl Numbers {
         self.places[i as usize]
     }
 
-    /// Adds a number at the end; `Full` exactly where the list has 128, and it is unchanged then.
+    /// Adds a number at the end; `Full` exactly if the list has 128, and it is unchanged then.
     pub fn push(&mut self, n: u32) -> Result<(), Full>
         ensures room { IsOk result ↔ (length self.old < 128) }
         ensures ok { OnOk result (self.new ≡ self.old ++ n ∷ []) }

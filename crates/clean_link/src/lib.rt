@@ -3,7 +3,7 @@
 //!
 //! A clean link is a sample file that holds what one cell sends over one path, without noise, and
 //! in which no handoff is directed. On it the frames of each channel come back from a stream that
-//! hears it, the codeword that was sent in a span of them alone has the greatest score, and each
+//! hears it, the codeword that was sent in a span of them alone has the largest score, and each
 //! whole transmission of the sync channel comes back with its message, in order. So do the whole
 //! pages of a paging channel, those frames of a traffic channel that share their symbols with no
 //! other codeword, and the messages that such frames carry: the reference's pilot stays the only

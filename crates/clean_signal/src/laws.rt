@@ -31,7 +31,7 @@ pub fn channels_have_the_sent_signs()
 {}
 
 /// The frames of a span are one codeword, whose start bits are the last eight of the frame before
-/// it. Of all codewords of its length, with any start bits, it alone has the greatest score.
+/// it. Of all codewords of its length, with any start bits, it alone has the largest score.
 pub fn channel_codewords_are_the_only_best()
     ensures channel { ChannelCodewordsAreTheOnlyBest }
 {}
@@ -42,7 +42,7 @@ pub fn channel_codewords_are_the_only_best()
 /// the levels of pilot and channel, so they hold everywhere between. Over a link along one axis, a
 /// channel that is no louder than the pilot bears exactly the noise below its own amplitude. A
 /// channel also bears any lesser noise, and a louder channel bears what a weaker one does: the
-/// margin of several channels, the greatest noise that all of them bear, is that of the least
+/// margin of several channels, the largest noise that all of them bear, is that of the smallest
 /// gain. Noise of size 0 is borne by each channel with a gain of a cell that can be received.
 /// Another cell, or another path, is noise of the size of its loudness.
 ///

@@ -1,4 +1,4 @@
-//! The commands: the options that each takes, and the job that it makes of their numbers.
+//! The commands: each one's options, and the job that it makes of their values.
 
 ghost use Rattle.std.specs.Prelude.{◌≡◌, IfSome, find, map, nat_eq, option_map};
 ghost use Rattle.std.specs.Cmp.Lexicographic.{pointwise};
@@ -83,7 +83,7 @@ static MAKE_OPTIONS: [OptionRule; 1] = [BITS];
 static TRIAL_OPTIONS: [OptionRule; 2] = [NUMBER, WORKERS];
 
 impl Command {
-    /// The command of this name.
+    /// Returns the command with this name.
     pub fn named(name: &str) -> Option<Command>
         ensures { option_map command_entry result ≡
             find (λ entry. pointwise nat_eq name.now entry.name) commands }
@@ -101,7 +101,7 @@ impl Command {
         }
     }
 
-    /// Its name.
+    /// Returns its name.
     pub fn name(self) -> &'static str
         ensures { result.now ≡ (command_entry self).name }
     {
@@ -117,7 +117,7 @@ impl Command {
         }
     }
 
-    /// The options that it takes.
+    /// Returns its options.
     pub fn options(self) -> &'static [OptionRule]
         ensures { map entry_of result.now ≡ (command_entry self).options }
     {
@@ -133,8 +133,8 @@ impl Command {
         }
     }
 
-    /// The job that it makes of the numbers of its options; none where one is missing that it
-    /// needs, or where they don't go together.
+    /// Returns the job for the values of its options; `None` if a required one is missing or if
+    /// they don't go together.
     pub fn job<T: Texts>(self, texts: &T) -> Option<Job>
         ensures value { result ≡ job_with (command_entry self) (T.text_at texts.now) }
         ensures lawful { IfSome result IsLawfulJob }
@@ -239,7 +239,7 @@ fn idle_with<T: Texts>(texts: &T) -> Option<Job>
     })
 }
 
-/// How many events are told in each form: pilots, messages, frames, and raw capsules.
+/// Returns how many lines of each kind are written: pilots, messages, frames and raw capsules.
 fn limits_with<T: Texts>(texts: &T) -> Option<EventLimits>
     ensures { result ≡ limits_with (numbers_by limit_entries (T.text_at texts.now)) }
 {
@@ -293,7 +293,7 @@ fn trial_with<T: Texts>(texts: &T) -> Option<Job>
     })
 }
 
-/// The width of parts of so many bits.
+/// Returns the sample width for `bits` bits per part.
 fn width_of(bits: u128) -> Width
     ensures { result ≡ width_of_bits bits }
 {

@@ -10,26 +10,26 @@ use hex::FromHex;
 /// The form of an option's values.
 #[derive(Clone, Copy)]
 pub enum ValueForm {
-    /// All numbers from the one to the other, in decimal digits.
+    /// Numbers from `least` to `most`, in decimal.
     Between {
-        /// The least.
+        /// The smallest value.
         least: u128,
-        /// The greatest.
+        /// The largest value.
         most: u128,
     },
-    /// Just these two numbers, in decimal digits.
+    /// Exactly these two numbers, in decimal.
     Either {
-        /// The one.
+        /// The first.
         one: u128,
-        /// The other.
+        /// The second.
         other: u128,
     },
-    /// All numbers of 32 bits, in eight hex digits of either case.
+    /// Numbers of 32 bits, as eight hex digits of either case.
     EightDigits,
 }
 
 impl ValueForm {
-    /// The number of a text that is a value of this form.
+    /// Returns the number of a text if it is a value of this form.
     pub fn value_in(self, text: &str) -> Option<u128>
         ensures value { result ≡ value_in self text.now }
         ensures admitted { IfSome result (IsAdmitted self) }
@@ -42,7 +42,7 @@ impl ValueForm {
         }
     }
 
-    /// The number that the text spells, as values of this form are spelled.
+    /// Returns the number that the text spells in the notation of this form.
     fn spelled_in(self, text: &str) -> Option<u128>
         ensures { result ≡ value_spelled_in self text.now }
     {
@@ -52,7 +52,7 @@ impl ValueForm {
         }
     }
 
-    /// Whether the number is admitted.
+    /// Whether the form admits the number.
     fn admits(self, number: u128) -> bool
         ensures { result ≡ form_admits self number }
     {
@@ -71,12 +71,11 @@ pub struct OptionRule {
     pub name: &'static str,
     /// The form of its values.
     pub form: ValueForm,
-    /// The number that stands where the option isn't given, if one does.
+    /// The default, if there is one.
     pub default: Option<u128>,
 }
 
-/// An option of this name whose numbers are from the least to the most, with the number that stands
-/// where it isn't given.
+/// Makes an option from its name, its smallest and largest value, and its default.
 macro_rules! numbered {
     ($name:literal, $least:literal, $most:literal, $default:expr) => {
         OptionRule {
@@ -90,19 +89,19 @@ macro_rules! numbered {
     };
 }
 
-/// `--span`: how many samples the pilot is searched in.
+/// `--span`: how many of the first samples the pilot search uses.
 pub const SPAN: OptionRule = numbered!("span", 64, 32768, Some(2048));
 
-/// `--workers`: how many workers search it.
+/// `--workers`: how many workers search the pilot.
 pub const WORKERS: OptionRule = numbered!("workers", 1, 64, Some(4));
 
-/// `--fingers`: how many paths are followed.
+/// `--fingers`: how many paths of the signal are followed.
 pub const FINGERS: OptionRule = numbered!("fingers", 1, 3, Some(1));
 
 /// `--paging`: which paging channel is followed.
 pub const PAGING: OptionRule = numbered!("paging", 1, 7, Some(1));
 
-/// `--key`: the key that tells a handset's slots.
+/// `--key`: the key from which a handset's slots are computed.
 pub const KEY: OptionRule = OptionRule {
     name: "key",
     form: ValueForm::EightDigits,
@@ -143,23 +142,23 @@ pub const RAW: OptionRule = numbered!("raw", 0, 4294967295, Some(0));
 /// `--base`: the phase of the pilot of offset 0.
 pub const BASE: OptionRule = numbered!("base", 0, 32767, Some(0));
 
-/// `--width`: how many chips round its own phase each pilot is measured.
+/// `--width`: how many chips on each side of its phase a pilot is measured.
 pub const WIDTH: OptionRule = numbered!("width", 0, 31, Some(10));
 
 /// `--top`: how many ranks are written.
 pub const TOP: OptionRule = numbered!("top", 1, 512, Some(512));
 
-/// `--bits`: how wide the parts of samples are.
+/// `--bits`: the width of each part of a sample, in bits.
 pub const BITS: OptionRule = OptionRule {
     name: "bits",
     form: ValueForm::Either { one: 8, other: 16 },
     default: Some(16),
 };
 
-/// `--number`: which link a trial makes.
+/// `--number`: the number of the link that a trial makes.
 pub const NUMBER: OptionRule = numbered!("number", 0, 18446744073709551615, None);
 
-/// The number that 1 to 20 decimal digits spell, leading zeros among them.
+/// Returns the number that 1 to 20 decimal digits spell; leading zeros are allowed.
 fn number_in(text: &str) -> Option<u128>
     ensures { result ≡ argument_number_in text.now }
 {
@@ -169,7 +168,7 @@ fn number_in(text: &str) -> Option<u128>
     digits_in(text.as_bytes())
 }
 
-/// The number that eight hex digits of either case spell.
+/// Returns the number that eight hex digits of either case spell.
 #[tactic(auto, unfolding(crate::specs::Args::eight_digits_in))]
 fn eight_digits_in(text: &str) -> Option<u128>
     ensures { result ≡ eight_digits_in text.now }

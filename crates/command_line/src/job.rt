@@ -1,4 +1,4 @@
-//! The job that the arguments of the command line ask for.
+//! The job that the command-line arguments ask for.
 
 ghost use Rattle.std.specs.Prelude.{◌≡◌, ◌↔◌, IfOk, map, string_bytes, Some, None, Err};
 ghost use Rattle.command_line.specs.Args.{IsLawfulJob, command_entry, job_after, job_by, job_named};
@@ -11,19 +11,19 @@ use cdma_io::Width;
 use chip_core::{EventLimits, Traffic};
 use std::alloc::Global;
 
-/// What the arguments of the command line ask for.
+/// What the command-line arguments ask for.
 #[derive(Clone, Copy, PartialEq, Eq, Debug)]
 pub enum Job {
     /// `find`: the phase of the strongest pilot.
     Find {
-        /// How many samples it is searched in, 64 to 32,768.
+        /// How many samples the search uses, 64 to 32,768.
         span: u16,
         /// How many workers search, 1 to 64.
         workers: u8,
     },
-    /// `follow`: the pilot, and what a handset hears.
+    /// `follow`: the pilot, and what a handset receives.
     Follow {
-        /// How many samples the pilot is searched in, 64 to 32,768.
+        /// How many samples the pilot search uses, 64 to 32,768.
         span: u16,
         /// How many workers search the pilot, 1 to 64.
         workers: u8,
@@ -31,15 +31,15 @@ pub enum Job {
         fingers: u8,
         /// The number of the paging channel that is followed, 1 to 7.
         paging: u8,
-        /// The traffic channel that is followed too, if one is. It has another row than the sync
-        /// channel and the paging channel.
+        /// The traffic channel that is followed, if any. Its Walsh row is neither that of the sync
+        /// channel nor that of the paging channel.
         traffic: Option<Traffic>,
-        /// How many events are told in each form: pilots, messages, frames, and raw capsules.
+        /// How many lines of each kind are written: pilots, messages, frames and raw capsules.
         limits: EventLimits,
     },
     /// `rate2`: the frames of a traffic channel of rate set 2.
     Rate2 {
-        /// How many samples the pilot is searched in, 64 to 32,768.
+        /// How many samples the pilot search uses, 64 to 32,768.
         span: u16,
         /// How many workers search the pilot, 1 to 64.
         workers: u8,
@@ -52,9 +52,9 @@ pub enum Job {
         /// The channel's Walsh row, 1 to 63 but not 32.
         row: u8,
     },
-    /// `list`: the frames of a traffic channel, each chosen of several codewords of a rate.
+    /// `list`: the frames of a traffic channel, each chosen from several codewords per rate.
     List {
-        /// How many samples the pilot is searched in, 64 to 32,768.
+        /// How many samples the pilot search uses, 64 to 32,768.
         span: u16,
         /// How many workers search the pilot, 1 to 64.
         workers: u8,
@@ -69,9 +69,9 @@ pub enum Job {
         /// How many of the best codewords of a rate are listed, 1 to 16.
         k: u8,
     },
-    /// `idle`: what a handset that sleeps between its slots hears of a paging channel.
+    /// `idle`: what a handset in slotted mode receives of a paging channel.
     Idle {
-        /// How many samples the pilot is searched in, 64 to 32,768.
+        /// How many samples the pilot search uses, 64 to 32,768.
         span: u16,
         /// How many workers search the pilot, 1 to 64.
         workers: u8,
@@ -79,30 +79,30 @@ pub enum Job {
         fingers: u8,
         /// The number of the paging channel, 1 to 7.
         paging: u8,
-        /// The key that tells its slots.
+        /// The key from which its slots are computed.
         key: u32,
         /// The index of its slot cycle, 0 to 7: it has 16 times 2^cycle slots of 80 ms.
         cycle: u8,
     },
     /// `survey`: how strong each pilot is.
     Survey {
-        /// In how many samples the pilots are measured, 64 to 32,768.
+        /// How many samples the measurement uses, 64 to 32,768.
         span: u16,
         /// How many workers measure, 1 to 64.
         workers: u8,
         /// The phase of the pilot of offset 0, below 32,768.
         base: u16,
-        /// How many chips round its own phase each pilot is measured, at most 31.
+        /// How many chips on each side of its phase a pilot is measured, at most 31.
         width: u8,
         /// How many ranks are written, 1 to 512.
         top: u16,
     },
     /// `make`: the samples of a script's cell.
     Make {
-        /// How wide the parts of the samples are.
+        /// The width of each part of a sample.
         width: Width,
     },
-    /// `trial`: a link that a number tells is made and followed, and what was heard is counted.
+    /// `trial`: makes the link of a number, follows it, and counts what was received.
     Trial {
         /// The number.
         number: u64,
@@ -114,31 +114,30 @@ pub enum Job {
 /// Why arguments give no job.
 #[derive(Clone, Copy, PartialEq, Eq, Debug)]
 pub enum WordFault {
-    /// The arguments aren't in the grammar.
+    /// The arguments are invalid.
     Bad,
-    /// There was no memory to read them.
+    /// Out of memory while reading them.
     OutOfMemory,
 }
 
-/// The job that the arguments name: a command and then its options in any order, each at most once,
-/// as `--name VALUE` or `--name=VALUE`. A value is a number of 1 to 20 decimal digits; those of
-/// `--esn` and `--key` have just eight hex digits, of either case.
+/// Returns the job that the arguments name: a command and then its options in any order, each at
+/// most once, as `--name VALUE` or `--name=VALUE`. A value is a number of 1 to 20 decimal digits;
+/// values of `--esn` and `--key` have exactly eight hex digits of either case.
 ///
-/// `find` takes `--span`, 64 to 32,768, which is else 2,048, and `--workers`, 1 to 64, which is
-/// else 4. `follow` takes these, `--fingers`, 1 to 3, which is else 1, `--paging`, 1 to 7, which
-/// is else 1, and four limits of 0 to 4,294,967,295: `--pilots`, `--messages` and `--frames`,
-/// which are else the greatest, and `--raw`, which is else 0; and for a traffic channel `--esn`
-/// and `--row`, 1 to 63, both or neither, and with them `--offset`, 0 to 15, which is else 0. The
-/// row is neither 32 nor the paging channel's number. `rate2` takes `--span`, `--workers`,
-/// `--fingers`, and the same options of a traffic channel, of which `--esn` and `--row` must be
-/// given; the row isn't 32. `list` takes these and `--k`, 1 to 16, which must be given. `idle`
-/// takes `--span`, `--workers`, `--fingers` and `--paging`, `--key`, which must be given, and
-/// `--cycle`, 0 to 7, which is else 0. `survey` takes `--span` and `--workers`, `--base`, 0 to
-/// 32,767, which is else 0, `--width`, 0 to 31, which is else 10, and `--top`, 1 to 512, which is
-/// else 512. `make` takes `--bits`, 8 or 16, which is else 16. `trial` takes `--number`, 0 to
-/// 2^64 - 1, which must be given, and `--workers`.
+/// `find` takes `--span`, 64 to 32,768 (default 2,048), and `--workers`, 1 to 64 (default 4).
+/// `follow` takes these, `--fingers`, 1 to 3 (default 1), `--paging`, 1 to 7 (default 1), and four
+/// limits of 0 to 4,294,967,295: `--pilots`, `--messages` and `--frames` (default: the largest),
+/// and `--raw` (default 0); and for a traffic channel `--esn` and `--row`, 1 to 63, both or
+/// neither, and with them `--offset`, 0 to 15 (default 0). The row is neither 32 nor the paging
+/// channel's number. `rate2` takes `--span`, `--workers`, `--fingers`, and the same options of a
+/// traffic channel, of which `--esn` and `--row` must be given; the row isn't 32. `list` takes
+/// these and `--k`, 1 to 16, which must be given. `idle` takes `--span`, `--workers`, `--fingers`
+/// and `--paging`, `--key`, which must be given, and `--cycle`, 0 to 7 (default 0). `survey` takes
+/// `--span` and `--workers`, `--base`, 0 to 32,767 (default 0), `--width`, 0 to 31 (default 10),
+/// and `--top`, 1 to 512 (default 512). `make` takes `--bits`, 8 or 16 (default 16). `trial` takes
+/// `--number`, 0 to 2^64 - 1, which must be given, and `--workers`.
 ///
-/// All other arguments are `Bad`, whatever memory there is.
+/// All other arguments are [`WordFault::Bad`], whatever memory there is.
 pub fn words_of(alloc: Global, args: &[String]) -> Result<Job, WordFault>
     ensures job { IfOk result (λ job. job_named args.now ≡ Some job) }
     ensures bad { (result ≡ Err WordFault.Bad) ↔ (job_named args.now ≡ None) }
@@ -150,7 +149,7 @@ pub fn words_of(alloc: Global, args: &[String]) -> Result<Job, WordFault>
     command_of(alloc, command.as_str(), options)
 }
 
-/// The job of the command of this name with these options.
+/// Returns the job of the command with this name and these options.
 fn command_of(alloc: Global, name: &str, options: &[String]) -> Result<Job, WordFault>
     ensures job { IfOk result (λ job.
         job_after name.now (map string_bytes options.now) ≡ Some job) }
@@ -164,7 +163,7 @@ fn command_of(alloc: Global, name: &str, options: &[String]) -> Result<Job, Word
     job_by(alloc, command, options)
 }
 
-/// The job of a command with these options.
+/// Returns the job of a command with these options.
 fn job_by(alloc: Global, command: Command, options: &[String]) -> Result<Job, WordFault>
     ensures job { IfOk result (λ job.
         job_by (command_entry command) (map string_bytes options.now) ≡ Some job) }

@@ -1,12 +1,11 @@
-//! The arguments of the command line.
+//! The command-line arguments.
 //!
 //! [`words_of`] makes a [`Job`] of the arguments after the program's name: a command, and its
-//! options in any order, each at most once, as `--name VALUE` or `--name=VALUE`. The options stand
-//! in one table, each with the form of its values and the number that stands where it isn't given;
-//! each command says which it takes, and which job their numbers make, if they go together. The
-//! arguments are read by these tables first, which takes no memory; then clap parts them, by a
-//! command that the table makes. So arguments that are refused are refused whatever memory there
-//! is.
+//! options in any order, each at most once, as `--name VALUE` or `--name=VALUE`. One table has each
+//! option with the form of its values and its default; each command states its options and makes a
+//! job of their values if they go together. The arguments are first checked against these tables,
+//! which allocates nothing; then clap splits them by a command made from the table. So invalid
+//! arguments are rejected whatever memory there is.
 #![tactic(auto)]
 
 mod commands;

@@ -1,4 +1,4 @@
-//! The values of options, as clap parts them.
+//! The values of options, as clap splits them.
 
 ghost use Rattle.std.specs.Prelude.{◌≡◌, IfOk, IfErr, map, true, is_some, Some, [], string_bytes};
 ghost use Rattle.clap.specs.Words.{app_of, first_value, found_of, kind_of};
@@ -10,8 +10,8 @@ use clap::error::ErrorKind;
 use clap::{Arg, ArgAction, ArgMatches, Command, Error};
 use std::alloc::{AllocError, Global};
 
-/// What clap makes of arguments that are options of the rules, for a command of this name: an
-/// option's value is the text that was given. It fails for want of memory alone.
+/// Returns clap's matches of arguments that are options of the rules, for a command with this name:
+/// an option's value is the text that was given. Fails only if out of memory.
 pub fn matches_by<'a>(
     alloc: Global,
     name: &'a str,
@@ -30,7 +30,7 @@ pub fn matches_by<'a>(
     command.try_get_matches_from(args)
 }
 
-/// A command of clap with an option for each rule, and without help and version.
+/// Makes a clap command with an option for each rule, without help and version.
 fn command_by<'a>(
     alloc: Global,
     name: &'a str,

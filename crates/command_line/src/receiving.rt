@@ -1,5 +1,5 @@
-//! What the commands that receive a signal have in common: how it is received, and which traffic
-//! channel is heard.
+//! Options shared by the commands that receive a signal: how it is received, and which traffic
+//! channel is followed.
 
 ghost use Rattle.std.specs.Prelude.{◌≡◌, IfSome};
 ghost use Rattle.command_line.specs.Args.{IsLawfulChannel, IsLawfulReception, IsLawfulTraffic};
@@ -11,10 +11,10 @@ use crate::texts::{Texts, number_by};
 use chip_core::Traffic;
 use chip_core::air::SYNC_ROW;
 
-/// How a signal is received.
+/// The options for receiving a signal.
 #[derive(Clone, Copy)]
 pub struct ReceptionOptions {
-    /// How many samples the pilot is searched in, 64 to 32,768.
+    /// How many samples the pilot search uses, 64 to 32,768.
     pub span: u16,
     /// How many workers search the pilot, 1 to 64.
     pub workers: u8,
@@ -22,7 +22,7 @@ pub struct ReceptionOptions {
     pub fingers: u8,
 }
 
-/// How the signal is received.
+/// Returns how the signal is received.
 pub fn reception_with<T: Texts>(texts: &T) -> Option<ReceptionOptions>
     ensures value { result ≡ reception_with (numbers_by reception_entries (T.text_at texts.now)) }
     ensures lawful { IfSome result IsLawfulReception }
@@ -37,8 +37,8 @@ pub fn reception_with<T: Texts>(texts: &T) -> Option<ReceptionOptions>
     })
 }
 
-/// The traffic channel of a serial number, a row and an offset, which is else 0; none where one of
-/// the first two is missing, and where the row is the sync channel's.
+/// Returns the traffic channel of a serial number, a row and an offset (default 0); `None` if
+/// serial number or row is missing, or if the row is the sync channel's.
 pub fn channel_with<T: Texts>(texts: &T) -> Option<Traffic>
     ensures value { result ≡ channel_with (numbers_by channel_entries (T.text_at texts.now)) }
     ensures lawful { IfSome result IsLawfulChannel }
@@ -56,8 +56,8 @@ pub fn channel_with<T: Texts>(texts: &T) -> Option<Traffic>
     })
 }
 
-/// The traffic channel beside a paging channel, if one is told; none where its options don't go
-/// together, and where its row is the paging channel's.
+/// Returns the traffic channel next to a paging channel, if one is given; `None` if its options
+/// don't go together or if its row is the paging channel's.
 pub fn traffic_with<T: Texts>(texts: &T, paging: u128) -> Option<Option<Traffic>>
     ensures value { result ≡ traffic_with paging
         (numbers_by channel_entries (T.text_at texts.now)) }
@@ -73,7 +73,7 @@ pub fn traffic_with<T: Texts>(texts: &T, paging: u128) -> Option<Option<Traffic>
     Some(Some(channel))
 }
 
-/// Whether none of the options of a traffic channel is given.
+/// Whether no option of a traffic channel is given.
 fn has_no_channel<T: Texts>(texts: &T) -> bool
     ensures { result ≡ has_none (numbers_by channel_entries (T.text_at texts.now)) }
 {

@@ -1,5 +1,5 @@
-//! Whether arguments are options that rules allow, and the texts that they give them, found without
-//! memory.
+//! Checks that arguments are options that the rules allow, and finds their values, without
+//! allocating.
 
 ghost use Rattle.std.specs.Prelude.{◌≡◌, ◌≤◌, IfSome, map, option_map, is_some, Some, []};
 ghost use Rattle.std.specs.Prelude.{string_bytes};
@@ -12,11 +12,11 @@ use crate::grammar::OptionRule;
 /// An option among arguments.
 #[derive(Clone, Copy)]
 pub struct Part<'a> {
-    /// Its name.
+    /// Returns its name.
     pub name: &'a str,
     /// The text of its value.
     pub value: &'a str,
-    /// How many arguments it takes, 1 or 2.
+    /// How many arguments it occupies, 1 or 2.
     pub args: usize,
 }
 
@@ -41,7 +41,7 @@ pub fn are_lawful(rules: &[OptionRule], args: &[String]) -> bool
     true
 }
 
-/// The text of the option of this name, after the first argument that names it.
+/// Returns the value of the option with this name, from the first argument that names it.
 pub fn text_in<'a>(args: &'a [String], name: &str) -> Option<&'a str>
     ensures { option_map (λ s. s.now) result ≡ text_in name.now (map string_bytes args.now) }
 {
@@ -53,7 +53,7 @@ pub fn text_in<'a>(args: &'a [String], name: &str) -> Option<&'a str>
     None
 }
 
-/// The text of the option that the arguments begin with.
+/// Returns the value of the option that the arguments begin with.
 fn first_text<'a>(args: &'a [String]) -> Option<&'a str>
     ensures { option_map (λ s. s.now) result ≡
         option_map (λ p. p.1) (part_of (map string_bytes args.now)) }
@@ -61,7 +61,7 @@ fn first_text<'a>(args: &'a [String]) -> Option<&'a str>
     Some(first_part(args)?.value)
 }
 
-/// The option that the arguments begin with.
+/// Returns the option that the arguments begin with.
 fn first_part<'a>(args: &'a [String]) -> Option<Part<'a>>
     ensures value { option_map (λ p. (p.name.now, p.value.now, p.args)) result ≡
         part_of (map string_bytes args.now) }
@@ -118,7 +118,7 @@ fn is_allowed(rules: &[OptionRule], name: &str, value: &str) -> bool
     false
 }
 
-/// The name and the value of an argument `--name` or `--name=VALUE`.
+/// Returns the name and the value of an argument `--name` or `--name=VALUE`.
 fn option_of(arg: &str) -> Option<(&str, Option<&str>)>
     ensures { option_map (λ p. (p.0.now, option_map (λ s. s.now) p.1)) result ≡ long_of arg.now }
 {
@@ -129,14 +129,14 @@ fn option_of(arg: &str) -> Option<(&str, Option<&str>)>
     Some(name_and_value(rest))
 }
 
-/// What stands after a first hyphen.
+/// Returns the text after an initial hyphen.
 fn after_hyphen(arg: &str) -> Option<&str>
     ensures { option_map (λ s. s.now) result ≡ strip_byte 45 arg.now }
 {
     arg.strip_prefix('-')
 }
 
-/// What stands before the first `=`, and what stands after it, if there is one.
+/// Splits at the first `=`, if there is one.
 fn name_and_value(text: &str) -> (&str, Option<&str>)
     ensures { (result.0.now, option_map (λ s. s.now) result.1) ≡ name_and_value text.now }
 {

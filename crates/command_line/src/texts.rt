@@ -1,4 +1,4 @@
-//! The numbers of options, by the texts that were given them.
+//! The numbers of options, from their texts.
 
 ghost use Rattle.std.specs.Prelude.{◌≡◌, IfSome, Option, map, option_map, string_bytes};
 ghost use Rattle.clap.specs.Words.{first_value, found_of};
@@ -8,12 +8,12 @@ use crate::grammar::OptionRule;
 use crate::testing::text_in;
 use clap::ArgMatches;
 
-/// Something that knows the texts that options were given.
+/// A source of the texts of options.
 pub trait Texts {
-    /// The text of an option, by its name.
+    /// The text of an option by its name.
     ghost text_at: { Self → Text → Option Text };
 
-    /// The text of the option of this name, where it was given.
+    /// Returns the text of the option with this name, if it was given.
     fn text(&self, name: &str) -> Option<&str>
         ensures { option_map (λ s. s.now) result ≡ text_at self.now name.now };
 }
@@ -41,7 +41,7 @@ impl<'a> Texts for ArgMatches<'a> {
     }
 }
 
-/// The number of a rule's option: that of its text where it was given, else the default.
+/// Returns the number of a rule's option: that of its text if it was given, otherwise the default.
 #[tactic(auto, unfolding(crate::specs::Args::number_by))]
 pub fn number_by<T: Texts>(texts: &T, rule: &OptionRule) -> Option<u128>
     requires { IfSome rule.now.default (IsAdmitted rule.now.form) }

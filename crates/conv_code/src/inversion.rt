@@ -9,8 +9,8 @@ ghost use Rattle.conv_code.specs.ConvCode.{IsNoCodeword};
 use crate::encoding::Register;
 use chip_core::Bits;
 
-/// The start state and the bits whose symbols these are; `None` exactly where no start and bits
-/// give these symbols.
+/// The start state and the bits whose symbols these are; `None` exactly if no start and bits give
+/// these symbols.
 ///
 /// Eight pairs of symbols or more fix the start and every bit. Each bit of the start is a sum of
 /// some of the first sixteen symbols. From there each bit is the one that gives its first symbol,
@@ -31,7 +31,7 @@ pub fn invert(symbols: &Bits) -> Option<(u8, Bits)>
     Some((start, bits))
 }
 
-/// The bits whose symbols these are from a start state; `None` where no bits give them.
+/// The bits whose symbols these are from a start state; `None` if no bits give them.
 fn bits_from(start: u8, symbols: &Bits) -> Option<Bits>
     requires { length symbols.now % 2 ≡ 0 }
     ensures found { IfSome result (λ bits. code_symbols (binary 8 start) bits ≡ symbols.now) }

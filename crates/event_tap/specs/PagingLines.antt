@@ -1,5 +1,5 @@
 -- The lines of the messages of the paging channel, in the style of the lines of events, and of the
--- slots in which a sleeping handset hears them.
+-- slots of a sleeping handset.
 use Rattle.std.specs.Prelude.{ℕ, List, ◌++◌, codes, decimal}
 use Rattle.paging_message.specs.Layouts.{paging_names_of, paging_shape_of}
 use Rattle.paging_message.specs.Messages.{contents_of, paging_kind_of}

@@ -1,5 +1,5 @@
--- What lines of messages have in common: values after their names, items joined by commas, the
--- bits at the end of a line, and the lines of capsules as they came.
+-- Parts that lines of messages share: values after their names, items joined by commas, the bits at
+-- the end of a line, and the lines of raw capsules.
 use Rattle.event_tap.specs.Common.{bit_text, spaced_key}
 use Rattle.std.specs.Prelude.{ℕ, zero, suc, ◌^◌, ◌&&◌, Bool, List, [], ◌∷◌, ◌++◌, length, codes}
 use Rattle.std.specs.Prelude.{decimal, nat_lt}

@@ -1,4 +1,4 @@
--- What lines tell of messages, by the names of their layouts.
+-- The contents of messages in lines, by the names of their layouts.
 use Rattle.event_tap.specs.Common.{places, bit_text, spaced_key}
 use Rattle.std.specs.Prelude.{ℕ, ◌≡◌, ◌+◌, ◌*◌, ◌/◌, ◌^◌, ◌==◌, ◌≢◌, ◌<◌, ◌≤◌, ◌&&◌, if◌then◌else◌}
 use Rattle.std.specs.Prelude.{Bool, true, List, [], ◌∷◌, ◌++◌, length, map, get_or, nat_le, nat_lt}

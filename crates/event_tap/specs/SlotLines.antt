@@ -1,5 +1,5 @@
 -- The slots of a sleeping handset (TIA/EIA-95-B, 6.6.2.1.1.3) after a mark, by their times: the
--- messages of a slot, and what is written of it.
+-- messages of a slot, and its text.
 use Rattle.event_tap.specs.Common.{places, CheckForm, Sample, Rate, channel_stream, mark, Stream}
 use Rattle.event_tap.specs.Common.{paging_rate, Tuning, Paging, Mark, slot_bits, is_monitored}
 use Rattle.std.specs.Prelude.{ℕ, ◌+◌, ◌*◌, ◌/◌, ◌&&◌, Bool, nat_le, nat_lt, List, [], ◌++◌, length}

@@ -1,5 +1,5 @@
--- The slots of a sleeping handset (TIA/EIA-95-B, 6.6.2.1.1.3), as the frames of its paging channel
--- make them, and what is written of one.
+-- The slots of a sleeping handset (TIA/EIA-95-B, 6.6.2.1.1.3), from the frames of its paging
+-- channel, and the text of one.
 use Rattle.event_tap.specs.Common.{CheckForm, paging_rate, Mark, SoftFrame, slot_bits, is_monitored}
 use Rattle.std.specs.Prelude.{ℕ, ◌+◌, ◌/◌, ◌%◌, ◌==◌, ◌&&◌, if◌then◌else◌, nat_lt, List, [], ◌∷◌}
 use Rattle.std.specs.Prelude.{◌++◌, length}

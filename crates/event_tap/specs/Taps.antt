@@ -1,6 +1,5 @@
--- What taps make of events. A tap has a form, which says which kinds of event it hears and how it
--- writes them, and a number of events that it has left to hear. Contracts see taps as a list of
--- both.
+-- The text that taps write for events. A tap has a form, which determines the kinds of event that
+-- it reports and their lines, and a number of events left. Contracts see taps as a list of both.
 use Rattle.event_tap.specs.Common.{Event, Pilot, Sync, Frame, Traffic, Sets}
 use Rattle.std.specs.Prelude.{ℕ, ◌-◌, ◌≤◌, slice_index, nat_eq, Bool, if◌then◌else◌, List, [], ◌∷◌}
 use Rattle.std.specs.Prelude.{◌++◌, map, codes, Option, None, Some}

@@ -1,4 +1,4 @@
--- What is written of the frames of one channel after the mark.
+-- The text for the frames of one channel after the mark.
 use Rattle.event_tap.specs.Common.{CheckForm, Sample, IsLawful, mark, Tuning, Mark, SoftFrame}
 use Rattle.std.specs.Prelude.{◌≤◌, ℕ, Bool, List, [], ◌∷◌, ◌++◌, length, ℤ, Option, None, Some}
 use Rattle.chip_core.specs.Air.{IsListLength}

@@ -10,7 +10,7 @@ use symbol_path::Rate;
 
 /// Adds the line of a frame to the empty text, LF at its end.
 ///
-/// `at` is the number of samples at which the frame was heard.
+/// `at` is the number of samples at which the frame ended.
 #[tactic(auto, unfolding(crate::specs::FrameLines::frame_line))]
 pub(crate) fn append_frame(
     text: &mut Text,

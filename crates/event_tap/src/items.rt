@@ -1,4 +1,4 @@
-//! Lists that lines tell, their items joined by commas.
+//! Lists in lines, with their items joined by commas.
 
 ghost use Rattle.std.specs.Prelude.{ℕ, ◌≡◌, ◌<◌, ◌≤◌, ◌+◌, ◌*◌, List, [], ◌++◌, length, get_or, ⊤};
 ghost use Rattle.std.specs.Prelude.{map, decimal};
@@ -12,9 +12,9 @@ use line_text::Text;
 use message_layout::FieldRow;
 use pilot_sets::{Active, ActiveList, PilotList};
 
-/// A list that a line tells, its items joined by commas.
+/// A list in a line, with its items joined by commas.
 pub(crate) trait Items {
-    /// What holds of the list.
+    /// The invariant of the list.
     ghost fit: { Self → Type 0 };
 
     /// How many items there are.
@@ -26,7 +26,7 @@ pub(crate) trait Items {
     /// How many bytes an item takes at most, and the comma before it.
     ghost width: { Self → ℕ };
 
-    /// How many items there are.
+    /// Returns how many items there are.
     fn count(&self) -> u8
         requires { fit self.now }
         ensures value { result ≡ size self.now }
@@ -130,7 +130,7 @@ impl<'a> Items for Listed<'a> {
     }
 }
 
-/// Adds the number of record `i` in a further column after a slash, where records have one there.
+/// Adds the number of record `i` in another column after a slash, if records have that column.
 fn append_slash(text: &mut Text, i: u8, column: &Numbers)
     requires room { length text.old + 21 ≤ 1024 }
     ensures value { text.new ≡ text.old ++ slash_text i column.now }

@@ -26,12 +26,12 @@ pub type RawTap = FormTap<3>;
 /// Hears the events of a form, which is the remainder of `FORM` by 4.
 #[derive(Drop)]
 pub struct FormTap<const FORM: u8> {
-    /// How many events it has left to hear.
+    /// How many events it may still report.
     left: u32,
 }
 
 impl<const FORM: u8> FormTap<FORM> {
-    /// A tap that has no event left to hear, until it is given a limit.
+    /// Makes a tap that reports no event until it is given a limit.
     pub fn new() -> FormTap<FORM>
         ensures { result.left ≡ 0 }
     {
@@ -58,8 +58,8 @@ impl<const FORM: u8> Tap for FormTap<FORM> {
     }
 }
 
-/// Makes the text the line that a form has for the event, or empty where it has none; answers how
-/// many of `left` events are left to hear after it.
+/// Sets the text to the form's line for the event, or to empty if it has none. Returns how many of
+/// `left` events remain after it.
 #[tactic(auto, unfolding(crate::specs::Taps::form_line))]
 fn hear_in(form: u8, left: u32, event: &Event, out: &mut Text) -> u32
     requires form { form ≤ 3 }
@@ -73,7 +73,7 @@ fn hear_in(form: u8, left: u32, event: &Event, out: &mut Text) -> u32
     hear_where(form == plain_form_of(event), left, event, out)
 }
 
-/// The form that hears events of this kind by their lines.
+/// Returns the form that reports events of this kind by their lines.
 fn plain_form_of(event: &Event) -> u8
     ensures { result ≡ plain_form event.now }
 {
@@ -84,8 +84,8 @@ fn plain_form_of(event: &Event) -> u8
     }
 }
 
-/// Makes the text the line of the event where the form hears it, and else empty; answers how many
-/// of `left` events are left to hear after it.
+/// Sets the text to the line of the event if the form reports it, otherwise to empty. Returns how
+/// many of `left` events remain after it.
 fn hear_where(heard: bool, left: u32, event: &Event, out: &mut Text) -> u32
     requires { 1 ≤ left }
     ensures text { out.new ≡ line_text (if heard then Some (event_line event.now) else None) }
@@ -100,8 +100,8 @@ fn hear_where(heard: bool, left: u32, event: &Event, out: &mut Text) -> u32
     }
 }
 
-/// Makes the text the line of a message as it came, bit by bit, and empty for any other event;
-/// answers how many of `left` events are left to hear after it.
+/// Sets the text to the raw line of a message, bit by bit, and to empty for any other event.
+/// Returns how many of `left` events remain after it.
 fn hear_raw(left: u32, event: &Event, out: &mut Text) -> u32
     requires { 1 ≤ left }
     ensures text { out.new ≡ line_text (raw_of event.now) }
@@ -117,7 +117,7 @@ fn hear_raw(left: u32, event: &Event, out: &mut Text) -> u32
     left - 1
 }
 
-/// What a tap answers that has so many events left.
+/// Returns what a tap with `left` events left reports about itself.
 fn heard_of(left: u32) -> Heard
     ensures { result ≡ kept_or_done left }
 {

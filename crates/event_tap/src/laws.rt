@@ -6,7 +6,7 @@ ghost use Rattle.event_tap.specs.EventLines.{events_text};
 ghost use Rattle.event_tap.specs.Taps.{KeptTap, form_lines, joined_lines, kept_by, kept_with};
 ghost use Rattle.event_tap.specs.Taps.{run_taps, run_text};
 
-/// A tap hears just the first events of its form's kinds, as many as its limit says.
+/// A tap reports exactly the first events of its form's kinds, up to its limit.
 pub fn taps_hear_the_first_events()
     ensures { (form limit : ℕ) (events : List TheEvent) →
         run_text (kept_with form limit) events
@@ -23,7 +23,7 @@ pub fn text_goes_on()
         run_taps taps (events ++ more) ≡ run_taps (run_taps taps events) more }
 {}
 
-/// No tap writes nothing.
+/// Without taps nothing is written.
 pub fn no_tap_writes_nothing()
     ensures { (events : List TheEvent) → run_text [] events ≡ [] }
 {}

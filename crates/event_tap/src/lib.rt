@@ -1,12 +1,11 @@
-//! The lines of text that tell what a handset heard.
+//! Lines of text that report what a handset received.
 //!
-//! Each event has one line, and each line ends with LF. [`line_into`] makes an event's line out, in
-//! a [`Text`] that needs no memory of its own, and [`write_event`] gives it to a sink. Whoever
-//! listens to a run hands in its [`Tap`]s, boxed: each hears the events of its form's kinds up to
-//! its limit, and [`Taps`] gives what they make of an event to a sink. A frame of rate set 2, which
-//! is no event of a handset, has a line too ([`write_frame2`]), and so has a slot of a sleeping
-//! handset ([`write_slot`]). A [`TunedText`] says which of these are written of the frames of one
-//! channel.
+//! Each event has one line, and each line ends with LF. [`line_into`] makes an event's line in a
+//! [`Text`] that is not allocated, and [`write_event`] writes it to a sink. The caller of a run
+//! passes boxed [`Tap`]s: each reports the events of its form's kinds up to its limit, and [`Taps`]
+//! writes their text for an event to a sink. A frame of rate set 2, which is no event of a handset,
+//! has a line too ([`write_frame2`]), and so has a slot of a sleeping handset ([`write_slot`]). A
+//! [`TunedText`] selects which of these are written for the frames of one channel.
 #![tactic(auto)]
 
 mod frame;

@@ -1,4 +1,4 @@
-//! What the lines of messages have in common.
+//! Parts that the lines of messages share.
 
 ghost use Rattle.event_tap.specs.Common.{FieldsFit, in_widths, bit_text, spaced_key};
 ghost use Rattle.std.specs.Prelude.{◌≡◌, ◌<◌, ◌≤◌, ◌+◌, ◌*◌, ◌^◌, [], true, ◌++◌, length, map};
@@ -61,7 +61,7 @@ pub(crate) fn append_few_rest(text: &mut Text, rest: &Bits)
     text.append_str("\n");
 }
 
-/// Adds the text of at most 56 bits, where the text is known to have room for that of 56.
+/// Adds the text of at most 56 bits to a text that has room for that of 56.
 #[tactic(auto, using(crate::proofs::PartTexts::few_alone))]
 pub(crate) fn append_few_bits(text: &mut Text, bits: &Bits)
     requires few { length bits.now ≤ 56 }

@@ -1,4 +1,4 @@
-//! What messages say, by the names of their layouts.
+//! Writes the contents of messages by the names of their layouts.
 
 ghost use Rattle.std.specs.Prelude.{◌≡◌, ◌≢◌, ◌≤◌, ◌+◌, ◌++◌, true, length, map, IsAscii};
 ghost use Rattle.message_layout.specs.Shapes.{line_names, shape};
@@ -14,8 +14,8 @@ use chip_core::{Bits, Numbers};
 use line_text::Text;
 use message_layout::{Contents, Layout, Records};
 
-/// Adds what a line tells of a message, and its end: what it says by the names of its layout, or
-/// its type and its bits where the layout has no name.
+/// Adds the content of a message by the names of its layout, or its type and bits if the layout has
+/// no names, and ends the line.
 #[tactic(auto, unfolding(crate::specs::SaidTexts::message_text))]
 pub(crate) fn append_message(text: &mut Text, kind: u8, layout: &Layout, contents: &Contents)
     requires start { length text.old ≤ 95 }
@@ -45,7 +45,7 @@ fn append_kind(text: &mut Text, kind: u8, bits: &Bits)
     text.append_str("\n");
 }
 
-/// Adds what a message says by the names of its layout, and the end of the line.
+/// Adds the content of a message by the names of its layout, and ends the line.
 fn append_said(text: &mut Text, layout: &Layout, contents: &Contents)
     requires start { length text.old ≤ 95 }
     requires shown { IsShown layout.now contents.now }
@@ -60,7 +60,7 @@ fn append_said(text: &mut Text, layout: &Layout, contents: &Contents)
     append_end(text, layout.most, &contents.rest);
 }
 
-/// Adds the records of a list after its name, where the layout has any.
+/// Adds the records of a list after its name, if the layout has any.
 fn append_list(text: &mut Text, records: &Records, columns: &[Numbers; 3])
     requires ascii { IsAscii records.now.name.now }
     requires listed { length records.now.fields.now ≢ 0 →

@@ -1,4 +1,4 @@
-//! The taps that hear a run's events.
+//! The taps that receive a run's events.
 
 ghost use Rattle.std.specs.Prelude.{◌≡◌, ◌≤◌, List, map, All, nat_lt, slice_index, OnOk, OnErr};
 ghost use Rattle.std.specs.Io.KnownBytes.{Appends};
@@ -29,19 +29,19 @@ impl Tap for Box<dyn Tap> {
     }
 }
 
-/// The boxed taps that hear a run's events.
+/// The boxed taps that receive a run's events.
 #[derive(Drop)]
 pub struct Taps {
-    /// Those that have events left to hear, in order.
+    /// The taps with events left, in order.
     taps: Vec<Box<dyn Tap>>,
 }
 
-/// Something that keeps taps. What goes by this trait alone sees nothing of boxes.
+/// A keeper of taps. Code that uses only this trait sees no boxes.
 pub trait KeepsTaps: Drop {
-    /// The taps that are kept, in order: the form of each, and how many events it has left to hear.
+    /// The kept taps, in order: the form of each and how many events it has left.
     ghost kept: { Self → List KeptTap };
 
-    /// Lets each tap hear the event, in order, as [`Taps::hear`] does.
+    /// Gives each tap the event, in order, as [`Taps::hear`] does.
     fn tell<K: Sink>(&mut self, event: &Event, sink: &mut K) -> Result<(), Failed>
         requires { All IsKept (kept self.old) }
         ensures ok { OnOk result (Appends (K.written sink.old) (K.written sink.new)
@@ -74,11 +74,11 @@ impl Taps {
         Taps { taps }
     }
 
-    /// Lets each tap hear the event, in order, gives its text to the sink, and drops it where it
-    /// has no event left to hear.
+    /// Gives each tap the event, in order, writes its text to the sink, and drops it if it has no
+    /// event left.
     ///
-    /// [`Failed`] comes only where the sink's count of faults rose, and the sink took then the
-    /// first bytes of the event's text.
+    /// Returns [`Failed`] only if the sink's count of faults rose, and the sink took then the first
+    /// bytes of the event's text.
     pub fn hear<K: Sink>(&mut self, event: &Event, sink: &mut K) -> Result<(), Failed>
         requires { All IsKept (⟦<Taps as KeepsTaps>⟧.kept self.old) }
         ensures ok { OnOk result
@@ -112,7 +112,7 @@ fn limit_all<T: Tap>(taps: &mut Vec<T>, limits: &EventLimits)
     }
 }
 
-/// Gives a tap the limit of its form, and says whether that is above 0.
+/// Gives a tap the limit of its form and returns whether that is above 0.
 fn has_limit<T: Tap>(tap: &mut T, limits: &EventLimits) -> bool
     ensures form { T.shape tap.new ≡ T.shape tap.old }
     ensures range { T.shape tap.old ≤ 3 }
@@ -124,8 +124,7 @@ fn has_limit<T: Tap>(tap: &mut T, limits: &EventLimits) -> bool
     limit > 0
 }
 
-/// Lets each tap hear the event and gives its text to the sink, and drops it where it has no event
-/// left to hear.
+/// Gives each tap the event, writes its text to the sink, and drops it if it has no event left.
 fn hear_all<T: Tap, K: Sink>(taps: &mut Vec<T>, event: &Event, sink: &mut K) -> Result<(), Failed>
     requires { All IsKept (kept_of T.shape T.left taps.old.items) }
     ensures ok { OnOk result

@@ -16,7 +16,7 @@ use traffic_message::{
     TrafficMessage,
 };
 
-/// The fields of a record of a handoff direction, in the order in which a line tells them.
+/// The fields of a record of a handoff direction, in the order of its line.
 const RECORD_FIELDS: [FieldRow; 3] = [("pn", 9), ("row", 8), ("comb", 1)];
 
 /// Adds the line of a message to the empty text, LF at its end. No line is longer than 1,024 bytes.
@@ -32,7 +32,7 @@ pub(crate) fn append_traffic(text: &mut Text, at: u64, message: &TrafficMessage)
     append_body(text, &message.body());
 }
 
-/// Adds what a message says after its head, and the end of the line.
+/// Adds the content of a message after its head, and ends the line.
 fn append_body(text: &mut Text, body: &TrafficBody)
     requires start { length text.old ≤ 95 }
     requires records { HasFewRecords body.now }
@@ -57,7 +57,7 @@ fn append_start(text: &mut Text, at: u64, head: &Head)
     append_values(text, &HEAD_FIELDS, &head.values());
 }
 
-/// Adds what an Extended Handoff Direction Message says.
+/// Adds the content of an Extended Handoff Direction Message.
 #[tactic(auto, unfolding(crate::specs::TrafficLines::handoff_text, crate::specs::Parts::are_short))]
 fn append_direction(text: &mut Text, message: &HandoffDirection)
     requires start { length text.old ≤ 95 }
@@ -83,7 +83,7 @@ fn append_direction(text: &mut Text, message: &HandoffDirection)
     append_few_rest(text, &fields.rest);
 }
 
-/// Adds the search parameters where there are any.
+/// Adds the search parameters, if there are any.
 #[tactic(auto, unfolding(crate::specs::Parts::are_short))]
 fn append_search(text: &mut Text, search: &Option<Search>)
     requires fit { SearchFits search.now }

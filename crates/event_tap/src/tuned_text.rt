@@ -1,11 +1,11 @@
-//! What is made of the frames of one channel after the mark.
+//! What is written for the frames of one channel after the mark.
 
-/// What is made of the frames of one channel after the mark.
+/// What is written for the frames of one channel after the mark.
 #[derive(Clone, Copy)]
 pub enum TunedText {
     /// Each frame is decoded as one of rate set 2 (TIA/EIA-95-B, 7.1.3.5), and has its line.
     RateSetTwo,
-    /// Each frame is decoded as one of rate set 1 (7.1.3.5) with the first so many codewords of a
+    /// Each frame is decoded as one of rate set 1 (7.1.3.5) from the first `k` codewords of each
     /// rate, and has its line.
     Listed {
         /// How many codewords of a rate are looked at, from 1 to 16.

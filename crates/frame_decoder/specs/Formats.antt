@@ -1,6 +1,5 @@
--- What is decoded of the frames of a traffic channel, whatever its rate set, by the formats of its
--- rates: how well codewords agree with soft values, and the choice among the candidates of the
--- rates.
+-- Decoding the frames of a traffic channel of any rate set by the formats of its rates: how well
+-- codewords agree with soft values, and the choice among the candidates of the rates.
 use Rattle.frame_decoder.specs.Common.{code_symbols, FrameFormat, sent_by, Codeword, correlation}
 use Rattle.frame_decoder.specs.Common.{best_codeword, Zero}
 use Rattle.std.specs.Prelude.{ℕ, Bool, false, if◌then◌else◌, List, [], ◌∷◌, map, take, drop, ℤ, pos}

@@ -1,5 +1,5 @@
--- What a handset decodes of a traffic frame of rate set 1 (TIA/EIA-95-B, 7.1.3.5), and the power
--- control bits that it hears in it (7.1.3.1.7).
+-- Decoding a traffic frame of rate set 1 (TIA/EIA-95-B, 7.1.3.5) and its power control bits
+-- (7.1.3.1.7).
 use Rattle.frame_decoder.specs.Common.{places, Rate, Codeword, FrameFormat}
 use Rattle.std.specs.Prelude.{ℕ, ◌+◌, ◌*◌, Bool, not, List, [], ◌∷◌, map, take, get_or, ℤ, pos}
 use Rattle.std.specs.Prelude.{◌+ℤ◌, int_lt}

@@ -11,7 +11,7 @@ use crate::replaced::without_power_bits;
 use symbol_path::{FrameFormat, PowerPlaces};
 use viterbi::Decoder;
 
-/// The frame of the greater score, and the first where both are equal.
+/// Returns the frame with the higher score, the first if both are equal.
 fn greater<R: Copy>(first: DecodedFrame<R>, second: DecodedFrame<R>) -> DecodedFrame<R>
     ensures { result ≡ better first second }
 {
@@ -22,8 +22,8 @@ fn greater<R: Copy>(first: DecodedFrame<R>, second: DecodedFrame<R>) -> DecodedF
     }
 }
 
-/// A higher rate's candidate, if any, against the best of the lower rates, if any: it is preferred
-/// where that has no greater score.
+/// Returns the better of a higher rate's candidate and the best of the lower rates, if any; the
+/// former unless the latter has a higher score.
 pub fn preferred<R: Copy>(
     higher: Option<DecodedFrame<R>>,
     lower: Option<DecodedFrame<R>>,
@@ -66,7 +66,7 @@ pub fn good_or<R: Copy>(
     }
 }
 
-/// The best codeword's frame where its quality indicator is right.
+/// Returns the best codeword's frame if its quality indicator is right.
 fn candidate<R: Copy>(format: &FrameFormat<R>, codeword: &ScoredCodeword) -> Option<DecodedFrame<R>>
     requires format { IsFormat format.now }
     requires count { length codeword.now.bits ≡ bits_in format.now }
@@ -101,16 +101,16 @@ fn best_candidate<R: Copy>(
     best
 }
 
-/// What is decoded of a frame, with the format of the highest rate and those of the lower rates,
-/// the lowest first.
+/// Decodes a frame, given the format of the highest rate and those of the lower rates, the lowest
+/// first.
 ///
 /// `softs` has the soft values of a frame's 384 symbols in the sent order, turned by the
 /// scrambling, and `places` the places of the power control bits, whose soft values count as 0, as
 /// those of dropped symbols do. Of each rate the best codeword is found, of those that start from
 /// eight zeros and end with eight zeros, and is a candidate where its quality indicator is right,
-/// and where it has none. The candidate of the greatest score is taken, the higher rate on a tie,
-/// and is good exactly where that score is above 0. Where it isn't, and where there is no
-/// candidate, the rate is the highest, with the information bits of the best codeword at that rate.
+/// and if it has none. The candidate of the largest score is taken, the higher rate on a tie, and
+/// is good exactly if that score is above 0. If it isn't, and if there is no candidate, the rate is
+/// the highest, with the information bits of the best codeword at that rate.
 pub fn frame_of<R: Copy>(
     decoder: &mut Decoder,
     highest: &FrameFormat<R>,

@@ -1,4 +1,4 @@
-//! What the soft values of a frame say, by the format of a rate, whatever the rate set.
+//! Decodes the soft values of a frame by the format of a rate of any rate set.
 
 ghost use Rattle.std.specs.Prelude.{◌≡◌, ◌≤◌, ◌^◌, length, sum_by, unsigned_abs};
 ghost use Rattle.frame_decoder.specs.Formats.{IsFormat, bits_in, codeword_in, score_in, is_right};
@@ -21,17 +21,17 @@ pub struct ScoredCodeword {
     pub score: i64,
 }
 
-/// What is decoded of a frame.
+/// A decoded frame.
 #[derive(Copy)]
 pub struct DecodedFrame<R> {
-    /// The rate at which it was sent, and the highest where it isn't good.
+    /// The rate at which it was sent; the highest if the frame is bad.
     pub rate: R,
     /// Whether there is a candidate whose symbols agree with the soft values better than not.
     pub good: bool,
     /// The information bits.
     pub bits: Bits,
-    /// How well the best candidate's symbols agree with the soft values, and where there is none
-    /// those of the best codeword at the highest rate.
+    /// How well the best candidate's symbols agree with the soft values; without a candidate, those
+    /// of the best codeword at the highest rate.
     pub score: i64,
 }
 
@@ -77,8 +77,8 @@ pub(crate) fn best_codeword<R: Copy>(
     }
 }
 
-/// Whether the quality indicator is that of the information bits; so always where frames of the
-/// rate have none.
+/// Whether the quality indicator is that of the information bits; always true if frames of the rate
+/// have none.
 pub fn is_right<R: Copy>(format: &FrameFormat<R>, bits: &Bits) -> bool
     requires format { IsFormat format.now }
     requires count { length bits.now ≡ bits_in format.now }

@@ -1,4 +1,4 @@
-//! Power control bits, as a handset hears them.
+//! Power control bits, as a handset receives them.
 
 ghost use Rattle.frame_decoder.specs.Common.{places};
 ghost use Rattle.std.specs.Prelude.{◌≡◌, ◌<◌, ◌≤◌, ◌+◌, ◌*◌, ◌^◌, ◌++◌, ◌∷◌, [], map, sum_by, All};
@@ -15,21 +15,21 @@ use symbol_path::PowerPlaces;
 /// that it replaces (TIA/EIA-95-B, 7.1.3.1.7).
 pub type GroupSums = [i64; 16];
 
-/// What a handset hears of a frame's power control bits, on up to six subchannels.
+/// The soft values of a frame's power control bits on up to six subchannels.
 ///
 /// TIA/EIA-95-B, 7.1.3.1.7: a frame has 16 power control bits, each in place of two symbols, which
 /// aren't scrambled.
 #[derive(Clone, Copy, PartialEq, Eq, Debug)]
 pub struct PowerSofts {
-    /// How many subchannels are heard, at most six.
+    /// How many subchannels there are, at most six.
     pub count: u8,
-    /// For each of them the sums of the two soft values of each power control bit. What stands
-    /// after the first `count` means nothing.
+    /// For each of them the sums of the two soft values of each power control bit. Entries after
+    /// the first `count` are unused.
     pub sums: [GroupSums; 6],
 }
 
 impl PowerSofts {
-    /// What is heard on no subchannel.
+    /// Makes an empty value, without subchannels.
     pub fn empty() -> PowerSofts
         ensures value { summed_subchannels result ≡ [] }
         ensures count { result.count ≡ 0 }
@@ -40,9 +40,9 @@ impl PowerSofts {
         }
     }
 
-    /// Adds a subchannel, where there is room: `softs` has the soft values of a frame's symbols as
-    /// its fingers hear them together, which no scrambling turns, and `replaced` the places of the
-    /// power control bits, as `symbol_path::power_places` gives them.
+    /// Adds a subchannel, if there is room: `softs` has the soft values of a frame's symbols over
+    /// its fingers, without descrambling, and `replaced` the places of the power control bits, as
+    /// `symbol_path::power_places` returns them.
     pub fn push(&mut self, softs: &FrameSofts, replaced: &PowerPlaces)
         requires room { self.old.count < 6 }
         requires below { All (λ place. place < 384) replaced.now }
@@ -81,7 +81,7 @@ fn is_above_zero(sums: &GroupSums, group: usize) -> bool
     sums[group] > 0
 }
 
-/// Whether the power control bit of a group, below 16, is heard as 0 on each of these subchannels.
+/// Whether the power control bit of a group, below 16, is 0 on each of these subchannels.
 fn is_up(heard: &[GroupSums], group: usize) -> bool
     requires { group < 16 }
     ensures { result ≡ is_up group heard.now }
@@ -94,8 +94,8 @@ fn is_up(heard: &[GroupSums], group: usize) -> bool
 }
 
 /// The 16 power control bits of a frame: a bit is 0, which tells the handset to raise its power,
-/// exactly where the sum of its soft values is above 0 on each subchannel, and else 1, which tells
-/// it to lower it.
+/// exactly if the sum of its soft values is above 0 on each subchannel, and else 1, which tells it
+/// to lower it.
 ///
 /// TIA/EIA-95-B, 7.1.3.1.7: a 0 raises the power and a 1 lowers it.
 pub fn commands(softs: &PowerSofts) -> PowerBits

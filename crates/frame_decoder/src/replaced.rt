@@ -6,7 +6,7 @@ ghost use Rattle.frame_decoder.specs.Replaced.{unreplaced};
 use crate::frame_softs::FrameSofts;
 use symbol_path::PowerPlaces;
 
-/// Sets the value at a place to 0, where there is one.
+/// Sets the value at a place to 0, if there is one.
 fn clear_at(values: &mut FrameSofts, place: u16)
     ensures { values.new ≡ slice_set values.old place (pos 0) }
 {

@@ -53,7 +53,7 @@ fn best_codeword(decoder: &mut Decoder, softs: &[i64]) -> Codeword
     codeword
 }
 
-/// The bits of frame `own` of the best codeword of a span of so many frames.
+/// Returns the bits of frame `own` of the best codeword of a span of `frames` frames.
 fn bits_of(
     decoder: &mut Decoder,
     span_format: SpanFormat,

@@ -55,7 +55,7 @@ impl SpanFormat {
     ghost use Rattle.std.specs.Prelude.{◌≡◌, ◌*◌, ◌≤◌};
     ghost use Rattle.symbol_path.specs.SentOrder.{shape_of, size};
 
-    /// How many symbols a frame sends.
+    /// Returns how many symbols a frame sends.
     pub(crate) fn symbols(self) -> usize
         ensures value { result ≡ size (shape_of self.kind) }
         ensures most { result ≤ 384 }
@@ -66,7 +66,7 @@ impl SpanFormat {
         }
     }
 
-    /// How many code symbols a frame has.
+    /// Returns how many code symbols a frame has.
     pub(crate) fn code_symbols(self) -> usize
         ensures { result ≡ 2 * self.bits }
     {

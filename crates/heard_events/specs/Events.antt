@@ -1,4 +1,4 @@
--- All that a handset tells: the pilot, and what it hears.
+-- All events of a handset: the pilot, and what it receives.
 use Rattle.heard_events.specs.Common.{places, Sample, Event, Pilot, Mark}
 use Rattle.std.specs.Prelude.{ℕ, ◌+◌, List, [], ◌∷◌, ◌++◌, length, map, Option, Some}
 use Rattle.std.specs.List.{flat_map}

@@ -1,4 +1,4 @@
--- The frames of a traffic channel as a handset hears them before its pilot sets change.
+-- The frames of a traffic channel as a handset receives them before its pilot sets change.
 use Rattle.heard_events.specs.Common.{new_standing, Leg, Mark, Traffic}
 use Rattle.std.specs.Prelude.{ℕ, List}
 use Rattle.heard_events.specs.Legs.{legs_of}

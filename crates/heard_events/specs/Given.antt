@@ -1,4 +1,4 @@
--- Events as they are given.
+-- Events in the order in which they are returned.
 use Rattle.heard_events.specs.Common.{Event, Pilot, Sync, Frame, Sets}
 use Rattle.std.specs.Prelude.{ℕ, List, [], ◌∷◌, Option, Some, None}
 use Rattle.heard_events.specs.declared.event.Event.TheVariants.{Paging, Traffic}

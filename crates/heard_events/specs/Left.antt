@@ -1,4 +1,4 @@
--- The events of so many samples' end that are still to be given, where some have been.
+-- The events at the end of the samples taken that are not returned yet.
 use Rattle.heard_events.specs.Common.{superframe_chips, places, Traffic, Sample, is_in_file, Event}
 use Rattle.heard_events.specs.Common.{known_at, Pilot, Leg, Mark}
 use Rattle.std.specs.Prelude.{ℕ, ◌+◌, ◌==◌, ◌&&◌, nat_le, List, [], ◌∷◌, length, map, filter, None}

@@ -1,4 +1,4 @@
--- The soft values of a frame as some active pilots hear it.
+-- The soft values of a frame from several active pilots.
 use Rattle.heard_events.specs.Common.{Sample, group_sums, Held, IsInRing, softs, Data, Leg}
 use Rattle.std.specs.Prelude.{◌≡◌, ℕ, ◌≤◌, true, List, length, take, ℤ}
 use Rattle.std.specs.List.{All}

@@ -1,4 +1,5 @@
--- The active pilots that a frame of a traffic channel is heard from (after TIA/EIA-95-B, 6.6.6.2).
+-- The active pilots from which a frame of a traffic channel is received (after TIA/EIA-95-B,
+-- 6.6.6.2).
 use Rattle.heard_events.specs.Common.{places, Standing, shown, Finger, fingers_of, modulo_code, Leg}
 use Rattle.heard_events.specs.Common.{Mark}
 use Rattle.std.specs.Prelude.{ℕ, ◌*◌, ◌==◌, if◌then◌else◌, Bool, List, [], ◌∷◌, map, filter, ℤ, pos}

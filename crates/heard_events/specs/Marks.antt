@@ -1,4 +1,4 @@
--- The mark: the sample at which the time lies that a sync message tells.
+-- The mark: the sample at which a sync message's time lies.
 use Rattle.heard_events.specs.Common.{superframe_chips, places, Sample, piece, from_last_start}
 use Rattle.heard_events.specs.Common.{frame_start, is_in_file, known_by, Event, Sync, Mark}
 use Rattle.std.specs.Prelude.{ℕ, ◌+◌, ◌-◌, ◌*◌, ◌==◌, not, Bool, false, if◌then◌else◌, List, []}

@@ -1,4 +1,4 @@
--- What a handset hears changes the pilot sets (after TIA/EIA-95-B, 6.6.6.2).
+-- Updates of the pilot sets by received messages (after TIA/EIA-95-B, 6.6.6.2).
 use Rattle.heard_events.specs.Common.{superframe_chips, PagingMessage, Standing, with_thresholds}
 use Rattle.heard_events.specs.Common.{with_neighbors, directed, Event, Mark}
 use Rattle.std.specs.Prelude.{ℕ, ◌+◌, ◌-◌, ◌/◌, ◌==◌, if◌then◌else◌, List, [], ◌∷◌}

@@ -1,4 +1,4 @@
--- What is heard on a paging channel (TIA/EIA-95-B, 7.7.2.1).
+-- The events of a paging channel (TIA/EIA-95-B, 7.7.2.1).
 use Rattle.heard_events.specs.Common.{places, CheckForm, Sample, PagingMessage, is_in_file, Event}
 use Rattle.heard_events.specs.Common.{known_now, Mark}
 use Rattle.std.specs.Prelude.{ℕ, ◌+◌, ◌-◌, Bool, List, [], ◌++◌, length, take, filter, Option, Some}

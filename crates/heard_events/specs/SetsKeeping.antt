@@ -1,4 +1,4 @@
--- What always holds of the pilot sets that a handset keeps.
+-- The invariant of the pilot sets that a handset keeps.
 use Rattle.heard_events.specs.Common.{half_window_chips, superframe_chips}
 use Rattle.std.specs.Prelude.{◌≡◌, ℕ, ◌+◌, ◌*◌, ◌≤◌, ◌^◌, if◌then◌else◌, true, unsigned_abs}
 use Rattle.std.specs.List.{All}

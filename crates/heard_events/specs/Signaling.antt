@@ -1,4 +1,5 @@
--- What the signaling in a traffic channel's frames spells (TIA/EIA-95-B, 7.1.3.5.11 and 7.7.3).
+-- The messages that the signaling in a traffic channel's frames spells (TIA/EIA-95-B, 7.1.3.5.11
+-- and 7.7.3).
 use Rattle.heard_events.specs.Common.{places, CheckForm, Sample, Decoded, piece, capsule_ending}
 use Rattle.heard_events.specs.Common.{Event, Leg, Mark, Traffic}
 use Rattle.std.specs.Prelude.{ℕ, Bool, List, [], ◌∷◌, ◌++◌, map, filter, Option, Some, None}

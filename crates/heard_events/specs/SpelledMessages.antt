@@ -1,4 +1,4 @@
--- Messages as they are read: each with the capsule that spells it.
+-- Messages as they are read, each with its capsule.
 use Rattle.heard_events.specs.Common.{PagingMessage, SyncFields}
 use Rattle.std.specs.Prelude.{Bool, List, Option, Some, None}
 use Rattle.traffic_message.specs.Messages.{Message}

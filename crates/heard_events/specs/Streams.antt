@@ -1,4 +1,4 @@
--- The streams of frames that are heard, and how their frames are decoded.
+-- The streams of received frames, and how their frames are decoded.
 use Rattle.std.specs.Prelude.{ℕ, ◌-◌, Bool, List}
 use Rattle.chip_core.specs.declared.sample.Sample.{Sample}
 use Rattle.frame_decoder.specs.Spans.{Channel, own_bits}

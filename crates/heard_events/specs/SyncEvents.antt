@@ -1,4 +1,4 @@
--- What is heard on the sync channel.
+-- The events of the sync channel.
 use Rattle.heard_events.specs.Common.{places, CheckForm, Sample, piece, capsule_ending, SyncFields}
 use Rattle.heard_events.specs.Common.{is_in_file, known_now, Event, Sync}
 use Rattle.std.specs.Prelude.{ℕ, ◌+◌, Bool, List, [], ◌∷◌, map, filter, Option, Some, None}

@@ -1,4 +1,4 @@
--- What is heard on a traffic channel (TIA/EIA-95-B, 7.1.3.5), from the active pilots of each frame.
+-- The events of a traffic channel (TIA/EIA-95-B, 7.1.3.5), from the active pilots of each frame.
 use Rattle.heard_events.specs.Common.{places, Sample, power_bit, decoded, group_sums, Decoded, Data}
 use Rattle.heard_events.specs.Common.{softs, frame_softs, Event, Frame, Leg, Mark, Traffic}
 use Rattle.std.specs.Prelude.{ℕ, Bool, List, [], map, ℤ, Option, Some, None}

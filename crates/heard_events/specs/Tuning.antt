@@ -1,4 +1,4 @@
--- What a handset is tuned to.
+-- The tuning of a handset.
 use Rattle.std.specs.Prelude.{ℕ, ◌+◌, ◌-◌, ◌/◌, ◌%◌, true, List, [], take, ℤ, Option}
 use Rattle.chip_core.specs.declared.check_form.CheckForm.{CheckForm}
 use Rattle.frame_decoder.specs.Spans.{sync_channel}

@@ -28,7 +28,7 @@ impl Channel {
         }
     }
 
-    /// How many chips after the mark its frame 0 begins.
+    /// Returns how many chips after the mark its frame 0 begins.
     pub fn offset(&self) -> u64
         requires { IsLawful self.now }
         ensures value { result ≡ offset_of self.now }

@@ -1,4 +1,4 @@
-//! What a handset hears.
+//! The events that a handset reports.
 
 use chip_core::{Bits, Phase, PowerBits};
 use paging_message::PagingMessage;
@@ -7,7 +7,7 @@ use symbol_path::Rate;
 use sync_message::SyncMessage;
 use traffic_message::TrafficMessage;
 
-/// Something that a handset found or heard in the samples.
+/// An event: something that a handset found or received in the samples.
 #[derive(Clone, Copy, PartialEq, Eq, Debug)]
 pub enum Event {
     /// The pilot was found (TIA/EIA-95-B, 7.1.3.2): the first event, before any sample is taken.
@@ -17,7 +17,7 @@ pub enum Event {
         /// The energy of the samples' correlation with the codes at that phase.
         energy: u64,
     },
-    /// A message of the sync channel was heard (TIA/EIA-95-B, 7.7.1).
+    /// A message of the sync channel was received (TIA/EIA-95-B, 7.7.1).
     Sync {
         /// How many samples had been taken when the message was known.
         at: u64,
@@ -26,7 +26,7 @@ pub enum Event {
         /// The message that the capsule spells.
         message: SyncMessage,
     },
-    /// A message of the paging channel was heard (TIA/EIA-95-B, 7.7.2).
+    /// A message of the paging channel was received (TIA/EIA-95-B, 7.7.2).
     Paging {
         /// How many samples had been taken when the message was known.
         at: u64,
@@ -35,20 +35,20 @@ pub enum Event {
         /// The message that the capsule spells.
         message: PagingMessage,
     },
-    /// A frame of the traffic channel was heard (TIA/EIA-95-B, 7.1.3.5).
+    /// A frame of the traffic channel was received (TIA/EIA-95-B, 7.1.3.5).
     Frame {
         /// How many samples had been taken when the frame's last one had been.
         at: u64,
-        /// The rate at which it was sent, and 9,600 bits a second where it isn't good.
+        /// The rate at which it was sent; 9,600 bits a second if the frame is bad.
         rate: Rate,
         /// Whether its symbols agree with the soft values better than not.
         good: bool,
         /// The information bits.
         bits: Bits,
-        /// Its 16 power control bits: 1 where one tells the handset to lower its power.
+        /// Its 16 power control bits: 1 if one tells the handset to lower its power.
         commands: PowerBits,
     },
-    /// A message of the traffic channel was heard (TIA/EIA-95-B, 7.7.3).
+    /// A message of the traffic channel was received (TIA/EIA-95-B, 7.7.3).
     Traffic {
         /// How many samples had been taken when the last frame that carries it ended.
         at: u64,

@@ -12,7 +12,7 @@ use chip_core::Phase;
 use pilot_search::Near;
 use rake_finger::{Finger, Fingers, finger_at};
 
-/// A list with one finger more; `None` stands for no finger.
+/// Returns a list with another finger; `None` stands for no finger.
 fn with_finger(fingers: Option<Fingers>, finger: Finger) -> Option<Fingers>
     requires { length (fingers_in fingers) < 8 }
     ensures { fingers_in result ≡ fingers_in fingers ++ finger ∷ [] }
@@ -28,8 +28,8 @@ fn with_finger(fingers: Option<Fingers>, finger: Finger) -> Option<Fingers>
     }
 }
 
-/// A list with the fingers of one active pilot more, where the reference base station is at a phase
-/// and near it.
+/// Returns a list with the fingers of another active pilot, given the phase of the reference base
+/// station and the paths near it.
 fn with_leg(fingers: Option<Fingers>, leg: &Leg, phase: Phase, near: &Near) -> Option<Fingers>
     requires few { length (fingers_in fingers) + finger_places leg.now ≤ 8 }
     requires most { near.now.count ≤ 3 }
@@ -49,8 +49,8 @@ fn with_leg(fingers: Option<Fingers>, leg: &Leg, phase: Phase, near: &Near) -> O
     more
 }
 
-/// The fingers that receive a traffic channel from active pilots, where the reference base station
-/// is at a phase and near it; `None` where there are none.
+/// Returns the fingers that receive a traffic channel from active pilots, given the phase of the
+/// reference base station and the paths near it; `None` if there are none.
 fn fingers_or_none(legs: &Legs, phase: Phase, near: &Near) -> Option<Fingers>
     requires few { places_in legs.now ≤ 8 }
     requires most { near.now.count ≤ 3 }

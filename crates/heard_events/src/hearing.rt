@@ -1,4 +1,4 @@
-//! What the pilot and capsules of the channels say, and frames of a traffic channel, as events.
+//! Makes events of the pilot, of capsules and of traffic frames.
 
 ghost use Rattle.heard_events.specs.Common.{Event as TheEvent, CapsuleStandsFor};
 ghost use Rattle.std.specs.Prelude.{◌≡◌, ◌≤◌, [], ◌∷◌, ◌++◌, Some, false, Bool, List, length, map};
@@ -22,7 +22,7 @@ use pilot_search::Best;
 use sync_message::SyncMessage;
 use traffic_message::{SignalFramer, TrafficMessage, split_frame};
 
-/// A capsule with the message that it spells; `None` where there is none.
+/// A capsule with the message that it spells; `None` if there is none.
 pub fn message_in(check: CheckForm, capsule: Option<Bits>) -> Option<Spelled<SyncMessage>>
     ensures { result ≡ heard_in check capsule }
 {
@@ -33,8 +33,8 @@ pub fn message_in(check: CheckForm, capsule: Option<Bits>) -> Option<Spelled<Syn
     }
 }
 
-/// A capsule of a paging channel with the message that it spells; `None` where there is none, or
-/// the capsule has a fault.
+/// A capsule of a paging channel with the message that it spells; `None` if there is none, or the
+/// capsule has a fault.
 pub fn page_in(check: CheckForm, capsule: Option<Bits>) -> Option<Spelled<PagingMessage>>
     ensures { result ≡ page_in check capsule }
 {
@@ -45,8 +45,8 @@ pub fn page_in(check: CheckForm, capsule: Option<Bits>) -> Option<Spelled<Paging
     }
 }
 
-/// A capsule of a traffic channel with the message that it spells; `None` where there is none, or
-/// the capsule has a fault.
+/// A capsule of a traffic channel with the message that it spells; `None` if there is none, or the
+/// capsule has a fault.
 fn signal_in(check: CheckForm, capsule: Option<Bits>) -> Option<Spelled<TrafficMessage>>
     ensures { result ≡ signal_in check capsule }
 {
@@ -57,7 +57,7 @@ fn signal_in(check: CheckForm, capsule: Option<Bits>) -> Option<Spelled<TrafficM
     }
 }
 
-/// A frame's signaling, where the frame is good and has any.
+/// Returns a frame's signaling, if the frame is good and has any.
 fn signal_of(frame: &Decoded) -> Option<Bits>
     requires { length frame.now.bits ≡ information_of frame.now.rate }
     ensures value { result ≡ signal_of frame.now }
@@ -69,8 +69,8 @@ fn signal_of(frame: &Decoded) -> Option<Bits>
     split_frame(frame.rate, &frame.bits).signal
 }
 
-/// Lets the framer take a frame's signaling, where the frame is good and has any, and gives the
-/// message that this completes.
+/// Gives the framer a frame's signaling, if the frame is good and has any, and returns the message
+/// that this completes.
 // Its frame holds several messages, and is not to lie beneath that of a frame's decoding.
 #[inline(never)]
 pub fn hear_signal(
@@ -99,7 +99,7 @@ pub fn pilot_event(best: &Best) -> Event
     }
 }
 
-/// The event of what is told when so many samples have been taken.
+/// Returns the event of a sync message that is complete after `at` samples.
 pub fn event_of(told: &Spelled<SyncMessage>, at: u64) -> Event
     ensures value { result ∷ [] ≡ events_of at (Some told.now) }
     ensures ends { at_of result ≡ at }
@@ -111,8 +111,7 @@ pub fn event_of(told: &Spelled<SyncMessage>, at: u64) -> Event
     }
 }
 
-/// The event of a message of the paging channel, where there is one, when so many samples have been
-/// taken.
+/// Returns the event of a paging message, if there is one, that is complete after `at` samples.
 pub fn event_of_page(page: Option<Spelled<PagingMessage>>, at: u64) -> Option<Event>
     ensures value { event_list result ≡ map (page_event at) (option_to_list page) }
     ensures ends { IfSome result (λ event. at_of event ≡ at) }
@@ -126,8 +125,7 @@ pub fn event_of_page(page: Option<Spelled<PagingMessage>>, at: u64) -> Option<Ev
     })
 }
 
-/// The event of a frame of the traffic channel, with its power control bits, when so many samples
-/// have been taken.
+/// Returns the event of a traffic frame, with its power control bits, that ends after `at` samples.
 pub fn frame_event(frame: &Decoded, power_bits: PowerBits, at: u64) -> Event
     ensures value { result ≡ frame_event at frame.now power_bits }
     ensures ends { at_of result ≡ at }
@@ -142,7 +140,7 @@ pub fn frame_event(frame: &Decoded, power_bits: PowerBits, at: u64) -> Event
     }
 }
 
-/// The event of a message of the traffic channel when so many samples have been taken.
+/// Returns the event of a traffic message that is complete after `at` samples.
 pub fn message_event(heard: &Spelled<TrafficMessage>, at: u64) -> Event
     ensures value { result ∷ [] ≡ message_events at (Some heard.now) }
     ensures ends { at_of result ≡ at }

@@ -14,9 +14,9 @@ ghost use Rattle.heard_events.specs.TrafficStreams.{replaced_in};
 ghost use Rattle.heard_events.specs.Tuning.{Tuning};
 ghost use Rattle.heard_events.specs.declared.channel.Channel.{Channel};
 
-/// What a handset has heard by a sample doesn't depend on later samples: the events that end within
-/// the first n samples, and the mark that they set, are the same for all files with these first n
-/// samples.
+/// What a handset has received by a sample doesn't depend on later samples: the events that end
+/// within the first n samples, and the mark that they set, are the same for all files with these
+/// first n samples.
 pub fn later_samples_change_nothing()
     ensures events { (t : Tuning) (one other : List Sample) (n : ℕ) → IsTuned t →
         n ≤ length one → n ≤ length other → take n one ≡ take n other →
@@ -35,8 +35,8 @@ pub fn later_samples_change_no_frame()
         frames_within t channel m one n ≡ frames_within t channel m other n }
 {}
 
-/// What is received of a frame depends on its fingers' samples alone: for one tuning it is the same
-/// for all files that agree in these, whatever lies before and after.
+/// A received frame depends only on its fingers' samples: for one tuning it is the same for all
+/// files that agree in these, whatever comes before and after.
 pub fn a_frame_hangs_on_its_samples()
     ensures { (t : Tuning) (channel : Channel) (m : Mark) (one other : List Sample) (k : ℕ) →
         AgreeIn one other (channel_stream t channel m).form
@@ -44,9 +44,9 @@ pub fn a_frame_hangs_on_its_samples()
         soft_frame t channel m one k ≡ soft_frame t channel m other k }
 {}
 
-/// What is received of a frame of a traffic channel is what a handset hears of it as long as the
-/// reference's pilot is active alone: it is decoded of the descrambled soft values, and its power
-/// control bits are those of the ones that nothing turns.
+/// A received frame of a traffic channel is what a handset reports of it while only the reference's
+/// pilot is active: it is decoded from the descrambled soft values, and its power control bits come
+/// from the soft values without descrambling.
 pub fn a_frame_is_heard_of_the_reference_alone()
     ensures decoded { (t : Tuning) (traffic : Traffic) (m : Mark) (samples : List Sample)
         (k : ℕ) → decoded_at t traffic m (reference_alone traffic m) samples k

@@ -1,11 +1,11 @@
-//! An active pilot, as a traffic channel is heard from it.
+//! An active pilot, with what a traffic channel needs of it.
 
 use rake_finger::Finger;
 
-/// An active pilot, as the traffic channel is heard from its base station.
+/// An active pilot, with what the traffic channel of its base station needs.
 #[derive(Clone, Copy)]
 pub struct Leg {
-    /// It is the reference's pilot, which is heard on all of the handset's paths.
+    /// Whether it is the reference's pilot, which is received on all of the handset's paths.
     pub reference: bool,
     /// The path of another pilot, and the channel's row.
     pub finger: Finger,

@@ -19,8 +19,8 @@ use rake_finger::{Form, SampleRing, combine_into};
 use short_code::Codes;
 use symbol_path::PowerPlaces;
 
-/// Computes the soft values of the frame that begins at a reference sample, as the fingers of these
-/// pilots hear them; no scrambling turns them.
+/// Computes the soft values of the frame that begins at a reference sample, from the fingers of
+/// these pilots, without descrambling.
 fn leg_softs(
     ring: &SampleRing,
     codes: &Codes,
@@ -40,8 +40,8 @@ fn leg_softs(
     combine_into(ring, codes, &fingers, Form::Data, start, out);
 }
 
-/// Computes the soft values of the frame as the fingers of one power control subchannel hear them:
-/// they are those of all fingers, which are given, where all pilots are on it.
+/// Computes the soft values of the frame from the fingers of one power control subchannel. If all
+/// pilots are on it, these are the given values of all fingers.
 fn subchannel_softs(
     ring: &SampleRing,
     codes: &Codes,
@@ -72,8 +72,8 @@ fn subchannel_softs(
     leg_softs(ring, codes, &on, phase, near, start, out);
 }
 
-/// The sums of the frame's power control bits, whose symbols are replaced at these places, on each
-/// subchannel. The frame's soft values over all fingers are given.
+/// Returns the sums of the frame's power control bits on each subchannel, given the places of the
+/// replaced symbols and the frame's soft values over all fingers.
 pub fn power_softs(
     ring: &SampleRing,
     codes: &Codes,

@@ -1,4 +1,4 @@
-//! The active pilots, as a traffic channel is heard from them.
+//! The active pilots, with what a traffic channel needs of them.
 
 ghost use Rattle.std.specs.Prelude.{◌≡◌, ◌<◌, ◌≤◌, ◌∷◌, ◌++◌, [], length};
 ghost use Rattle.heard_events.specs.Legs.{has_subchannel, on_subchannel};

@@ -1,9 +1,9 @@
-//! What is heard of a file of samples, and when: the events, the mark that a sync message sets, and
-//! what is received of each frame, as definitions over all samples, with the types that these speak
-//! of and the laws of causality. The handset that tells them is `mobile_core`.
+//! Defines what a handset receives of a file of samples, and when: the events, the mark that a sync
+//! message sets, and each received frame, as definitions over all samples, with their types and the
+//! laws of causality. The handset itself is `mobile_core`.
 //!
-//! What needs no receiver of frames is computed here too: the events of what capsules and frames
-//! say, the pilot sets at each moment, and the soft values of a frame as active pilots send it.
+//! This crate also computes what needs no receiver: the events of capsules and frames, the pilot
+//! sets at each moment, and the soft values of a frame from several active pilots.
 #![tactic(auto)]
 
 mod channel;

@@ -1,10 +1,10 @@
-//! The time reference: where the time lies that a sync message tells.
+//! The time reference: the sample at which a sync message's time lies.
 
 use long_code::State;
 use symbol_path::Rate;
 
-/// The time reference of a handset: the sample at which a sync message's time lies, and what else
-/// it says of the channels that begin there (TIA/EIA-95-B, 7.7.1.3).
+/// The time reference of a handset: the sample at which a sync message's time lies, and the
+/// message's parameters of the channels that begin there (TIA/EIA-95-B, 7.7.1.3).
 #[derive(Clone, Copy, PartialEq, Eq, Debug)]
 pub struct Mark {
     /// The reference sample at which the time lies.
@@ -23,8 +23,8 @@ impl Mark {
     ghost use Rattle.std.specs.Prelude.{◌≡◌, Some, None, nat_lt, if◌then◌else◌};
     ghost use Rattle.heard_events.specs.PagingStreams.{paging_rate};
 
-    /// The rate of the paging channels: 9,600 bits a second for the data rate 0 and 4,800 for 1;
-    /// `None` for one that stands for no rate (TIA/EIA-95-B, 7.7.1.3).
+    /// Returns the rate of the paging channels: 9,600 bits a second for PRAT 0 and 4,800 for 1;
+    /// `None` for a reserved value (TIA/EIA-95-B, 7.7.1.3).
     pub fn paging_rate(&self) -> Option<Rate>
         ensures { result ≡ (if nat_lt self.now.prat 2 then Some (paging_rate self.now.prat)
             else None) }

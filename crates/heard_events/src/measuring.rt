@@ -15,8 +15,8 @@ use pilot_sets::{Sets, Strength, Strengths};
 use rake_finger::{SampleRing, strength};
 use short_code::Codes;
 
-/// The chip of a pilot's code that falls on sample 0, on a path so many chips earlier than the
-/// reference.
+/// Returns the chip of a pilot's code that falls on sample 0, on a path `delta` chips earlier than
+/// the reference.
 pub(crate) fn pilot_phase(mark: &Mark, pilot: u16, delta: i16) -> Phase
     requires { IsSoundMark mark.now }
     ensures { result ≡ pilot_phase mark.now pilot delta }
@@ -32,8 +32,8 @@ fn phase_of(chips: i64) -> Phase
     Phase::new(chips.rem_euclid(32768) as u16).unwrap()
 }
 
-/// How strong a pilot is in the 512 samples before a place, in the window that the sets have for
-/// it.
+/// Returns how strong a pilot is in the 512 samples before a place, in the window that the sets
+/// have for it.
 fn pilot_strength(
     sets: &Sets,
     mark: &Mark,
@@ -59,7 +59,7 @@ fn pilot_strength(
     }
 }
 
-/// How strong all pilots of the sets are in the 512 samples before a place, in their order.
+/// Returns how strong all pilots of the sets are in the 512 samples before a place, in their order.
 pub(crate) fn measure(
     sets: &Sets,
     mark: &Mark,

@@ -11,11 +11,11 @@ use pilot_sets::{Active, SetChange, Sets};
 use rake_finger::{Finger, SampleRing, power};
 use short_code::Codes;
 
-/// The pilot sets of a handset that follows a traffic channel, from the mark on: the sets as they
-/// stand, and how many moments have passed, every 80 ms one (after TIA/EIA-95-B, 6.6.6.2).
+/// The pilot sets of a handset that follows a traffic channel, from the mark on: the current sets,
+/// and how many moments have passed, one every 80 ms (after TIA/EIA-95-B, 6.6.6.2).
 #[derive(Drop)]
 pub struct SetsKeeper {
-    /// The sets as they stand.
+    /// The current sets.
     pub sets: Sets,
     /// The mark that they are kept from.
     pub mark: Mark,
@@ -41,7 +41,7 @@ impl SetsKeeper {
     ghost use Rattle.pilot_sets.specs.Standing.{new_standing};
     ghost use Rattle.rake_finger.specs.Held.{HoldsLast};
 
-    /// The sets at the mark, of a handset that hears the reference's traffic channel on a row.
+    /// Makes the sets at the mark, for a handset with the reference's traffic channel on a row.
     pub fn new(mark: &Mark, row: u8) -> SetsKeeper
         requires mark { IsSoundMark mark.now }
         requires row { row < 64 }
@@ -77,7 +77,7 @@ impl SetsKeeper {
         self.due
     }
 
-    /// How many moments have passed.
+    /// Returns how many moments have passed.
     pub fn passed(&self) -> u64
         ensures { result ≡ self.now.passed }
     {
@@ -92,7 +92,7 @@ impl SetsKeeper {
         (start - self.mark.sample) / SUPERFRAME_CHIPS
     }
 
-    /// Lets the moment come that lies at so many samples, where one does.
+    /// Notes that a moment has come, if one lies at `taken` samples.
     pub fn come(&mut self, taken: u64)
         requires sound { IsSoundKeeper self.old }
         requires idle { self.old.due ≡ false }
@@ -108,7 +108,7 @@ impl SetsKeeper {
         }
     }
 
-    /// Takes what an event tells of the sets.
+    /// Updates the sets by an event.
     pub fn note(&mut self, event: &Event)
         requires { IsSoundKeeper self.old }
         ensures value { self.new ≡ record self.old {
@@ -121,7 +121,7 @@ impl SetsKeeper {
         note_event(&mut self.sets, self.mark.pilot, first, event);
     }
 
-    /// An active pilot, as a traffic channel is heard from it.
+    /// An active pilot, with what a traffic channel needs of it.
     fn leg(&self, active: &Active) -> Leg
         requires sound { IsSoundKeeper self.now }
         requires pilot { active.now.pilot < 512 }
@@ -139,7 +139,7 @@ impl SetsKeeper {
         }
     }
 
-    /// The active pilots, as a traffic channel is heard from them.
+    /// The active pilots, with what a traffic channel needs of them.
     pub fn legs(&self) -> Legs
         requires { IsSoundKeeper self.now }
         ensures value { result ≡ legs_of self.now.mark self.now.sets }
@@ -156,8 +156,8 @@ impl SetsKeeper {
         legs
     }
 
-    /// Lets the moment that has come pass: the direction for its time takes effect, and the pilots
-    /// are measured and move. Gives its event, where a list changed or a report is due.
+    /// Performs the moment that has come: the direction for its time takes effect, and the pilots
+    /// are measured and moved. Returns its event if a list changed or a report is due.
     pub fn pass(&mut self, ring: &SampleRing, codes: &Codes) -> Option<Event>
         requires sound { IsSoundKeeper self.old }
         requires due { self.old.due ≡ true }
@@ -187,7 +187,7 @@ impl SetsKeeper {
         self.sets_event(place, time, change)
     }
 
-    /// The event of a moment, where a list changed or a report is due.
+    /// Returns the event of a moment, if a list changed or a report is due.
     fn sets_event(&self, at: u64, time: u64, change: SetChange) -> Option<Event>
         requires at { at ≡ moment_place self.now.mark self.now.passed }
         requires time { time ≡ self.now.mark.time + self.now.passed }

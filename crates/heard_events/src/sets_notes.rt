@@ -1,4 +1,4 @@
-//! What a handset hears changes its pilot sets.
+//! Updates the pilot sets by received messages.
 
 ghost use Rattle.heard_events.specs.Common.{with_neighbors};
 ghost use Rattle.std.specs.Prelude.{◌≡◌, ◌<◌, ◌^◌};
@@ -47,8 +47,7 @@ fn note_neighbors(sets: &mut Sets, fields: &NeighborFields)
     sets.neighbors(&fields.pns);
 }
 
-/// Takes what a message of the paging channel tells of the sets, where it is of the reference's
-/// pilot.
+/// Updates the sets by a paging message, if it comes from the reference's pilot.
 fn note_page(sets: &mut Sets, pn: u16, message: &PagingMessage)
     ensures { sets.new ≡ page_noted pn message.now sets.old }
 {
@@ -69,8 +68,8 @@ fn note_page(sets: &mut Sets, pn: u16, message: &PagingMessage)
     }
 }
 
-/// Takes what a message of the traffic channel tells of the sets, where the first moment that isn't
-/// before its end has this time. A direction that is refused changes nothing.
+/// Updates the sets by a traffic message; `first` is the time of the first moment at or after its
+/// end. A refused direction changes nothing.
 fn note_body(sets: &mut Sets, first: u64, body: &TrafficBody)
     requires { first < 2 ^ 40 }
     ensures { sets.new ≡ body_noted first body.now sets.old }
@@ -89,8 +88,8 @@ fn note_body(sets: &mut Sets, first: u64, body: &TrafficBody)
     }
 }
 
-/// Takes what an event tells of the sets, where the reference's pilot has this offset, and the
-/// first moment that isn't before the event's end this time.
+/// Updates the sets by an event, given the offset of the reference's pilot and the time of the
+/// first moment at or after the event's end.
 pub(crate) fn note_event(sets: &mut Sets, pn: u16, first: u64, event: &Event)
     requires { first < 2 ^ 40 }
     ensures { sets.new ≡ noted_with pn first event.now sets.old }

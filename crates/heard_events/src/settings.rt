@@ -2,14 +2,14 @@
 
 use chip_core::{CheckForm, Traffic};
 
-/// What a handset is told about a file, and how it is to receive it.
+/// What a handset knows about a file, and how it receives it.
 #[derive(Clone, Copy, PartialEq, Eq, Debug)]
 pub struct Settings {
     /// How many paths of the base station it receives, 1 to 3.
     pub fingers: u8,
     /// The number of the paging channel that it follows, 1 to 7.
     pub paging: u8,
-    /// The traffic channel that it follows; `None` where it follows none.
+    /// The traffic channel that it follows; `None` if it follows none.
     pub traffic: Option<Traffic>,
     /// How the 30-bit checks of the sync and paging channels' messages are sent.
     pub check30: CheckForm,

@@ -9,7 +9,7 @@ use symbol_path::PowerPlaces;
 pub struct PowerControl {
     /// The places of the symbols that they replace, in rising order.
     pub replaced: PowerPlaces,
-    /// The 16 bits: 0, which tells the handset to raise its power, exactly where the sum of the two
+    /// The 16 bits: 0, which tells the handset to raise its power, exactly if the sum of the two
     /// soft values, which no scrambling turns, is above 0.
     pub power_bits: PowerBits,
 }

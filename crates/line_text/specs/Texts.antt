@@ -1,5 +1,5 @@
--- The texts of values, in ASCII: lists of bits, states of the long code, serial numbers, and what
--- stands before the value of a field.
+-- The texts of values, in ASCII: lists of bits, states of the long code, serial numbers, and the
+-- key before the value of a field.
 use Rattle.std.specs.Prelude.{ℕ, zero, suc, ◌+◌, ◌*◌, ◌-◌, ◌/◌, Bool, false, if◌then◌else◌, List}
 use Rattle.std.specs.Prelude.{[], ◌∷◌, ◌++◌, length, take, drop, replicate, codes, decimal}
 use Rattle.std.specs.Int.{w32, w64, to_be_bytes}

@@ -17,7 +17,7 @@ use long_code::State;
 /// How many octets hold the bits of the longest list.
 const MOST_OCTETS: usize = 148;
 
-/// How many bytes of a text stand before the first mark; all where it has none.
+/// Returns how many bytes of a text precede the first mark; all if it has none.
 pub fn length_before(text: &[u8], mark: u8) -> usize
     ensures value { result ≡ length_before mark text.now }
     ensures most { result ≤ length text.now }
@@ -39,8 +39,8 @@ pub fn begins_with(text: &[u8], front: &[u8]) -> bool
     text.strip_prefix(front).is_some()
 }
 
-/// The number that a text spells in decimal without leading zeros; `None` where it spells none, or
-/// one above `most`.
+/// The number that a text spells in decimal without leading zeros; `None` if it spells none, or one
+/// above `most`.
 #[tactic(auto, unfolding(crate::specs::StatedValues::number_up_to))]
 pub fn number_up_to(text: &[u8], most: u64) -> Option<u64>
     ensures value { result ≡ number_up_to most text.now }
@@ -78,7 +78,7 @@ fn is_plain(text: &[u8]) -> bool
 }
 
 /// The number with a sign that a text spells, from -32,768 to 32,767, as `number_up_to` reads its
-/// digits; `None` where it spells none, and `-0` isn't one.
+/// digits; `None` if it spells none, and `-0` isn't one.
 #[tactic(auto, unfolding(crate::specs::StatedValues::signed_in))]
 pub fn signed_in(text: &[u8]) -> Option<i64>
     ensures value { result ≡ signed_in text.now }
@@ -103,7 +103,7 @@ fn negative(size: u64) -> Option<i64>
 }
 
 /// The state of the long code (TIA/EIA-95-B, 7.1.3.1.10) that eleven hex digits of either case
-/// spell; `None` where the text isn't such digits, and where they spell 0 or more than 42 bits.
+/// spell; `None` if the text isn't such digits, and if they spell 0 or more than 42 bits.
 #[tactic(auto, unfolding(crate::specs::StatedValues::state_in))]
 pub fn state_in(text: &[u8]) -> Option<u64>
     ensures value { result ≡ state_in text.now }
@@ -116,7 +116,7 @@ pub fn state_in(text: &[u8]) -> Option<u64>
     Some(state.value())
 }
 
-/// The electronic serial number that eight hex digits of either case spell; `None` where the text
+/// The electronic serial number that eight hex digits of either case spell; `None` if the text
 /// isn't such digits.
 #[tactic(auto, unfolding(crate::specs::StatedValues::serial_number_in))]
 pub fn serial_number_in(text: &[u8]) -> Option<u64>
@@ -172,8 +172,8 @@ fn binary_digit(byte: u8) -> Option<bool>
     }
 }
 
-/// The power control bits that sixteen digits 0 or 1 are, in order; `None` where the text isn't
-/// such digits.
+/// The power control bits that sixteen digits 0 or 1 are, in order; `None` if the text isn't such
+/// digits.
 pub fn power_bits_in(text: &[u8]) -> Option<PowerBits>
     ensures { result ≡ power_bits_in text.now }
 {
@@ -188,8 +188,8 @@ pub fn power_bits_in(text: &[u8]) -> Option<PowerBits>
 }
 
 /// The bits of a text `N:HEX`: N of them, at most 1,184, in two hex digits of either case for each
-/// octet of them, padded at the end with zero bits. `None` where a text isn't of this form, has
-/// more or fewer octets than N bits need, or pads them with other bits.
+/// octet of them, padded at the end with zero bits. `None` if a text isn't of this form, has more
+/// or fewer octets than N bits need, or pads them with other bits.
 #[tactic(auto, unfolding(crate::specs::StatedValues::bits_in_text))]
 pub fn bits_in(text: &[u8]) -> Option<Bits>
     ensures { result ≡ bits_in_text text.now }

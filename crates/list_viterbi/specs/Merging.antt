@@ -1,4 +1,4 @@
--- How the lists of one bit more come from those before.
+-- How the lists after another bit follow from those before it.
 use Rattle.std.specs.Prelude.{ℕ, zero, suc, ◌+◌, ◌*◌, ◌%◌, ◌^◌, ◌≤◌, ◌<◌, ◌≡◌, Bool, true, false, ℤ}
 use Rattle.std.specs.Prelude.{List, [], ◌∷◌, ◌++◌, length, get_or, map, pos, ◌+ℤ◌, int_lt, nat_le}
 use Rattle.std.specs.Prelude.{unsigned_abs, if◌then◌else◌}

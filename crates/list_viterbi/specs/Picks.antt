@@ -1,4 +1,4 @@
--- The first codewords of one bit more, by their scores and where they come from alone.
+-- The first codewords after another bit, only by their scores and origins.
 use Rattle.std.specs.Prelude.{ℕ, zero, suc, ◌+◌, ◌-◌, ◌*◌, ◌%◌, ◌^◌, ◌≤◌, ◌≡◌, List, [], ◌∷◌, map}
 use Rattle.std.specs.Prelude.{get_or, ℤ, pos, ◌+ℤ◌, ◌-ℤ◌, unsigned_abs, if◌then◌else◌}
 use Rattle.chip_core.specs.Bits.{bit_of, digit}

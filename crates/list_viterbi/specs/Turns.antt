@@ -1,5 +1,5 @@
--- The merge of two lists of sums turn by turn, without places: each turn takes the greater of the
--- two heads, and moves both lists so that the next heads stand in front.
+-- The merge of two lists of sums turn by turn, without places: each turn takes the larger of the
+-- two heads, and moves both lists so that the next heads are in front.
 use Rattle.std.specs.Prelude.{ℕ, zero, suc, ◌+◌, ◌*◌, Bool, List, [], ◌∷◌, get_or, map, ℤ, pos}
 use Rattle.std.specs.Prelude.{int_lt}
 use Rattle.std.specs.Int.{w64}

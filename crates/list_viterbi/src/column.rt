@@ -16,9 +16,9 @@ use std::marker::Model;
 use viterbi::Ends;
 
 /// The scores of the first codewords into each state, of at most `k` for each: by their states or,
-/// where there are four of each state, by their places.
+/// if there are four of each state, by their places.
 ///
-/// Contracts see the greatest number of codewords, and the scores of each state.
+/// Contracts see the largest number of codewords, and the scores of each state.
 #[derive(Drop)]
 pub struct Column {
     k: u8,

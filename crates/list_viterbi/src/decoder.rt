@@ -17,7 +17,7 @@ use viterbi::{Ends, MOST_BITS};
 /// scores by states, two by places, and a column of choices for each of 576 bits, less than 700
 /// KiB.
 ///
-/// Contracts see the greatest number of bits of a codeword.
+/// Contracts see the largest number of bits of a codeword.
 #[derive(Drop)]
 pub struct ListDecoder {
     max_bits: u16,

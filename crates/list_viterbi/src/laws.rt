@@ -24,8 +24,8 @@ pub fn best_is_first()
     ensures { HaveBestFirst }
 {}
 
-/// The first of them that passes a test, as that its quality bits agree, is, where there is one,
-/// the first of all allowed codewords that pass it.
+/// The first of them that passes a test, as that its quality bits agree, is, if there is one, the
+/// first of all allowed codewords that pass it.
 pub fn first_passing_of_all()
     ensures { HaveFirstPassing }
 {}

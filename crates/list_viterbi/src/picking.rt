@@ -96,7 +96,7 @@ fn greater(even: i64, odd: i64) -> (i64, bool)
     (if is_odd { odd } else { even }, is_odd)
 }
 
-/// The weight of a choice, where it is 1.
+/// The weight of a choice, if it is 1.
 fn weight_of(choice: bool, weight: u32) -> u32
     ensures value { result ≡ digit choice * weight }
     ensures most { result ≤ weight }

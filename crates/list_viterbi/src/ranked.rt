@@ -43,7 +43,7 @@ impl<T: Scored> Model for Ranked<T> {
 }
 
 impl<T: Scored> Ranked<T> {
-    /// The list of nothing.
+    /// An empty list.
     pub fn empty() -> Ranked<T>
         ensures { result ≡ [] }
     {
@@ -60,7 +60,7 @@ impl<T: Scored> Ranked<T> {
         self.count = 0;
     }
 
-    /// How many things the list has.
+    /// Returns how many things the list has.
     pub fn len(&self) -> u8
         ensures value { result ≡ length self.now }
         ensures most { result ≤ 16 }

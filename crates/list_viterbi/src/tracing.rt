@@ -18,7 +18,7 @@ fn is_odd(choices: u32, place: u8) -> bool
     choices >> place & 1 == 1
 }
 
-/// How many of the codewords below a place come from the state with oldest bit 1.
+/// Returns how many of the codewords below a place come from the state with oldest bit 1.
 fn ones_below(choices: u32, place: u8) -> u8
     requires { place ≤ 32 }
     ensures value { result ≡ ones_below choices place }

@@ -1,5 +1,4 @@
--- What a handset decodes of a traffic frame of rate set 1 (TIA/EIA-95-B, 7.1.3.5) by lists of
--- codewords.
+-- Decoding a traffic frame of rate set 1 (TIA/EIA-95-B, 7.1.3.5) by lists of codewords.
 use Rattle.std.specs.Prelude.{ℕ, List, [], ◌∷◌, ◌++◌, map, ℤ, Option, None}
 use Rattle.quality_bits.specs.declared.rate.Rate.{Rate}
 use Rattle.quality_bits.specs.declared.rate.Rate.TheVariants.{R9600, R4800, R2400, R1200}

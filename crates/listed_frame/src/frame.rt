@@ -85,9 +85,9 @@ fn candidate_of(
 /// scrambling, and `places` the places of the power control bits, whose soft values count as 0. Of
 /// 9,600 and of 4,800 bits a second the first `k` codewords are found, of those that start from
 /// eight zeros and end with eight zeros, and the first of them whose quality indicator is right is
-/// the rate's candidate, where there is one. The best codewords of 2,400 and 1,200 bits a second
-/// always are candidates. The candidate of the greatest score is taken, the higher rate on a tie,
-/// and is good exactly where that score is above 0. Where it isn't, the rate is 9,600, with the
+/// the rate's candidate, if there is one. The best codewords of 2,400 and 1,200 bits a second
+/// always are candidates. The candidate of the largest score is taken, the higher rate on a tie,
+/// and is good exactly if that score is above 0. If it isn't, the rate is 9,600, with the
 /// information bits of the best codeword at that rate. No memory is taken.
 ///
 /// TIA/EIA-95-B, 7.1.3.5: the bits of a frame at each rate; 7.1.3.1: they are encoded, each code

@@ -31,7 +31,7 @@ impl Model for State {
 }
 
 impl State {
-    /// The state of this number; `None` exactly where it is 0 or has a bit above bit 41.
+    /// The state of this number; `None` exactly if it is 0 or has a bit above bit 41.
     pub fn new(value: u64) -> Option<State>
         ensures { SomeIff result (IsState value) value }
     {

@@ -1,4 +1,4 @@
--- Layouts without a group and without octets, and contents of these.
+-- Layouts without a group and without octets, and their contents.
 use Rattle.message_layout.specs.Common.{total_width, values_at, Contents, Never}
 use Rattle.std.specs.Prelude.{ℕ, ◌*◌, ◌-◌, ◌&&◌, Bool, List, [], length, drop, nat_le, Option, None}
 use Rattle.message_layout.specs.Contents.{columns_in, count_in}

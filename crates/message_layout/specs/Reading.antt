@@ -1,4 +1,4 @@
--- Bits read by a layout, part by part: of each part what it says, and the bits after it.
+-- Bits read by a layout, part by part: the content of each part, and the bits after it.
 use Rattle.message_layout.specs.Common.{total_width, number_at, values_at, Contents, Presence}
 use Rattle.message_layout.specs.Common.{Never, Flagged, UnlessLeft}
 use Rattle.std.specs.Prelude.{ℕ, ◌*◌, ◌==◌, if◌then◌else◌, not, Bool, true, false, List, length}

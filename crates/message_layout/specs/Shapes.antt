@@ -1,4 +1,4 @@
--- Layouts of bodies as plain numbers: which fields stand in one, and in how many bits.
+-- Layouts of bodies as plain numbers: their fields and widths.
 use Rattle.message_layout.specs.Common.{total_width, Presence, Never, Flagged, UnlessLeft}
 use Rattle.std.specs.Prelude.{ℕ, ◌≤◌, ◌&&◌, Bool, true, false, List, [], ◌∷◌, length, map, nat_lt}
 use Rattle.std.specs.Prelude.{nat_le, Option, None, Some}

@@ -1,4 +1,4 @@
--- The bits that contents of a layout are sent as.
+-- The bits that spell the contents of a layout.
 use Rattle.message_layout.specs.Common.{field, spelled, in_widths, FieldsFit, Field, Contents}
 use Rattle.message_layout.specs.Common.{Presence, Never, Flagged, UnlessLeft}
 use Rattle.std.specs.Prelude.{ℕ, ◌≡◌, ◌/◌, ◌%◌, ◌^◌, ◌<◌, ◌≤◌, Bool, List, [], ◌∷◌, ◌++◌, length}

@@ -1,4 +1,4 @@
-//! What a body says by its layout.
+//! The contents of a body by its layout.
 
 ghost use Rattle.std.specs.Prelude.{◌≡◌, ◌≤◌, length};
 ghost use Rattle.message_layout.specs.Plain.{plain_contents};
@@ -6,16 +6,16 @@ ghost use Rattle.message_layout.specs.Plain.{plain_contents};
 use crate::values::FieldValues;
 use chip_core::{Bits, Numbers};
 
-/// What a body says, part by part, as its layout has them.
+/// The contents of a body, part by part, as in its layout.
 #[derive(Drop)]
 pub struct Contents {
     /// The values of the fixed fields.
     pub fixed: FieldValues,
-    /// The values of the group's fields, where it is there.
+    /// The values of the group's fields, if it is there.
     pub group: Option<FieldValues>,
     /// The octets that are counted, bit by bit.
     pub octets: Bits,
-    /// Of each field of a record its value in each record; empty past the last field.
+    /// For each field of a record its value in each record; empty past the last field.
     pub columns: [Numbers; 3],
     /// The bits that are left.
     pub rest: Bits,

@@ -6,7 +6,7 @@ ghost use Rattle.message_layout.specs.Reading.{reading};
 ghost use Rattle.message_layout.specs.Shapes.{is_lawful, MessageShape};
 ghost use Rattle.message_layout.specs.Spelling.{spelling, IsOf};
 
-/// Reading a list of bits by a layout gives contents exactly where the list is their spelling.
+/// Reading a list of bits by a layout gives contents exactly if the list is their spelling.
 pub fn reading_turns_spelling_back()
     ensures { (s : MessageShape) (bits : List Bool) (c : TheContents) → is_lawful s ≡ true →
         (reading s bits ≡ Some c) ↔ (IsOf s c × (bits ≡ spelling s c)) }

@@ -1,6 +1,6 @@
 //! Layouts as tables.
 //!
-//! A [`Layout`] has five parts, one after another, each of which may have nothing:
+//! A [`Layout`] has five parts, one after another, each of which may be empty:
 //!
 //! - fixed fields, which each body has;
 //! - a group of fields, which is there where a bit before it is 1, or where another number of bits
@@ -32,13 +32,13 @@ ghost use Rattle.std.specs.Prelude.{◌≡◌, ◌<◌, [], length, map, get_or}
 /// A field of a message: its name in lines of text, and in how many bits it is sent.
 pub type FieldRow = (&'static str, u8);
 
-/// The fields of a body after its message type, in the order in which they are sent.
+/// The fields of a body after its message type, in the order of transmission.
 ///
 /// A layout has at most 48 fixed fields and 48 fields in its group, of 1 to 64 bits each, at most
 /// three fields in a record, of 1 to 32 bits each, and a rest that is shorter than a record.
 #[derive(Clone, Copy)]
 pub struct Layout {
-    /// The name of such a message in lines of text; empty where the line has another.
+    /// The name of such a message in lines of text; empty if the line has another.
     pub name: &'static str,
     /// The fields that each body has.
     pub fixed: &'static [FieldRow],
@@ -48,11 +48,11 @@ pub struct Layout {
     pub octets: Octets,
     /// The records to the end.
     pub records: Records,
-    /// How many bits are left at most after all of these; `None` where any number may be left.
+    /// How many bits are left at most after all of these; `None` if any number may be left.
     pub most: Option<u16>,
 }
 
-/// Fields that stand in a body together or not at all.
+/// Fields that are in a body together or not at all.
 #[derive(Clone, Copy)]
 pub struct Group {
     /// Where they are there.
@@ -66,16 +66,16 @@ pub struct Group {
 pub enum Presence {
     /// Nowhere.
     Never,
-    /// After a bit that is 1; where that bit is 0 there is none.
+    /// After a bit that is 1; if that bit is 0 there is none.
     Flagged,
-    /// Unless just so many bits are left, fewer than the group has.
+    /// Unless exactly this many bits are left, fewer than the group has.
     UnlessLeft(u16),
 }
 
-/// Octets, whose number stands before them.
+/// Octets, preceded by their number.
 #[derive(Clone, Copy)]
 pub struct Octets {
-    /// How many bits that are 0 stand before the number, at most 64.
+    /// How many zero bits precede the number, at most 64.
     pub zeros: u8,
     /// In how many bits the number is sent, at most 8; with 0 there are no octets.
     pub width: u8,
@@ -86,7 +86,7 @@ pub struct Octets {
 pub struct Records {
     /// The name of the list of records in lines of text.
     pub name: &'static str,
-    /// The fields of a record; none where there are no records.
+    /// The fields of a record; none if there are no records.
     pub fields: &'static [FieldRow],
     /// How many records there are at least.
     pub least: u8,

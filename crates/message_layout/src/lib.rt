@@ -1,5 +1,5 @@
-//! Layouts of message bodies (TIA/EIA-95-B, 7.7): one table says which fields stand in a body, and
-//! one reader and one writer go by it.
+//! Layouts of message bodies (TIA/EIA-95-B, 7.7): one table lists the fields of a body, and one
+//! reader and one writer use it.
 //!
 //! What is read is held in a fixed room ([`Contents`]), so nothing allocates. What is spelled so is
 //! read, what is read is spelled so, and no other list of bits is read.

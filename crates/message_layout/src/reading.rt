@@ -1,10 +1,10 @@
 //! Bits read by a layout.
 //!
-//! Each function reads what stands at a place of one slice, counted from 0, and gives the place
-//! after it; so nothing is copied but octets and a rest.
+//! Each function reads at a place of one slice, counted from 0, and returns the place after it, so
+//! only octets and a rest are copied.
 //!
-//! The larger functions are put into their callers: a layout that is known there is gone by without
-//! a table, and what was read isn't copied from one call to the next.
+//! The larger functions are inlined: a layout known at the call needs no table, and what was read
+//! is not copied from call to call.
 
 ghost use Rattle.message_layout.specs.Common.{total_width, AreWidths, column_at, number_at};
 ghost use Rattle.message_layout.specs.Common.{Contents as TheContents};
@@ -23,8 +23,8 @@ use crate::slice::BitSlice;
 use crate::values::FieldValues;
 use chip_core::{Bits, Numbers};
 
-/// What bits say by a layout, with at most 128 records; `None` exactly where no contents of the
-/// layout are spelled so.
+/// Returns the contents that bits spell by a layout, with at most 128 records; `None` exactly if
+/// they spell none.
 pub fn read(layout: &Layout, bits: &Bits) -> Option<Contents>
     requires lawful { is_lawful (shape layout.now) ≡ true }
     requires room { count_in (shape layout.now).records (length bits.now) ≤ 128 }
@@ -37,8 +37,8 @@ pub fn read(layout: &Layout, bits: &Bits) -> Option<Contents>
     read_from(layout, &BitSlice::whole(bits), 0)
 }
 
-/// What the bits from a place on say by a layout, with at most 128 records; `None` exactly where no
-/// contents of the layout are spelled so.
+/// Returns the contents that the bits from a place on spell by a layout, with at most 128 records;
+/// `None` exactly if they spell none.
 #[inline(always)]
 pub fn read_from(layout: &Layout, bits: &BitSlice<'_>, from: u16) -> Option<Contents>
     requires lawful { is_lawful (shape layout.now) ≡ true }
@@ -53,7 +53,7 @@ pub fn read_from(layout: &Layout, bits: &BitSlice<'_>, from: u16) -> Option<Cont
     read_parts(layout, bits, from)
 }
 
-/// The message type, 8 bits, and the place after it; `None` exactly where there are fewer.
+/// The message type, 8 bits, and the place after it; `None` exactly if there are fewer.
 pub fn read_kind(bits: &BitSlice<'_>) -> Option<(u8, u16)>
     ensures kind { following bits.now result ≡ number_part 8 bits.now }
     ensures within { IfSome result (λ x. x.1 ≤ length bits.now) }
@@ -62,7 +62,7 @@ pub fn read_kind(bits: &BitSlice<'_>) -> Option<(u8, u16)>
     Some((kind as u8, from))
 }
 
-/// What the bits from a place on say, part by part.
+/// Reads the bits from a place on, part by part.
 #[tactic(auto, unfolding(crate::specs::Reading::reading))]
 #[inline(always)]
 fn read_parts(layout: &Layout, bits: &BitSlice<'_>, from: u16) -> Option<Contents>
@@ -107,7 +107,7 @@ fn rest_of(bits: &BitSlice<'_>, from: u16) -> Bits
 }
 
 /// The values of fields of a table from a place on, at most 48, and the place after them; `None`
-/// exactly where there are fewer bits.
+/// exactly if there are fewer bits.
 #[inline(always)]
 pub fn read_fields(rows: &[FieldRow], bits: &BitSlice<'_>, from: u16) -> Option<(FieldValues, u16)>
     requires widths { AreWidths (map (λ row. row.1) rows.now) }
@@ -127,7 +127,7 @@ pub fn read_fields(rows: &[FieldRow], bits: &BitSlice<'_>, from: u16) -> Option<
     Some((values, place))
 }
 
-/// The values of a group where it is there.
+/// Reads the values of a group, if it is there.
 #[tactic(auto, unfolding(crate::specs::Reading::group_at))]
 #[inline(always)]
 fn read_group(group: &Group, bits: &BitSlice<'_>, from: u16) -> Option<(Option<FieldValues>, u16)>
@@ -182,7 +182,7 @@ fn read_octets(octets: Octets, bits: &BitSlice<'_>, from: u16) -> Option<(Bits, 
     read_part(8 * count, bits, from)
 }
 
-/// A number of so many bits, which is 0 where there are none.
+/// A number of so many bits, which is 0 if there are none.
 #[tactic(auto, unfolding(crate::specs::Reading::number_part))]
 fn read_number(width: u8, bits: &BitSlice<'_>, from: u16) -> Option<(u64, u16)>
     requires width { width ≤ 64 }
@@ -255,7 +255,7 @@ fn read_records(records: &Records, bits: &BitSlice<'_>, from: u16) -> Option<([N
     Some((columns, from + count * size_of(fields)))
 }
 
-/// How many records fit into so many bits.
+/// Returns how many records fit into so many bits.
 fn records_within(fields: &[FieldRow], count: u16) -> u16
     requires widths { AreWidths (map (λ row. row.1) fields.now) }
     requires few { length fields.now ≤ 3 }
@@ -265,7 +265,7 @@ fn records_within(fields: &[FieldRow], count: u16) -> u16
     if size == 0 { 0 } else { count / size }
 }
 
-/// How many bits fields have.
+/// Returns how many bits fields have.
 pub(crate) fn size_of(fields: &[FieldRow]) -> u16
     requires widths { AreWidths (map (λ row. row.1) fields.now) }
     requires few { length fields.now ≤ 3 }

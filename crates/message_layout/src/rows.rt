@@ -19,7 +19,7 @@ macro_rules! values_of_fields {
     };
 }
 
-/// The struct whose fields have these values, and others that are given beside them.
+/// Makes the struct whose fields have these values, with further fields given next to them.
 #[macro_export]
 macro_rules! fields_of_values {
     ([$type:ident, $values:expr, $($other:ident),*]

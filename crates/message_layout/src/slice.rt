@@ -42,7 +42,7 @@ impl<'a> BitSlice<'a> {
         BitSlice::of(bits, 0, bits.len())
     }
 
-    /// How many bits there are.
+    /// Returns how many bits there are.
     pub fn len(&self) -> u16
         ensures value { result ≡ length self.now }
         ensures most { result ≤ 1184 }

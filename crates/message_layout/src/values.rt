@@ -47,7 +47,7 @@ impl FieldValues {
         all
     }
 
-    /// How many values there are.
+    /// Returns how many values there are.
     pub fn len(&self) -> u8
         ensures value { result ≡ length self.now }
         ensures most { result ≤ 48 }
@@ -62,7 +62,7 @@ impl FieldValues {
         &self.places[..self.count as usize]
     }
 
-    /// Value `i`, counted from 0; 0 where there are fewer.
+    /// Value `i`, counted from 0; 0 if there are fewer.
     pub fn get(&self, i: u8) -> u64
         ensures { result ≡ get_or self.now i 0 }
     {
@@ -88,7 +88,7 @@ impl FieldValues {
         true
     }
 
-    /// Adds a value at the end, where there is room.
+    /// Adds a value at the end, if there is room.
     pub(crate) fn append(&mut self, value: u64)
         requires { length self.old < 48 }
         ensures { self.new ≡ self.old ++ value ∷ [] }

@@ -13,8 +13,8 @@ use crate::layout::{FieldRow, Group, Layout, Octets, Presence, width_in};
 use crate::values::FieldValues;
 use chip_core::{Bits, Numbers};
 
-/// Adds the bits that contents of a layout are sent as to the end of a body, where it is known to
-/// have room.
+/// Adds the bits that contents of a layout are sent as to the end of a body, if it is known to have
+/// room.
 pub fn append(layout: &Layout, contents: &Contents, body: &mut Bits)
     requires lawful { is_lawful (shape layout.now) ≡ true }
     requires contents { IsOf (shape layout.now) contents.now }
@@ -43,7 +43,7 @@ fn append_values(body: &mut Bits, rows: &[FieldRow], values: &FieldValues)
     }
 }
 
-/// Adds a group at the end, and the bit before it where there is one.
+/// Adds a group at the end, and the bit before it if there is one.
 fn append_group(body: &mut Bits, group: &Group, values: &Option<FieldValues>)
     requires widths { AreWidths (map (λ row. row.1) group.now.fields.now) }
     requires few { length group.now.fields.now ≤ 48 }

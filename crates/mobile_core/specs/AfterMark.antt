@@ -1,4 +1,4 @@
--- What the receivers stand for that a mark opens.
+-- The states of the receivers that a mark opens.
 use Rattle.mobile_core.specs.Common.{Traffic, Sample, pages_left, Tuning, Event, Mark, SpelledPage}
 use Rattle.std.specs.Prelude.{◌≡◌, ◌⊎◌, ℕ, ◌-◌, ◌*◌, ◌<◌, ◌≤◌, Bool, true, false, nat_lt, List, map}
 use Rattle.std.specs.Prelude.{length, Option, Some, None, []}

@@ -1,4 +1,4 @@
--- What the channels stand for that a handset follows from the mark on.
+-- The states of the channels that a handset follows from the mark on.
 use Rattle.mobile_core.specs.Common.{Traffic, Sample, IsDueAt, Tuning, Event, Mark}
 use Rattle.std.specs.Prelude.{◌≡◌, ◌⊎◌, ℕ, ◌+◌, ◌<◌, ◌≤◌, List, [], ◌++◌, take, pos, slice_get}
 use Rattle.std.specs.Prelude.{Option, Some}

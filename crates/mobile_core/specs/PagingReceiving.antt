@@ -1,4 +1,4 @@
--- What the receiver of a paging channel stands for.
+-- The state of the receiver of a paging channel.
 use Rattle.mobile_core.specs.Common.{Sample, paging_mask, Data, IsDueAt, clock_after_frame, Tuning}
 use Rattle.mobile_core.specs.Common.{pages_left, Scrambling, IsSoundChannel, Mark, SpelledPage}
 use Rattle.std.specs.Prelude.{◌≡◌, ℕ, ◌*◌, ◌+◌, ◌<◌, ◌≤◌, ◌^◌, if◌then◌else◌, List, ◌++◌, length}

@@ -1,4 +1,4 @@
--- What always holds of a handset.
+-- The invariant of a handset.
 use Rattle.std.specs.Prelude.{◌≡◌, ℕ, ◌<◌, ◌≤◌}
 use Rattle.rake_finger.specs.Held.{Held}
 use Rattle.mobile_core.specs.FollowedChannels.{IsSoundFollowed, WaitFrom}

@@ -1,4 +1,4 @@
--- What a handset stands for, and what a step does.
+-- The state of a handset, and the effect of a step.
 use Rattle.mobile_core.specs.Common.{Sample, IsDueAt, event_list, at_of, pilot_left, Tuning, Event}
 use Rattle.mobile_core.specs.Common.{sync_events_left}
 use Rattle.std.specs.Prelude.{◌≡◌, ◌⊎◌, ℕ, ◌+◌, ◌-◌, ◌^◌, ◌≤◌, List, ◌++◌, length, take, is_some}

@@ -1,4 +1,4 @@
--- What the receiver of the sync channel stands for.
+-- The state of the receiver of the sync channel.
 use Rattle.mobile_core.specs.Common.{Sample, Sync, event_list, sync_events_left, IsSoundChannel}
 use Rattle.mobile_core.specs.Common.{IsSoundMark, Tuning, sync_stream, Event}
 use Rattle.std.specs.Prelude.{◌≡◌, ◌≤◌, ℕ, ◌-◌, ◌*◌, ◌^◌, ◌||◌, List, ◌++◌, is_some, Option}

@@ -1,4 +1,4 @@
--- What the receiver of a traffic channel and the pilot sets beside it stand for.
+-- The states of the receiver of a traffic channel and of its pilot sets.
 use Rattle.mobile_core.specs.Common.{Sample, traffic_mask, frames_left_of, messages_left_of, Tuning}
 use Rattle.mobile_core.specs.Common.{sets_left_of, Event, Mark, Traffic, SpelledSignal, frame_come}
 use Rattle.mobile_core.specs.Common.{IsSoundReceiver, Scrambling}

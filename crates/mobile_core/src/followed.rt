@@ -10,13 +10,13 @@ use rake_finger::SampleRing;
 use short_code::Codes;
 use viterbi::Decoder;
 
-/// The channels that a handset follows from the mark on: a paging channel, and a traffic channel
-/// where one is assigned (TIA/EIA-95-B, 6.6.2.1.1 and 6.6.4.2).
+/// The channels that a handset follows from the mark on: a paging channel, and a traffic channel if
+/// one is assigned (TIA/EIA-95-B, 6.6.2.1.1 and 6.6.4.2).
 #[derive(Drop)]
 pub(crate) struct Followed {
     /// The number of the paging channel, 1 to 7.
     channel: u8,
-    /// The traffic channel that is assigned, where one is.
+    /// The traffic channel that is assigned, if one is.
     assigned: Option<Traffic>,
     /// The phase of the base station's codes.
     phase: Phase,
@@ -24,9 +24,9 @@ pub(crate) struct Followed {
     near: Near,
     /// How the checks of the traffic channel's messages are sent.
     check: CheckForm,
-    /// The paging channel's receiver, where a mark is set with a PRAT that stands for a rate.
+    /// The paging channel's receiver, if a mark is set and its PRAT is not reserved.
     paging: Option<PagingReceiver>,
-    /// The traffic channel with its pilot sets, where one is assigned and a mark is set.
+    /// The traffic channel with its pilot sets, if one is assigned and a mark is set.
     traffic: Option<SoftHandoff>,
 }
 
@@ -76,11 +76,10 @@ impl Followed {
         }
     }
 
-    /// Opens the receivers where a mark is set and none is open, when so many samples have been
-    /// taken.
+    /// Opens the receivers after `taken` samples, if a mark is set and none is open.
     ///
-    /// Where some samples after the mark have been taken already they stay closed; a message sets
-    /// a mark that lies after the samples in which it is known.
+    /// They stay closed if samples after the mark have been taken already; a message's mark lies
+    /// after the samples that complete it.
     pub(crate) fn follow(&mut self, mark: &Option<Mark>, taken: u64)
         requires sound { IsSoundFollowed self.old }
         requires mark { ForSome mark.now IsSoundMark }
@@ -105,7 +104,7 @@ impl Followed {
         self.traffic = Some(handoff);
     }
 
-    /// Whether no receiver is open, and a mark lies after so many samples.
+    /// Whether no receiver is open and the mark lies after `taken` samples.
     fn opens(&self, mark: &Mark, taken: u64) -> bool
         ensures { IsTrue result ↔ (taken < mark.now.sample)
             × ((self.now.paging ≡ None) × (self.now.traffic ≡ None)) }
@@ -113,7 +112,7 @@ impl Followed {
         taken < mark.sample && self.paging.is_none() && self.traffic.is_none()
     }
 
-    /// Lets the pilot sets of a traffic channel take what an event of the paging channel tells.
+    /// Updates the pilot sets of a traffic channel by an event of the paging channel.
     fn note(traffic: &mut Option<SoftHandoff>, event: &Option<Event>)
         requires { ForSome traffic.old IsSoundHandoff }
         ensures sound { ForSome traffic.new IsSoundHandoff }

@@ -1,4 +1,4 @@
-//! The handset: samples go in, and what it hears comes out as events.
+//! The handset: takes samples and returns events.
 #![tactic(auto)]
 
 mod followed;

@@ -19,17 +19,17 @@ use viterbi::Decoder;
 /// when the last of them has come.
 const RING_ROOM: u32 = 65536;
 
-/// How many samples a step took, and what it heard.
+/// How many samples a step took, and its event.
 #[derive(Clone, Copy, PartialEq, Eq, Debug)]
 pub struct Step {
     /// How many of the samples were taken.
     pub taken: usize,
-    /// The event that ends with the last sample taken; `None` where all samples were taken and no
+    /// The event that ends with the last sample taken; `None` if all samples were taken and no
     /// event is left.
     pub event: Option<Event>,
 }
 
-/// What a handset leaves to who hears the samples after those that it has taken.
+/// What a handset hands over to a receiver of the samples after those that it has taken.
 #[derive(Drop)]
 pub struct HeardRing {
     /// How many samples the file has.
@@ -40,22 +40,22 @@ pub struct HeardRing {
     pub codes: Codes,
 }
 
-/// A handset: it takes the samples of a file in pieces of any size, and gives the pilot that the
-/// search found, and what it hears, as events: the pilot before it takes a sample, and each other
-/// one when its last sample has been taken.
+/// A handset: it takes the samples of a file in pieces of any size and returns events: first the
+/// pilot that the search found, before it takes a sample, then each other event when its last
+/// sample has been taken.
 ///
 /// It decodes each frame of the sync channel together with the frame before it and the frame after
-/// it, where these lie in the file, and so knows a frame one frame later (TIA/EIA-95-B, 7.7.1).
-/// Where a message sets a mark it follows one paging channel from there on, in the same way
-/// (7.7.2), and a traffic channel where one is assigned, whose frames are known when they end
-/// (7.1.3.5), and with them the messages that they complete (7.7.3).
+/// it, where these lie in the file, and so knows a frame one frame later (TIA/EIA-95-B, 7.7.1). If
+/// a message sets a mark it follows one paging channel from there on, in the same way (7.7.2), and
+/// a traffic channel where one is assigned, whose frames are known when they end (7.1.3.5), and
+/// with them the messages that they complete (7.7.3).
 #[derive(Drop)]
 pub struct Mobile {
     /// How many samples the file has.
     count: u64,
     /// How the checks of 30 bits are sent.
     check: CheckForm,
-    /// The pilot that the search found, until its event has been given.
+    /// The pilot that the search found, until its event has been returned.
     pilot: Option<Best>,
     /// The last samples, which all receivers read.
     ring: SampleRing,
@@ -85,13 +85,13 @@ impl Mobile {
     ghost use Rattle.rake_finger.specs.Held.{HoldsLast};
     ghost use Rattle.heard_events.specs.declared.event.Event.{Event as TheEvent};
 
-    /// A handset that has taken no sample of a file, and given no event.
+    /// Makes a handset that has taken no sample of a file and returned no event.
     ///
-    /// `best` and `near` are what the search found in the file's first samples. A `Near` whose
-    /// first path is the best one, at delta 0, is of the shape that `pilot_search::near` gives.
+    /// `best` and `near` are the results of the search in the file's first samples. The first path
+    /// of `near` is the best one, at delta 0, as `pilot_search::near` returns it.
     ///
-    /// It allocates all that it needs, less than a megabyte, and that is all that can fail. Of the
-    /// samples that it takes it keeps the last 65,536.
+    /// Allocates everything it needs, less than a megabyte; only this can fail. The handset keeps
+    /// the last 65,536 samples.
     // Its frame holds the receivers once more, and is not to lie in its caller's.
     #[inline(never)]
     pub fn new(
@@ -126,7 +126,7 @@ impl Mobile {
         })
     }
 
-    /// Whether a message of the sync channel told the time, with a long-code state that isn't 0.
+    /// Whether a sync message with a nonzero long-code state has set the time.
     pub fn synced(&self) -> bool
         ensures given { (t : Tuning) (heard : List Sample) (given : List TheEvent) →
             StandsFor t self.now heard given → result ≡ list_any sets_mark given }
@@ -138,9 +138,9 @@ impl Mobile {
     }
 
     /// The mark that a message of the sync channel set, the first with a long-code state that isn't
-    /// 0; `None` exactly where none is set.
+    /// 0; `None` exactly if none is set.
     ///
-    /// After the step that gives this message's event the mark lies ahead: no sample after it has
+    /// After the step that returns this message's event the mark lies ahead: no sample after it has
     /// been taken.
     pub fn mark(&self) -> Option<Mark>
         ensures given { (t : Tuning) (heard : List Sample) (given : List TheEvent) →
@@ -160,8 +160,8 @@ impl Mobile {
         self.sync.mark()
     }
 
-    /// The samples that it has taken, for who hears those after them in its place: the last 65,536
-    /// of them, and the codes. It allocates nothing.
+    /// Hands over the last 65,536 samples and the codes, to a receiver that takes the samples after
+    /// them. Allocates nothing.
     pub fn into_ring(self) -> HeardRing
         ensures count { result.count ≤ 67108864 }
         ensures within { result.ring.taken ≤ result.count }
@@ -181,7 +181,7 @@ impl Mobile {
         HeardRing { count, ring, codes }
     }
 
-    /// Whether the pilot hasn't been told, or a frame is known that hasn't been heard.
+    /// Whether the pilot's event is not returned yet, or a complete frame is not decoded yet.
     fn is_due(&self) -> bool
         ensures { IsTrue result ↔ IsDueFor self.now }
     {
@@ -198,8 +198,8 @@ impl Mobile {
         Some(pilot_event(&best))
     }
 
-    /// Hears the frame of the sync channel that is due, and gives the event that it completes.
-    /// Where that sets a mark the other channels are followed from there on.
+    /// Decodes the due frame of the sync channel and returns the event that it completes. If that
+    /// sets a mark, the other channels are followed from there on.
     // Its frame holds several events, and is not to lie beneath that of another channel.
     #[inline(never)]
     fn hear_sync(&mut self) -> Option<Event>
@@ -221,7 +221,7 @@ impl Mobile {
         event
     }
 
-    /// Hears what is due of the channels after the mark, and gives the event that it completes.
+    /// Decodes what is due of the channels after the mark and returns the event that it completes.
     // Its frame holds several events, and is not to lie beneath that of another channel.
     #[inline(never)]
     fn hear_followed(&mut self) -> Option<Event>
@@ -243,8 +243,8 @@ impl Mobile {
         followed.hear_next(decoder, ring, codes, *check, *count)
     }
 
-    /// Tells the pilot, or hears what is due next, the sync channel first, and gives the event that
-    /// it completes.
+    /// Returns the pilot's event, or decodes what is due next, the sync channel first, and returns
+    /// the event that it completes.
     fn hear_next(&mut self) -> Option<Event>
         requires { IsDueFor self.old }
         ensures steps { Tells self.old self.new result }
@@ -273,7 +273,7 @@ impl Mobile {
         None
     }
 
-    /// How many samples have been taken when the next frame ends, of all receivers.
+    /// Returns how many samples have been taken when the next frame ends, of all receivers.
     fn least_end(&self) -> u64
         ensures sync { result ≤ self.now.sync.received.clock.end }
         ensures ends { (n : ℕ) → n ≤ result → EndFrom n self.now.followed }
@@ -310,11 +310,10 @@ impl Mobile {
     ///
     /// The first event is the pilot, for which no sample is taken, be there any or none.
     ///
-    /// The samples are those of the file that follow on those taken before, as many of them as
-    /// there are or fewer. Where the step gives an event, the samples taken are exactly those up to
-    /// its end, and the caller gives the others again; an event may end where the one before it
-    /// ends, and then no sample is taken. Where it gives none, all samples were taken, and every
-    /// event that ends within them has been given.
+    /// `samples` are the next ones of the file. If the step returns an event, it took exactly the
+    /// samples up to the event's end, and the caller passes the others again; an event may end
+    /// where the previous one ended, and then no sample is taken. If it returns none, all samples
+    /// were taken, and every event that ends within them has been returned.
     pub fn step(&mut self, samples: &[Sample]) -> Step
         requires { length samples.now ≤ has_room self.old }
         ensures { IsStep self.old self.new samples.now result }

@@ -22,9 +22,9 @@ pub(crate) struct PagingReceiver {
     rate: Rate,
     scrambling: Scrambling,
     framer: HalfFramer,
-    /// The bits of the frame that is heard next, where it is under way.
+    /// The bits of the frame that is being decoded, if any.
     frame: Bits,
-    /// How many of them the framer has taken, 0 where none is under way.
+    /// How many of them the framer has taken, 0 if none is under way.
     place: u16,
 }
 
@@ -41,8 +41,8 @@ impl PagingReceiver {
     ghost use Rattle.heard_events.specs.Tuning.{Tuning};
     ghost use Rattle.heard_events.specs.declared.mark.Mark.{Mark as TheMark};
 
-    /// A receiver of a channel, 1 to 7, that has heard no frame, for a base station at a phase and
-    /// near it; `None` exactly where the mark's PRAT stands for no rate.
+    /// Makes a receiver of paging channel 1 to 7, before its first frame, given the phase of the
+    /// base station and the paths near it; `None` exactly if the mark's PRAT is reserved.
     pub(crate) fn open(
         mark: &Mark,
         channel: u8,
@@ -76,7 +76,7 @@ impl PagingReceiver {
         })
     }
 
-    /// Hears the next bit of the frame that is due, and gives the message that it completes.
+    /// Takes the next bit of the due frame and returns the message that it completes.
     ///
     /// A frame stays due up to its last bit, since several messages may end in one.
     // Its frame holds several messages, and is not to lie beneath that of another channel.
@@ -105,7 +105,7 @@ impl PagingReceiver {
         page_in(check, capsule)
     }
 
-    /// The bits of the frame that is due: where it is under way they are there.
+    /// Returns the bits of the due frame, decoding it first unless that is done.
     fn due_bits(&self, decoder: &mut Decoder) -> Bits
         requires sound { IsSoundPaging self.now }
         requires come { self.now.received.clock.next < self.now.received.clock.have }

@@ -1,4 +1,4 @@
-//! What receives the channels after the mark.
+//! The trait of receivers of the channels after the mark.
 
 use chip_core::CheckForm;
 use heard_events::Event;
@@ -6,8 +6,8 @@ use rake_finger::SampleRing;
 use short_code::Codes;
 use viterbi::Decoder;
 
-/// What receives a channel after the mark, or several: it takes samples up to the end of what
-/// comes next, a frame or a moment, and then hears what has come, event by event.
+/// A receiver of one or more channels after the mark: it takes samples up to the end of the next
+/// frame or moment, and then decodes what has come, event by event.
 pub(crate) trait Receive {
     ghost use Rattle.std.specs.Prelude.{◌≡◌, ◌<◌, ◌≤◌, ◌↔◌, ◌++◌, ℕ, IsTrue, IfSome, List, []};
     ghost use Rattle.std.specs.Prelude.{Option, None, false};
@@ -22,54 +22,54 @@ pub(crate) trait Receive {
     ghost use Rattle.heard_events.specs.declared.mark.Mark.{Mark};
     ghost use Rattle.rake_finger.specs.Held.{HoldsLast};
 
-    /// What always holds.
+    /// The invariant.
     ghost sound: { Self → Type 0 };
 
-    /// Something has come that hasn't been heard, in a file of so many samples.
+    /// Something has come that is not decoded yet, in a file of this many samples.
     ghost due: { ℕ → Self → Type 0 };
 
-    /// What comes next ends later than so many samples.
+    /// What comes next ends after more than this many samples.
     ghost waits: { ℕ → Self → Type 0 };
 
-    /// What comes next ends at so many samples or later.
+    /// What comes next ends at this many samples or later.
     ghost ends: { ℕ → Self → Type 0 };
 
-    /// How much has been heard.
+    /// How much has been decoded.
     ghost heard: { Self → ℕ };
 
-    /// How much has come that hasn't been heard.
+    /// How much has come that is not decoded yet.
     ghost unheard: { Self → ℕ };
 
     /// How the checks of its messages are sent.
     ghost form: { Tuning → TheForm };
 
-    /// Nothing is heard after a mark that may be set, where a mark opens a receiver; that of a
-    /// traffic channel opens where one is assigned.
+    /// Nothing is received after a mark, unless the mark opens a receiver; that of a traffic
+    /// channel opens if one is assigned.
     ghost silent: { Option Traffic → Option Mark → Type 0 } = { λ _ mark. mark ≡ None };
 
     /// It has taken these samples, in which the sync channel's messages set this mark, or none, and
-    /// the events of the paging channel haven't been heard that it takes as told. Where it receives
-    /// a traffic channel, that is the one that is assigned.
+    /// the events of the paging channel haven't been heard that it takes as told. If it receives a
+    /// traffic channel, that is the one that is assigned.
     ghost stands: { Tuning → Option Traffic → Option Mark → Self → List Sample →
         List TheEvent → Type 0 };
 
-    /// The events of these samples' end that it has still to give.
+    /// The events at the end of these samples that are not returned yet.
     ghost left: { Tuning → Option Traffic → Option Mark → List Sample → Self → List TheEvent };
 
-    /// The least of a number of samples and that at which what comes next ends.
+    /// The smallest of a number of samples and that at which what comes next ends.
     fn end_before(&self, end: u64) -> u64
         requires { sound self.now }
         ensures most { result ≤ end }
         ensures ends { (n : ℕ) → n ≤ result → ends n self.now }
         ensures one { (n : ℕ) → n < end → waits n self.now → n < result };
 
-    /// Whether something has come that hasn't been heard, in a file of so many samples.
+    /// Whether something has come that is not decoded yet, in a file of this many samples.
     fn is_due(&self, count: u64) -> bool
         requires { sound self.now }
         ensures { IsTrue result ↔ due count self.now };
 
-    /// Takes the soft values of a frame whose last sample has come, where one has, and lets the
-    /// moment come that lies there.
+    /// Takes the soft values of a frame whose last sample has come, if any, and notes the moment
+    /// that lies there.
     fn take_ended(&mut self, ring: &SampleRing, codes: &Codes)
         requires sound { sound self.old }
         requires idle { (count : ℕ) × ¬ due count self.old }
@@ -85,7 +85,7 @@ pub(crate) trait Receive {
             stands t assigned mark self.new samples pages
             × (left t assigned mark samples self.new ≡ left t assigned mark samples self.old) };
 
-    /// Hears what is due next in a file of so many samples, and gives the event that this
+    /// Decodes what is due next in a file of this many samples, and returns the event that this
     /// completes.
     fn hear_next(
         &mut self,

@@ -10,7 +10,8 @@ use heard_events::Mark;
 use long_code::{paging_mask, traffic_mask};
 use reception::Scrambling;
 
-/// That of a paging channel, 1 to 7, whose frame 0 begins at the mark (TIA/EIA-95-B, 7.1.3.1.6).
+/// The scrambling of paging channel 1 to 7, whose frame 0 begins at the mark (TIA/EIA-95-B,
+/// 7.1.3.1.6).
 pub fn paging_scrambling(channel: u8, mark: &Mark) -> Scrambling
     requires first { 1 ≤ channel }
     requires last { channel ≤ 7 }
@@ -25,8 +26,8 @@ pub fn paging_scrambling(channel: u8, mark: &Mark) -> Scrambling
     }
 }
 
-/// That of a traffic channel, whose frame 0 begins at its offset after the mark (TIA/EIA-95-B,
-/// 7.1.3.1.6).
+/// The scrambling of a traffic channel, whose frame 0 begins at its offset after the mark
+/// (TIA/EIA-95-B, 7.1.3.1.6).
 pub fn traffic_scrambling(traffic: &Traffic, mark: &Mark) -> Scrambling
     requires mark { IsSoundMark mark.now }
     ensures state { result.state ≡ frame_state traffic.now mark.now 0 }

@@ -1,4 +1,4 @@
-//! A traffic channel that is followed, and the pilot sets beside it.
+//! A followed traffic channel and its pilot sets.
 
 use crate::receive::Receive;
 use crate::traffic_receiver::TrafficReceiver;
@@ -10,10 +10,11 @@ use short_code::Codes;
 use viterbi::Decoder;
 
 /// A traffic channel that is followed from the mark on, in soft handoff: the receiver of its
-/// frames, and the pilot sets beside it, which tell from which pilots these are heard.
+/// frames, and the pilot sets, which determine from which pilots they are received.
 ///
-/// TIA/EIA-95-B, 6.6.6.2: a frame is heard from the pilots that are active after the last moment
-/// at or before its first sample. What is heard changes the sets, and they move at each moment.
+/// TIA/EIA-95-B, 6.6.6.2: a frame is received from the pilots that are active after the last moment
+/// at or before its first sample. Received messages change the sets, and pilots move between them
+/// at each moment.
 #[derive(Drop)]
 pub(crate) struct SoftHandoff {
     /// The receiver of the channel's frames.
@@ -42,7 +43,8 @@ impl SoftHandoff {
     ghost use Rattle.mobile_core.specs.TrafficReceiving.{traffic_heard, tuned_to};
     ghost use Rattle.rake_finger.specs.Held.{HoldsLast};
 
-    /// A channel of which no frame has been heard, for a base station at a phase and near it.
+    /// Opens a channel before its first frame, given the phase of the base station and the paths
+    /// near it.
     pub(crate) fn open(mark: &Mark, traffic: &Traffic, phase: Phase, near: &Near) -> SoftHandoff
         requires mark { IsSoundMark mark.now }
         requires row { traffic.now.row < 64 }
@@ -63,8 +65,8 @@ impl SoftHandoff {
         SoftHandoff { receiver, sets }
     }
 
-    /// Takes the soft values of the frame whose last sample has come, where one has, and goes on to
-    /// the frame after it.
+    /// Takes the soft values of the frame whose last sample has come, if any, and proceeds to the
+    /// next frame.
     fn take_frame(&mut self, ring: &SampleRing, codes: &Codes)
         requires sound { IsSoundHandoff self.old }
         requires idle { self.old.receiver.frames.clock.have ≡ self.old.receiver.frames.clock.next }
@@ -87,8 +89,8 @@ impl SoftHandoff {
         self.tune();
     }
 
-    /// Takes the active pilots for the frame that comes next, where the last moment that has passed
-    /// is the one that tells them.
+    /// Takes the active pilots for the next frame, if the last moment that has passed determines
+    /// them.
     fn tune(&mut self)
         requires sound { IsSoundHandoff self.old }
         ensures same { self.new ≡ beside self.old.sets
@@ -114,7 +116,7 @@ impl SoftHandoff {
         self.receiver.tune(legs);
     }
 
-    /// Lets the moment that has come pass, and gives its event, where it has one.
+    /// Performs the moment that has come and returns its event, if any.
     // Its frame holds pilot sets, and is not to lie beneath that of who hears a frame.
     #[inline(never)]
     fn pass_moment(&mut self, ring: &SampleRing, codes: &Codes) -> Option<Event>

@@ -25,7 +25,7 @@ use viterbi::Decoder;
 pub(crate) struct SyncReceiver {
     received: Continued,
     framer: CapsuleFramer,
-    /// How many frames the message under way has, 0 where there is none.
+    /// How many frames the message under way has, 0 if there is none.
     message_frames: u64,
     mark: Option<Mark>,
 }
@@ -41,7 +41,8 @@ impl SyncReceiver {
     ghost use Rattle.heard_events.specs.Tuning.{Tuning};
     ghost use Rattle.rake_finger.specs.Held.{HoldsLast};
 
-    /// A receiver that has taken no sample, for a base station at a phase and near it.
+    /// Makes a receiver that has taken no sample, given the phase of the base station and the paths
+    /// near it.
     pub(crate) fn new(phase: Phase, near: &Near) -> SyncReceiver
         requires least { 1 ≤ near.now.count }
         requires most { near.now.count ≤ 3 }
@@ -63,7 +64,7 @@ impl SyncReceiver {
         }
     }
 
-    /// How many samples have been taken when the frame ends that comes next.
+    /// Returns how many samples have been taken when the frame ends that comes next.
     pub(crate) fn end(&self) -> u64
         ensures { result ≡ self.now.received.clock.end }
     {
@@ -77,7 +78,7 @@ impl SyncReceiver {
         self.mark
     }
 
-    /// Whether a frame is known that hasn't been heard, in a file of so many samples.
+    /// Whether a complete frame is not decoded yet, in a file of this many samples.
     pub(crate) fn is_due(&self, count: u64) -> bool
         requires { IsSoundSync self.now }
         ensures { IsTrue result ↔ IsDueAt count self.now.received.clock }
@@ -85,7 +86,7 @@ impl SyncReceiver {
         self.received.clock.is_due(count)
     }
 
-    /// Takes the soft values of the frame whose last sample has come, where one has.
+    /// Takes the soft values of the frame whose last sample has come, if one has.
     pub(crate) fn take_ended(&mut self, ring: &SampleRing, codes: &Codes)
         requires sound { IsSoundSync self.old }
         requires near { self.old.received.clock.have ≤ self.old.received.clock.next + 1 }
@@ -105,7 +106,7 @@ impl SyncReceiver {
         }
     }
 
-    /// Hears the frame that is due, and gives the event that it completes at so many samples.
+    /// Decodes the due frame and returns the event that it completes after `at` samples.
     pub(crate) fn hear_next(
         &mut self,
         decoder: &mut Decoder,
@@ -143,7 +144,7 @@ impl SyncReceiver {
     }
 }
 
-/// How many frames the message under way has with one frame more.
+/// Returns how many frames the message under way has with one frame more.
 fn with_frame(begins: bool, message_frames: u64) -> u64
     requires { message_frames < 2 ^ 63 }
     ensures { result ≡ frames_with begins message_frames }
@@ -157,7 +158,7 @@ fn with_frame(begins: bool, message_frames: u64) -> u64
     }
 }
 
-/// The event of what is told, where something is, when so many samples have been taken.
+/// Returns the event of a sync message, if there is one, that is complete after `at` samples.
 fn event_in(told: &Option<Spelled<SyncMessage>>, at: u64) -> Option<Event>
     ensures value { event_list result ≡ events_of at told.now }
     ensures ends { IfSome result (λ event. at_of event ≡ at) }
@@ -166,7 +167,8 @@ fn event_in(told: &Option<Spelled<SyncMessage>>, at: u64) -> Option<Event>
     Some(event_of(told, at))
 }
 
-/// The mark that a message sets, where one is told, whose first frame begins at a reference sample.
+/// Returns the mark of a message, if there is one, whose first frame begins at reference sample
+/// `first`.
 fn mark_of(first: u64, told: &Option<Spelled<SyncMessage>>) -> Option<Mark>
     requires { first ≤ 2 ^ 28 }
     ensures value { result ≡ first_of (marks_of first told.now) }
@@ -190,7 +192,7 @@ fn mark_of(first: u64, told: &Option<Spelled<SyncMessage>>) -> Option<Mark>
     })
 }
 
-/// The mark that is set, or else that of what is told.
+/// Returns the mark that is set, otherwise that of the message.
 fn mark_with(mark: Option<Mark>, first: u64, told: &Option<Spelled<SyncMessage>>) -> Option<Mark>
     requires first { first ≤ 2 ^ 28 }
     requires sound { ForSome mark IsSoundMark }

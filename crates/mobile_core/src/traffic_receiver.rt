@@ -14,29 +14,27 @@ use symbol_path::power_places;
 use traffic_message::{SignalFramer, TrafficMessage};
 use viterbi::Decoder;
 
-/// The receiver of a traffic channel's frames, from the mark on, each from the pilots that it is
-/// told.
+/// The receiver of a traffic channel's frames from the mark on, each from given pilots.
 ///
-/// TIA/EIA-95-B, 7.1.3.5: each frame is encoded by itself, and so is heard at its own end. A
-/// message is heard after the frame that completes it (7.7.3).
+/// TIA/EIA-95-B, 7.1.3.5: each frame is encoded by itself, so it is decoded at its own end. A
+/// message is complete after the frame that ends it (7.7.3).
 #[derive(Drop)]
 pub(crate) struct TrafficReceiver {
-    /// Its frames: where they lie, and the fingers of the one that comes next. The frame that is
-    /// heard next is that one, or where that has come the one before it.
+    /// Its frames: where they lie, and the fingers of the next one to come. The frame to be decoded
+    /// next is that one, or the one before it if that has come.
     pub(crate) frames: FrameReceiver,
-    /// The pilots that the frame is heard from which comes next, once they have been told.
+    /// The pilots from which the next frame is received, once they are known.
     legs: Legs,
     /// The phase of the reference base station's codes.
     phase: Phase,
     /// The paths near it.
     near: Near,
-    /// The soft values of the frame that is heard next, where it has come, as the fingers hear
-    /// them: no scrambling has turned them.
+    /// The soft values of the frame that is decoded next, if it has come, without descrambling.
     softs: FrameSofts,
     /// Those of its power control bits, by subchannels.
     power: PowerSofts,
     framer: SignalFramer,
-    /// The message that the frame heard last completes, as long as it hasn't been given.
+    /// The message that the last decoded frame completes, until it is returned.
     kept: Option<Spelled<TrafficMessage>>,
 }
 
@@ -64,8 +62,8 @@ impl TrafficReceiver {
     ghost use Rattle.quality_bits.specs.TrafficCodewords.{information_of};
     ghost use Rattle.rake_finger.specs.Held.{HoldsLast};
 
-    /// A receiver that has heard no frame, for a base station at a phase and near it, whose first
-    /// frame is heard from the pilots that are active at the mark.
+    /// Makes a receiver before its first frame, given the phase of the base station and the paths
+    /// near it. Its first frame is received from the pilots that are active at the mark.
     pub(crate) fn open(
         mark: &Mark,
         traffic: &Traffic,
@@ -106,7 +104,7 @@ impl TrafficReceiver {
         }
     }
 
-    /// Whether a message is kept, or a frame has come that hasn't been heard.
+    /// Whether a message is kept, or a frame has come that is not decoded yet.
     pub(crate) fn has_told(&self) -> bool
         ensures { IsTrue result ↔ HasToTell self.now }
     {
@@ -114,7 +112,7 @@ impl TrafficReceiver {
     }
 
     /// Takes the soft values of the frame whose last sample has just come, and those of its power
-    /// control bits, and goes on to the frame after it.
+    /// control bits, and proceeds to the next frame.
     pub(crate) fn take_softs(&mut self, ring: &SampleRing, codes: &Codes)
         requires sound { IsSoundTraffic self.old }
         requires idle { self.old.frames.clock.have ≡ self.old.frames.clock.next }
@@ -146,8 +144,8 @@ impl TrafficReceiver {
         frames.advance();
     }
 
-    /// Hears the message that is kept, or else the frame that is due, keeps the message that it
-    /// completes, and gives the event at so many samples.
+    /// Returns the event of the kept message; otherwise decodes the due frame, keeps the message
+    /// that it completes, and returns the frame's event, at `at` samples.
     pub(crate) fn hear_told(&mut self, decoder: &mut Decoder, check: CheckForm, at: u64) -> Event
         requires sound { IsSoundTraffic self.old }
         requires due { HasToTell self.old }
@@ -191,7 +189,7 @@ impl TrafficReceiver {
         self.legs = legs;
     }
 
-    /// What the frame that is due says, and its power control bits.
+    /// Decodes the due frame and its power control bits.
     // Its frame holds soft values, and is not to lie beneath that of a message.
     #[inline(never)]
     fn next_frame(&self, decoder: &mut Decoder) -> (Decoded, PowerBits)

@@ -1,4 +1,5 @@
--- What is written of a sample file that breaks off, whose reading fails, or that goes on too long.
+-- The text for a sample file that breaks off, whose reading fails, or that continues after its
+-- samples.
 use Rattle.owed_replies.specs.Common.{Sample, Header, Width, HasBits, IsLawfulHeader, opening}
 use Rattle.owed_replies.specs.Common.{header_spelling, sample_len, sample_spelling, width_of}
 use Rattle.owed_replies.specs.Common.{KeptTap, Reception, Status}

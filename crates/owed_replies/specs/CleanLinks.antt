@@ -1,4 +1,4 @@
--- What is written of a clean link, channel by channel and frame by frame.
+-- The text for a clean link, channel by channel and frame by frame.
 use Rattle.owed_replies.specs.Common.{made_samples, CellPlan, events, Event, Traffic, KeptTap}
 use Rattle.owed_replies.specs.Common.{run_text, tuning_to, HearsEach}
 use Rattle.std.specs.Prelude.{◌≡◌, ℕ, List, ◌++◌, Option, Some}

@@ -1,4 +1,4 @@
--- What is read and written where a sample file is received.
+-- Reading and writing while a sample file is received.
 use Rattle.owed_replies.specs.Common.{Sample, ConsumesAtMost, Header, FileFault, IsLawfulHeader}
 use Rattle.owed_replies.specs.Common.{IsSampleFile, HasBits, Reading, header_spelling, next_place}
 use Rattle.owed_replies.specs.Common.{opening, sample_len, sample_spelling, width_of, Width, Status}

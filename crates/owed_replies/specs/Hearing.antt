@@ -1,4 +1,4 @@
--- What is written of a sample file, and what a handset tells on the way.
+-- The text for a sample file, and the events of a handset on the way.
 use Rattle.owed_replies.specs.Common.{sample_spelling, near_deltas, sent_events, best_phase, Sample}
 use Rattle.owed_replies.specs.Common.{tuned_text, sync_sent, TunedText, Reception, CellPlan, Header}
 use Rattle.owed_replies.specs.Common.{Settings, run_text, HasBits, Channel, Traffic, KeptTap, Width}

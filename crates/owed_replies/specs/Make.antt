@@ -1,4 +1,4 @@
--- What the command `make` reads and writes.
+-- The input and output of the command `make`.
 use Rattle.owed_replies.specs.Common.{Width, header_spelling, sample_spelling, CellPlan, plan_named}
 use Rattle.owed_replies.specs.Common.{made_samples, header_of}
 use Rattle.std.specs.Prelude.{◌≡◌, ℕ, ◌++◌, ◌⊎◌, List, [], take, drop, Option, IfSome, Ok}

@@ -1,4 +1,4 @@
--- What the command `survey` writes: the first ranks of the pilots, a line each.
+-- The output of the command `survey`: the first ranks of the pilots, a line each.
 use Rattle.owed_replies.specs.Common.{Sample}
 use Rattle.std.specs.Prelude.{ℕ, List, ◌++◌, take, codes, decimal}
 use Rattle.std.specs.Fmt.{signed_decimal}

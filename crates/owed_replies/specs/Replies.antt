@@ -1,5 +1,5 @@
--- What a run owes: for each command and the bytes of its input, the text that is written of it and
--- how the run ends, or the fault that it has.
+-- The required output of a run: for each command and the bytes of its input, the text and how the
+-- run ends, or the fault of the input.
 use Rattle.owed_replies.specs.Common.{Sample, FileFault, Header, Width, ConsumesAtMost, CellPlan}
 use Rattle.owed_replies.specs.Common.{IsSampleFile, ScriptFault, plan_named, KeptTap, kept_by, Job}
 use Rattle.owed_replies.specs.Common.{Purpose, Reception, Status, Task, Make, Receive, Trial}

@@ -1,5 +1,5 @@
--- What a run promises of the command that its arguments name; and the process, which has a tap of
--- each form, passes on what was written, and tells how the run ended.
+-- The contract of a run of the command that its arguments name; and of the process, which has a tap
+-- of each form, flushes the output, and reports how the run ended.
 use Rattle.owed_replies.specs.Common.{Traffic, Sample, Width, AppendsPrefix, ConsumesAtMost, Rose}
 use Rattle.owed_replies.specs.Common.{next_count, IsSampleFile, FileFault, Header, CellPlan, Job}
 use Rattle.owed_replies.specs.Common.{FollowsSent, kept_by, run_text, Status}

@@ -1,4 +1,4 @@
--- What a run does for each job: the table of the commands.
+-- The task of a run for each job: the table of the commands.
 use Rattle.owed_replies.specs.Common.{Channel, TunedText, Job, Traffic, IsLawfulTuned, Purpose}
 use Rattle.owed_replies.specs.Common.{Reception, Task, Make, Receive, Trial}
 use Rattle.std.specs.Prelude.{ℕ, ◌≤◌, Option, None, Some}

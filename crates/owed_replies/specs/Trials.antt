@@ -1,4 +1,4 @@
--- What the command `trial` writes: how much of a link that a number tells a handset hears.
+-- The output of the command `trial`: how much a handset receives of the link of a number.
 use Rattle.owed_replies.specs.Common.{Sample, best_phase, made_samples, header_of, events, Tuning}
 use Rattle.owed_replies.specs.Common.{Event, Frame, Settings, is_frame, is_page, is_sync}
 use Rattle.std.specs.Prelude.{◌^◌, ℕ, ◌+◌, ◌≤◌, Bool, false, if◌then◌else◌, List, ◌++◌, length}

@@ -1,4 +1,4 @@
--- The handset that hears a file is tuned by it, and lies on the path of the cell that it holds.
+-- A handset is tuned by its file, and is on the path of the cell in it.
 use Rattle.owed_replies.specs.Common.{Traffic, Sample, Width, Header, near_deltas, best_phase}
 use Rattle.owed_replies.specs.Common.{CellPlan, IsOnPath}
 use Rattle.std.specs.Prelude.{◌≡◌, ℕ, List, length, take, Option}

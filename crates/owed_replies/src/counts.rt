@@ -1,11 +1,11 @@
-//! How many events a trial's handset told.
+//! How many events a trial's handset reported.
 
 ghost use Rattle.std.specs.Prelude.{◌≡◌, ◌^◌, []};
 ghost use Rattle.owed_replies.specs.Trials.{LeavesRoom, counts_of, counts_with};
 
 use heard_events::Event;
 
-/// How many events of each kind a handset told.
+/// How many events of each kind a handset reported.
 #[derive(Clone, Copy)]
 pub struct Counts {
     /// Messages of the sync channel.

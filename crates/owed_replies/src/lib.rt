@@ -1,5 +1,5 @@
-//! What the program owes for a command and its input: what each command does ([`Task`]), what is
-//! written of a sample file or a script, and how a run ends ([`Status`]).
+//! The required output for a command and its input: what each command does ([`Task`]), the text for
+//! a sample file or the file for a script, and how a run ends ([`Status`]).
 //!
 //! The definitions say it without any code: the texts of a file (`Hearing`), of ranks (`Ranks`) and
 //! of a trial (`Trials`), the file of a script (`Make`), the replies command by command

@@ -9,6 +9,6 @@ pub struct Reception {
     pub span: u16,
     /// How many workers search or measure, 1 to 64. What is found doesn't depend on it.
     pub workers: u8,
-    /// What is wanted of it.
+    /// Its purpose.
     pub purpose: Purpose,
 }

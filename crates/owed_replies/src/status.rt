@@ -13,9 +13,8 @@ use std::{fmt, str};
 
 /// How a run ended.
 ///
-/// A file that can't be read because a read failed is [`Status::ReadFault`]; [`Status::BadFile`]
-/// speaks of its bytes alone. A script for which there is no memory is [`Status::NoMemory`];
-/// [`Status::BadScript`] speaks of its bytes alone too.
+/// A failed read is [`Status::ReadFault`]; [`Status::BadFile`] concerns only the file's bytes. Out
+/// of memory for a script is [`Status::NoMemory`]; [`Status::BadScript`] concerns only its bytes.
 ///
 /// Its text is the line that the program writes on standard error, without the line feed:
 /// `no sync message`, `bad words`, `bad file: KIND at PLACE` with the fault's place in decimal,
@@ -66,7 +65,7 @@ impl Status {
         }
     }
 
-    /// The line that tells it on the stream of errors: none where the run is done.
+    /// Returns its line for standard error; empty if the run is done.
     pub fn line(&self) -> Text
         ensures { result ≡ end_line self.now }
     {
@@ -80,7 +79,7 @@ impl Status {
         }
     }
 
-    /// The exit status of the process: 0 where the run is done.
+    /// The exit status of the process: 0 if the run is done.
     pub fn code(&self) -> u8
         ensures { result ≡ code_of self.now }
     {

@@ -1,4 +1,4 @@
-//! What a run does for a job.
+//! The task of a run for a job.
 
 ghost use Rattle.std.specs.Prelude.{◌≡◌};
 ghost use Rattle.command_line.specs.Args.{IsLawfulJob};
@@ -11,15 +11,15 @@ use command_line::Job;
 use event_tap::TunedText;
 use heard_events::Channel;
 
-/// What a run does for a job.
+/// The task of a run for a job.
 #[derive(Clone, Copy)]
 pub enum Task {
     /// A sample file is received.
     Receive {
         /// How it is received.
         reception: Reception,
-        /// How many events taps are told in each form: pilots, messages, frames, and raw capsules;
-        /// `None` where they hear nothing.
+        /// How many lines the taps write in each form: pilots, messages, frames, and raw capsules;
+        /// `None` if there are no taps.
         limits: Option<EventLimits>,
     },
     /// The samples of a script's cell are made.
@@ -27,7 +27,7 @@ pub enum Task {
         /// How wide the parts of the samples are.
         width: Width,
     },
-    /// A link that a number tells is made and followed, and what was heard is counted.
+    /// Makes the link of a number, follows it, and counts what was received.
     Trial {
         /// The number.
         number: u64,
@@ -36,7 +36,7 @@ pub enum Task {
     },
 }
 
-/// What a run does that receives a sample file for a purpose for which taps hear nothing.
+/// Returns the task of receiving a sample file for a purpose without taps.
 fn untapped(reception: Reception) -> Task
     ensures { result ≡ untapped reception }
 {
@@ -61,7 +61,7 @@ fn hearing(span: u16, workers: u8, fingers: u8, channel: Channel, text: TunedTex
     }
 }
 
-/// What a run does for a job, command by command.
+/// Returns the task for a job, command by command.
 pub fn task_of(job: Job) -> Task
     requires { IsLawfulJob job }
     ensures value { result ≡ task_of job }

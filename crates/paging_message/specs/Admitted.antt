@@ -1,4 +1,4 @@
--- Which bodies are those of messages, by their type and length.
+-- The bodies of messages, by their type and length.
 use Rattle.paging_message.specs.Common.{has_length}
 use Rattle.std.specs.Prelude.{◌≡◌, ℕ, ◌-◌, ◌&&◌, Bool, List, nat_le}
 use Rattle.paging_message.specs.Layouts.{paging_shape_of}

@@ -1,5 +1,5 @@
--- Half-frames of the paging channel (TIA/EIA-95-B, 7.7.2.1): the SCI bit, 1 where a capsule begins
--- right after it, and 95 bits of body at 9600 bits per second, or 47 at 4800.
+-- Half-frames of the paging channel (TIA/EIA-95-B, 7.7.2.1): the SCI bit, which is 1 if a capsule
+-- begins right after it, and 95 bits of body at 9600 bits per second, or 47 at 4800.
 use Rattle.paging_message.specs.Common.{places, stated_bits, is_stated, still_open}
 use Rattle.std.specs.Prelude.{◌≡◌, ℕ, zero, suc, ◌+◌, ◌-◌, ◌*◌, ◌/◌, ◌%◌, ◌==◌, if◌then◌else◌, ◌&&◌}
 use Rattle.std.specs.Prelude.{Bool, List, [], ◌∷◌, length, map, take, drop, Option, Some, None}

@@ -1,4 +1,4 @@
--- The message types that have fields of their own: the table of what stands after each.
+-- The message types that have fields of their own: the table of their layouts.
 use Rattle.paging_message.specs.Common.{LineNames, MessageShape}
 use Rattle.std.specs.Prelude.{ℕ, ◌≡◌, ◌==◌, if◌then◌else◌, Bool, false, List, [], ◌∷◌, codes}
 use Rattle.std.specs.List.{list_any}

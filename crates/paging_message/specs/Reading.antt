@@ -1,5 +1,5 @@
 -- The message that a body or a capsule spells, as a function of its bits: each field is the number
--- that stands at its place.
+-- at its place.
 use Rattle.paging_message.specs.Common.{CheckForm, list_said, if_spelled}
 use Rattle.std.specs.Prelude.{ℕ, ◌-◌, ◌%◌, ◌==◌, ◌&&◌, if◌then◌else◌, Bool, List, length, take}
 use Rattle.std.specs.Prelude.{drop, nat_le, Option, Some, None}

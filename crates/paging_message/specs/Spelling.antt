@@ -1,4 +1,4 @@
--- Bodies of messages: the message type, and what a message says by the type's layout.
+-- Bodies of messages: the message type, and the content by the type's layout.
 use Rattle.paging_message.specs.Common.{binary, MessageShape, Contents, FillsCapsule, M30}
 use Rattle.std.specs.Prelude.{ℕ, ◌^◌, ◌<◌, ◌++◌, Bool, List}
 use Rattle.message_layout.specs.Spelling.{spelling, IsOf}

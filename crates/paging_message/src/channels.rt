@@ -14,7 +14,7 @@ use std::marker::Model;
 /// TIA/EIA-95-B, 7.7.2.3.2.4.
 pub const CHANNEL_FIELDS: [(&str, u8); 2] = [("pn", 9), ("seq", 6)];
 
-/// What stands after the type: the fields, and CDMA_FREQ of each channel.
+/// The layout after the type: the fields, and CDMA_FREQ of each channel.
 pub(crate) const CHANNEL_LIST: Layout = Layout {
     name: "channels",
     fixed: &CHANNEL_FIELDS,
@@ -27,7 +27,7 @@ pub(crate) const CHANNEL_LIST: Layout = Layout {
     ..ALL_BITS
 };
 
-/// What a CDMA Channel List Message says. It has as many frequencies as fit.
+/// The content of a CDMA Channel List Message. It has as many frequencies as fit.
 ///
 /// TIA/EIA-95-B, 7.7.2.3.2.4.
 #[derive(Clone, Copy, PartialEq, Eq, Debug)]
@@ -66,7 +66,7 @@ impl Model for ChannelList {
 }
 
 impl ChannelList {
-    /// What the message says.
+    /// Returns the content of the message.
     pub fn fields(&self) -> ChannelFields
         ensures value { result ≡ self.now }
         ensures spelled { IsChannelList result }
@@ -81,7 +81,7 @@ impl ChannelList {
         [u64::from(self.fields.pn), u64::from(self.fields.seq)]
     }
 
-    /// The message that says so.
+    /// Makes the message with these contents.
     pub(crate) fn of(contents: &Contents) -> ChannelList
         requires { IsChannelList (channels_from contents.now) }
         ensures { result ≡ channels_from contents.now }
@@ -96,7 +96,7 @@ impl ChannelList {
         }
     }
 
-    /// What the message says after its type, as its layout has it.
+    /// Returns the content after the type, in the form of its layout.
     pub(crate) fn contents(&self) -> Contents
         ensures value { result ≡ channel_contents self.now }
         ensures spelled { IsChannelList self.now }

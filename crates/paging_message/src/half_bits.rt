@@ -1,4 +1,4 @@
-//! A long list of bits that needs no memory of its own.
+//! A long list of bits that is not allocated.
 
 ghost use Rattle.std.specs.Prelude.{◌≡◌, ◌<◌, ◌≤◌, [], ◌∷◌, ◌++◌, length, slice_get, Some, IsOk};
 ghost use Rattle.std.specs.Prelude.{OnOk, OnErr, ◌↔◌, IsTrue};
@@ -26,7 +26,7 @@ impl Model for HalfBits {
 }
 
 impl HalfBits {
-    /// The list of no bits.
+    /// An empty list.
     pub fn empty() -> HalfBits
         ensures { result ≡ [] }
     {
@@ -36,7 +36,7 @@ impl HalfBits {
         }
     }
 
-    /// How many bits the list has.
+    /// Returns how many bits the list has.
     pub fn len(&self) -> u16
         ensures value { result ≡ length self.now }
         ensures most { result ≤ 11264 }
@@ -59,7 +59,7 @@ impl HalfBits {
         self.len() == 0
     }
 
-    /// Adds a bit at the end, where the list is known to have room.
+    /// Adds a bit at the end of a list that has room.
     pub fn append(&mut self, bit: bool)
         requires { length self.old < 11264 }
         ensures { self.new ≡ self.old ++ bit ∷ [] }
@@ -68,7 +68,8 @@ impl HalfBits {
         self.count += 1;
     }
 
-    /// Adds a bit at the end; `Full` exactly where the list has 11,264, and it is unchanged then.
+    /// Adds a bit at the end. Returns `Full` exactly if the list has 11,264 bits; it is unchanged
+    /// then.
     pub fn push(&mut self, bit: bool) -> Result<(), Full>
         ensures room { IsOk result ↔ (length self.old < 11264) }
         ensures ok { OnOk result (self.new ≡ self.old ++ bit ∷ []) }

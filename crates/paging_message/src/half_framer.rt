@@ -1,4 +1,4 @@
-//! Capsules out of half-frames.
+//! Cuts capsules out of half-frames.
 
 ghost use Rattle.std.specs.Prelude.{◌≡◌, ◌≤◌, Bool, List, [], ◌∷◌, ◌++◌, Some, cond, nat_le};
 ghost use Rattle.std.specs.Prelude.{if◌then◌else◌};
@@ -12,10 +12,10 @@ use std::marker::Model;
 /// Cuts capsules out of the half-frames of a paging channel, bit by bit.
 ///
 /// TIA/EIA-95-B, 7.7.2.1: a half-frame has an SCI bit and 95 bits of body at 9600 bits per second,
-/// or 47 at 4800. SCI 1 says that a capsule begins right after it, and drops one that isn't
-/// complete. After a capsule another one begins at once where at least 8 body bits of its
-/// half-frame are left. Contracts see the half-frame's width, the bits of it that were taken and
-/// the bits of the open capsule, and say for which bits the framer stands.
+/// or 47 at 4800. SCI 1 means that a capsule begins right after it; an incomplete capsule is then
+/// dropped. After a capsule, another one begins at once if at least 8 body bits of its half-frame
+/// are left. Contracts see the half-frame's width, the bits taken of it and the bits of the open
+/// capsule, and state which bits the framer has taken.
 #[derive(Clone, Copy, PartialEq, Eq, Debug)]
 pub struct HalfFramer {
     size: u16,
@@ -37,7 +37,7 @@ impl Model for HalfFramer {
 }
 
 impl HalfFramer {
-    /// A framer that took no bits, for half-frames of 9600 or 4800 bits per second.
+    /// Makes a framer that has taken no bits, for half-frames of 9600 or 4800 bits per second.
     pub fn new(rate: Rate) -> HalfFramer
         requires { IsPagingRate rate }
         ensures size { result.size ≡ half_frame_body rate }
@@ -50,9 +50,7 @@ impl HalfFramer {
         }
     }
 
-    /// Takes the next bit of the half-frames, and gives the capsule that ends with it: whatever
-    /// bits the framer stood for, it stands for those and this one after them, and the capsule is
-    /// the one that they end with.
+    /// Takes the next bit of the half-frames and returns the capsule that ends with it, if any.
     pub fn push(&mut self, bit: bool) -> Option<Bits>
         ensures size { self.new.size ≡ self.old.size }
         ensures stands { (bits : List Bool) → HalfFramesStandFor self.old bits →
@@ -74,7 +72,7 @@ impl HalfFramer {
     }
 }
 
-/// How many body bits a half-frame of this rate has.
+/// Returns how many body bits a half-frame of this rate has.
 pub(crate) fn body_bits(rate: Rate) -> u16
     requires { IsPagingRate rate }
     ensures value { result ≡ half_frame_body rate }
@@ -87,16 +85,16 @@ pub(crate) fn body_bits(rate: Rate) -> u16
     }
 }
 
-/// The capsule that the bits after an SCI bit go to: a new one where it is 1, else the one that is
-/// open.
+/// Returns the capsule to which the bits after an SCI bit belong: a new one if it is 1, otherwise
+/// the open one.
 fn from_mark(sci: bool, capsule: OpenCapsule) -> OpenCapsule
     ensures { result ≡ cond sci (Some []) capsule }
 {
     if sci { OpenCapsule::new() } else { capsule }
 }
 
-/// The capsule that is open after a body bit: a new one where a capsule ended and so many bits of
-/// the half-frame are left.
+/// Returns the capsule that is open after a body bit: a new one if a capsule ended and `left` bits
+/// of the half-frame suffice for another.
 fn later(ended: bool, left: u16, capsule: OpenCapsule) -> OpenCapsule
     ensures { result ≡ (if ended then (if nat_le 8 left then Some [] else capsule) else capsule) }
 {

@@ -19,8 +19,8 @@ pub fn spelling_has_one_message()
         m ≡ n }
 {}
 
-/// Reading a list by the places of the fields gives a message exactly where the list is the
-/// message's capsule, and likewise for its body.
+/// Reading a list by the places of the fields gives a message exactly if the list is the message's
+/// capsule, and likewise for its body.
 pub fn reading_turns_spelling_back()
     ensures capsule { (form : TheForm) (capsule : List Bool) (m : TheMessage) →
         (paging_reading form capsule ≡ Some m)
@@ -29,8 +29,8 @@ pub fn reading_turns_spelling_back()
         (body_reading body ≡ Some m) ↔ (IsPagingMessage m × (body ≡ message_body m)) }
 {}
 
-/// A body that fills a capsule is that of a message exactly where its type admits its length; no
-/// other body is.
+/// A body that fills a capsule is that of a message exactly if its type admits its length; no other
+/// body is.
 pub fn type_and_length_admit()
     ensures fills { (m : TheMessage) → IsPagingMessage m → FillsCapsule M30 (message_body m) }
     ensures admitted { (body : List Bool) →
@@ -38,8 +38,8 @@ pub fn type_and_length_admit()
         (admits (number (take 8 body)) (length body) ≡ true) ↔ HasMessage body }
 {}
 
-/// What is laid, padded with zeros to a whole half-frame, carries just the capsules that were put,
-/// in order, where each is a whole capsule and one follows another at once only where at least 8
+/// The bits that are laid, padded with zeros to a whole half-frame, carry exactly the capsules that
+/// were put, in order, provided that each is whole and follows another at once only if at least 8
 /// body bits of its half-frame are left.
 pub fn laid_capsules_are_carried()
     ensures padded { (layout : Place) (l : Laid) (bits : List Bool) →

@@ -1,4 +1,4 @@
-//! Capsules laid in half-frames.
+//! Lays capsules in half-frames.
 
 ghost use Rattle.std.specs.Prelude.{◌≡◌, ◌<◌, ◌≤◌, ◌+◌, ◌%◌, ◌==◌, if◌then◌else◌, Bool, List, []};
 ghost use Rattle.std.specs.Prelude.{length, IsTrue, ◌↔◌, cond};
@@ -14,8 +14,8 @@ use std::marker::Model;
 
 /// Lays capsules in the half-frames of a paging channel.
 ///
-/// TIA/EIA-95-B, 7.7.2.1. Contracts see the half-frame's width and how far the half-frame under way
-/// is laid, and say what the layout has laid.
+/// TIA/EIA-95-B, 7.7.2.1. Contracts see the half-frame's width and how much of the current
+/// half-frame is laid, and state which capsules the layout has laid.
 #[derive(Clone, Copy, PartialEq, Eq, Debug)]
 pub struct Layout {
     size: u16,
@@ -35,7 +35,7 @@ impl Model for Layout {
 }
 
 impl Layout {
-    /// A layout that laid nothing, for half-frames of 9600 or 4800 bits per second.
+    /// Makes an empty layout for half-frames of 9600 or 4800 bits per second.
     pub fn new(rate: Rate) -> Layout
         requires { IsPagingRate rate }
         ensures size { result.size ≡ half_frame_body rate }
@@ -57,12 +57,11 @@ impl Layout {
         self.left() >= 8
     }
 
-    /// Lays a capsule after what was laid, the bits of `out`, which then ends with the capsule's
-    /// last bit.
+    /// Lays a capsule after the bits of `out`, which then ends with the capsule's last bit.
     ///
-    /// Where it follows, it begins right after the capsule before; it is heard there only if
-    /// `fits` said so. Else zeros pad the half-frame under way, and it begins in the next one,
-    /// after an SCI bit of 1.
+    /// If `follow`, it begins right after the previous capsule; a receiver finds it there only if
+    /// `fits` returned true. Otherwise zeros pad the current half-frame, and it begins in the next
+    /// one after an SCI bit of 1.
     pub fn put(&mut self, follow: bool, capsule: &Bits, out: &mut HalfBits)
         requires some { 1 ≤ length capsule.now }
         requires room { length out.old + 3072 ≤ 11264 }
@@ -78,7 +77,7 @@ impl Layout {
         }
     }
 
-    /// Pads the half-frame under way with zeros, unless the next capsule follows at once.
+    /// Pads the current half-frame with zeros, unless the next capsule follows at once.
     fn make_way(&mut self, follow: bool, out: &mut HalfBits)
         requires room { length out.old + 190 ≤ 11264 }
         ensures lawful { IsPlace self.old }
@@ -92,7 +91,7 @@ impl Layout {
         }
     }
 
-    /// Lays one body bit; where a half-frame begins with it, after an SCI bit.
+    /// Lays one body bit, after an SCI bit if a half-frame begins with it.
     fn append(&mut self, sci: bool, bit: bool, out: &mut HalfBits)
         requires room { length out.old + 2 ≤ 11264 }
         ensures size { self.new.size ≡ self.old.size }
@@ -112,7 +111,7 @@ impl Layout {
         self.place = next_place(self.place, self.size);
     }
 
-    /// How many zeros go before the next capsule.
+    /// Returns how many zeros come before the next capsule.
     fn padding(&self, follow: bool) -> u16
         ensures value { result ≡ cond follow 0 (left_in self.now) }
         ensures lawful { IsPlace self.now }
@@ -121,7 +120,7 @@ impl Layout {
         if follow { 0 } else { left }
     }
 
-    /// How many body bits of the half-frame under way are left.
+    /// Returns how many body bits of the current half-frame are left.
     fn left(&self) -> u16
         ensures value { result ≡ left_in self.now }
         ensures lawful { IsPlace self.now }
@@ -134,7 +133,7 @@ impl Layout {
     }
 }
 
-/// How many bits of a half-frame are laid after one more body bit: none of the next one where it
+/// Returns how many bits of a half-frame are laid after another body bit: 0, in the next one, if it
 /// is full.
 fn next_place(place: u16, size: u16) -> u16
     requires { place < 65535 }

@@ -1,4 +1,4 @@
-//! The messages, to and from their bodies and capsules.
+//! Converts messages to and from their bodies and capsules.
 
 ghost use Rattle.paging_message.specs.Common.{line_names, shape, FillsCapsule, IsWhole, M30};
 ghost use Rattle.std.specs.Prelude.{◌≡◌, ◌↔◌, IfOk, IfSome, IsTrue, Some};
@@ -36,7 +36,7 @@ impl PagingMessage {
       PagingMessage as TheMessage,
     };
 
-    /// The message that a body spells; `None` exactly where no message has this body.
+    /// Returns the message that a body spells; `None` exactly if no message has this body.
     pub fn from_body(body: &Bits) -> Option<PagingMessage>
         ensures found { IfSome result (λ m. IsPagingMessage m × (body.now ≡ message_body m)) }
         ensures only { (m : TheMessage) → IsPagingMessage m → body.now ≡ message_body m →
@@ -52,11 +52,11 @@ impl PagingMessage {
         capsule_of(Kind::M30, form, &self.body())
     }
 
-    /// The message that a capsule spells, as `paging_reading` defines it.
+    /// Returns the message that a capsule spells, as `paging_reading` defines it.
     ///
-    /// `BadLength` exactly where the list isn't as long as its MSG_LENGTH says, or that is outside
-    /// 5 to 148 octets; else `BadCheck` exactly where the check differs; else `BadBody` exactly
-    /// where the body isn't that of a message.
+    /// Returns `BadLength` exactly if the list's length differs from its MSG_LENGTH, or if that is
+    /// outside 5 to 148 octets; otherwise `BadCheck` exactly if the check differs; otherwise
+    /// `BadBody` exactly if the body is not that of a message.
     pub fn decode(capsule: &Bits, form: CheckForm) -> Result<PagingMessage, MessageFault>
         ensures found { IfOk result
             (λ m. IsPagingMessage m × (capsule.now ≡ paging_capsule form m)) }
@@ -88,7 +88,7 @@ impl PagingMessage {
         Some(PagingMessage::of(kind, &contents))
     }
 
-    /// The message of this type that says so.
+    /// Makes the message of this type with these contents.
     fn of(kind: u8, contents: &Contents) -> PagingMessage
         requires { IsPagingMessage (message_from kind contents.now) }
         ensures { result ≡ message_from kind contents.now }
@@ -125,7 +125,7 @@ impl PagingMessage {
         }
     }
 
-    /// The layout of what it says after its type.
+    /// Returns the layout of its content after the type.
     pub fn layout(&self) -> Layout
         ensures shape { shape result ≡ paging_shape_of (paging_kind_of self.now) }
         ensures names { line_names result ≡ paging_names_of (paging_kind_of self.now) }
@@ -133,7 +133,7 @@ impl PagingMessage {
         layout_of(self.kind())
     }
 
-    /// What the message says after its type, as its layout has it.
+    /// Returns the content after the type, in the form of its layout.
     pub fn contents(&self) -> Contents
         ensures value { result ≡ contents_of self.now }
         ensures spelled { IsPagingMessage self.now }
@@ -147,7 +147,7 @@ impl PagingMessage {
     }
 }
 
-/// The layout of what stands after a message type.
+/// Returns the layout of the content after a message type.
 fn layout_of(kind: u8) -> Layout
     ensures shape { shape result ≡ paging_shape_of kind }
     ensures names { line_names result ≡ paging_names_of kind }

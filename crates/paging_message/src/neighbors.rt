@@ -14,7 +14,7 @@ use std::marker::Model;
 /// TIA/EIA-95-B, 7.7.2.3.2.3.
 pub const NEIGHBOR_FIELDS: [(&str, u8); 3] = [("pn", 9), ("seq", 6), ("inc", 4)];
 
-/// What stands after the type: the fields, and of each neighbor NGHBR_CONFIG and NGHBR_PN.
+/// The layout after the type: the fields, and NGHBR_CONFIG and NGHBR_PN of each neighbor.
 pub(crate) const NEIGHBOR_LIST: Layout = Layout {
     name: "neighbors",
     fixed: &NEIGHBOR_FIELDS,
@@ -27,7 +27,7 @@ pub(crate) const NEIGHBOR_LIST: Layout = Layout {
     ..ALL_BITS
 };
 
-/// What a Neighbor List Message says. It has as many neighbors as fit.
+/// The content of a Neighbor List Message. It has as many neighbors as fit.
 ///
 /// TIA/EIA-95-B, 7.7.2.3.2.3.
 #[derive(Clone, Copy, PartialEq, Eq, Debug)]
@@ -70,7 +70,7 @@ impl Model for NeighborList {
 }
 
 impl NeighborList {
-    /// What the message says.
+    /// Returns the content of the message.
     pub fn fields(&self) -> NeighborFields
         ensures value { result ≡ self.now }
         ensures spelled { IsNeighborList result }
@@ -90,7 +90,7 @@ impl NeighborList {
         ]
     }
 
-    /// The message that says so.
+    /// Makes the message with these contents.
     pub(crate) fn of(contents: &Contents) -> NeighborList
         requires { IsNeighborList (neighbors_from contents.now) }
         ensures { result ≡ neighbors_from contents.now }
@@ -107,7 +107,7 @@ impl NeighborList {
         }
     }
 
-    /// What the message says after its type, as its layout has it.
+    /// Returns the content after the type, in the form of its layout.
     pub(crate) fn contents(&self) -> Contents
         ensures value { result ≡ neighbor_contents self.now }
         ensures spelled { IsNeighborList self.now }

@@ -8,7 +8,7 @@ use chip_core::{Bits, Numbers};
 use message_layout::Contents;
 use std::marker::Model;
 
-/// What a message of another type says.
+/// The content of a message of another type.
 #[derive(Clone, Copy, PartialEq, Eq, Debug)]
 pub struct OtherFields {
     /// The message type, 8 bits: not 1, 3 or 4, which have fields of their own.
@@ -37,7 +37,7 @@ impl Model for OtherMessage {
 }
 
 impl OtherMessage {
-    /// What the message says.
+    /// Returns the content of the message.
     pub fn fields(&self) -> OtherFields
         ensures value { result ≡ self.now }
         ensures spelled { IsOther result }
@@ -45,7 +45,7 @@ impl OtherMessage {
         self.fields
     }
 
-    /// The message of this type that says so.
+    /// Makes the message of this type with these contents.
     pub(crate) fn of(kind: u8, contents: &Contents) -> OtherMessage
         requires { IsOther (other_from kind contents.now) }
         ensures { result ≡ other_from kind contents.now }
@@ -58,7 +58,7 @@ impl OtherMessage {
         }
     }
 
-    /// What the message says after its type, as its layout has it.
+    /// Returns the content after the type, in the form of its layout.
     pub(crate) fn contents(&self) -> Contents
         ensures value { result ≡ other_contents self.now }
         ensures spelled { IsOther self.now }

@@ -12,8 +12,8 @@ use message_layout::{
 };
 use std::marker::Model;
 
-/// Hands a macro the fields of the System Parameters Message, in the order in which they are sent:
-/// of each its place, its name and its number of bits.
+/// Passes a macro the fields of the System Parameters Message in the order of transmission: each
+/// with its place, its name and its number of bits.
 macro_rules! system_fields {
     ($made:ident $(, $($with:tt)+)?) => {
         $made! {
@@ -29,10 +29,10 @@ macro_rules! system_fields {
     };
 }
 
-/// The names of the fields of the System Parameters Message in the order in which they are sent,
-/// each with its number of bits. The message type, 8 bits, stands before them.
+/// The names of the fields of the System Parameters Message in the order of transmission, each with
+/// its number of bits. The message type, 8 bits, comes before them.
 ///
-/// TIA/EIA-95-B, 7.7.2.3.2.1. Whatever spells, reads or prints the message goes by this table.
+/// TIA/EIA-95-B, 7.7.2.3.2.1. All code that spells, reads or prints the message uses this table.
 pub const SYSTEM_FIELDS: [(&str, u8); 37] = system_fields!(field_rows);
 
 /// The name of field `i` of the System Parameters Message, counted from 0.
@@ -43,14 +43,14 @@ pub fn system_name(i: usize) -> &'static str
     name_in(&SYSTEM_FIELDS, i)
 }
 
-/// What stands after the type: the fields, and all bits after them.
+/// The layout after the type: the fields, and all bits after them.
 pub(crate) const SYSTEM_PARAMETERS: Layout = Layout {
     name: "system",
     fixed: &SYSTEM_FIELDS,
     ..ALL_BITS
 };
 
-/// What a System Parameters Message says. `SYSTEM_FIELDS` has the widths of the fields.
+/// The content of a System Parameters Message. `SYSTEM_FIELDS` has the widths of the fields.
 ///
 /// TIA/EIA-95-B, 7.7.2.3.2.1.
 #[derive(Clone, Copy, PartialEq, Eq, Debug)]
@@ -91,7 +91,7 @@ pub struct SystemFields {
     pub up: u8,
     /// POWER_DOWN_REG: whether it registers at power down.
     pub down: u8,
-    /// PARAMETER_REG: whether it registers where its parameters change.
+    /// PARAMETER_REG: whether it registers when its parameters change.
     pub param: u8,
     /// REG_PRD: the period of registrations.
     pub prd: u8,
@@ -125,7 +125,7 @@ pub struct SystemFields {
     pub tadd: u8,
     /// T_DROP: the strength below which its timer runs.
     pub tdrop: u8,
-    /// T_COMP: by how much a candidate has to pass an active pilot.
+    /// T_COMP: by how much a candidate has to exceed an active pilot.
     pub tcomp: u8,
     /// T_TDROP: how long a pilot's timer runs.
     pub ttdrop: u8,
@@ -155,7 +155,7 @@ impl Model for SystemParameters {
 }
 
 impl SystemParameters {
-    /// What the message says.
+    /// Returns the content of the message.
     pub fn fields(&self) -> SystemFields
         ensures value { result ≡ self.now }
         ensures spelled { IsSystem result }
@@ -170,7 +170,7 @@ impl SystemParameters {
         system_fields!(values_of_fields, self.fields)
     }
 
-    /// The message that says so.
+    /// Makes the message with these contents.
     pub(crate) fn of(contents: &Contents) -> SystemParameters
         requires { IsSystem (system_from contents.now) }
         ensures { result ≡ system_from contents.now }
@@ -179,7 +179,7 @@ impl SystemParameters {
         SystemParameters { fields }
     }
 
-    /// What the message says after its type, as its layout has it.
+    /// Returns the content after the type, in the form of its layout.
     pub(crate) fn contents(&self) -> Contents
         ensures value { result ≡ system_contents self.now }
         ensures spelled { IsSystem self.now }

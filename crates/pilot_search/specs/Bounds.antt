@@ -1,4 +1,4 @@
--- How great the energy of a phase can still become, after some of the samples.
+-- How large the energy of a phase can still become, after some of the samples.
 use Rattle.pilot_search.specs.Common.{Pair, Sample}
 use Rattle.std.specs.Prelude.{◌≡◌, ◌<◌, ◌≤◌, ℕ, ◌+◌, ◌*◌, List, [], ◌∷◌, length, take, drop}
 use Rattle.std.specs.Prelude.{unsigned_abs, slice_index}

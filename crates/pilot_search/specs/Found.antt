@@ -1,4 +1,4 @@
--- What workers find in their ranges of phases.
+-- The results of workers in their ranges of phases.
 use Rattle.pilot_search.specs.Common.{Sample}
 use Rattle.std.specs.Prelude.{ℕ, ◌<◌, ◌≤◌, ◌≡◌, ◌*◌, ◌/◌, List, Option, Some, None, IfSome, nat_lt}
 use Rattle.std.specs.Prelude.{IsSomeAnd, if◌then◌else◌}

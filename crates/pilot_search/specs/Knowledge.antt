@@ -1,4 +1,4 @@
--- What contracts see of a seat: which word it is for, and what its worker knows of the word.
+-- A seat of the shared word as contracts see it: its word, and its worker's knowledge of the word.
 use Rattle.std.specs.Prelude.{◌≡◌, ℕ, Bool, false}
 use base.Stored.{Coded, coded_via, coded×, coded_ℕ, coded_bool}
 use Rattle.atomic_table.specs.Seated.{TableId, table_id_coded}

@@ -1,4 +1,4 @@
--- The phases of greatest energy near the best one.
+-- The phases of largest energy near the best one.
 use Rattle.pilot_search.specs.Common.{first_places, Sample}
 use Rattle.std.specs.Prelude.{ℕ, ◌+◌, ◌-◌, ◌%◌, if◌then◌else◌, nat_le, List, map, ℤ, pos, negsuc}
 use Rattle.std.specs.Prelude.{◌-ℤ◌}

@@ -1,4 +1,4 @@
--- Phases with their energies, in order of rank: by greater energy, then by lesser phase.
+-- Phases with their energies, in order of rank: by larger energy, then by smaller phase.
 use Rattle.pilot_search.specs.Common.{Sample}
 use Rattle.std.specs.Prelude.{◌≡◌, ◌≢◌, ℕ, ◌+◌, ◌*◌, ◌<◌, ◌≤◌, List, length, get_or}
 use Rattle.pilot_search.specs.Near.{near_phase_at}

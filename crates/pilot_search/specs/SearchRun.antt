@@ -1,4 +1,4 @@
--- Workers that share the greatest energy published so far, and leave phases that can't reach it:
+-- Workers that share the largest energy published so far and leave phases that cannot reach it:
 -- every run of theirs.
 use Rattle.pilot_search.specs.Common.{Sample}
 use Rattle.std.specs.Prelude.{ℕ, ◌<◌, ◌≤◌, ◌≡◌, ◌⊎◌, max, List, [], ◌∷◌, set, Some, Contains, All}

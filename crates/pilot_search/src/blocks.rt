@@ -32,8 +32,8 @@ fn products_by(
     )
 }
 
-/// The sum of the products of samples with the conjugates of their points of the code, where the
-/// samples are whole groups of eight.
+/// Returns the sum of the products of samples with the conjugates of their points of the code, for
+/// whole groups of eight samples.
 pub(crate) fn sum_of_groups(samples: &[Sample], points: &[Sample], turned: &[Sample]) -> Pair
     requires few { length samples.now ≤ 32768 }
     requires whole { length samples.now % 8 ≡ 0 }

@@ -46,7 +46,8 @@ fn correlate(samples: &[Sample], signs: &[(i8, i8)]) -> Pair
     }
 }
 
-/// The correlation with the code from the phase on, parted where the code begins again.
+/// Returns the correlation with the code from the phase on, split at the point where the code
+/// repeats.
 pub(crate) fn correlation_at(samples: &[Sample], codes: &Codes, phase: Phase) -> Pair
     requires { length samples.now ≤ 32768 }
     ensures value { result ≡ phase_correlation samples.now phase }
@@ -66,8 +67,8 @@ pub(crate) fn correlation_at(samples: &[Sample], codes: &Codes, phase: Phase) ->
     }
 }
 
-/// The same correlation, by the points of the code where the samples are whole groups of eight and
-/// the code doesn't begin again before their end.
+/// Returns the same correlation, from the points of the code, for whole groups of eight samples
+/// within one period of the code.
 pub(crate) fn correlation_by(
     samples: &[Sample],
     codes: &Codes,

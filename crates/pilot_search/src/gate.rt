@@ -1,17 +1,17 @@
 //! Word of the workers' coming and going.
 
-/// Is told when a worker of a search begins and ends. What it does has no meaning for the search.
+/// Called when a worker of a search begins and ends. It does not affect the result of the search.
 ///
 /// All workers share one gate, so its methods may run at the same time.
 pub trait Gate {
     /// The worker of this number is about to try its first phase.
     fn arrive(&self, worker: u8);
 
-    /// The worker has tried its last phase, and left so many of its phases unfinished.
+    /// The worker has tried its last phase and left `unfinished` of its phases early.
     fn leave(&self, worker: u8, unfinished: u16);
 }
 
-/// The gate that does nothing.
+/// A gate that does nothing.
 #[derive(Clone, Copy, PartialEq, Eq, Debug)]
 pub struct Open;
 

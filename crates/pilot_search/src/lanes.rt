@@ -14,7 +14,7 @@ use std::simd::prelude::*;
 /// How many samples the lanes have.
 pub(crate) const GROUP: usize = 8;
 
-/// Two parts of each of eight things side by side, the first thing at a place.
+/// Two parts of each of eight items side by side, from the item at a place.
 macro_rules! side_by_side {
     ($list:ident, $at:ident, $one:tt, $other:tt) => {
         [
@@ -65,7 +65,7 @@ fn turned_signs(signs: i16x16) -> i16x16
         * i16x16::from_array([-1, 1, -1, 1, -1, 1, -1, 1, -1, 1, -1, 1, -1, 1, -1, 1])
 }
 
-/// Of eight numbers both parts, each times a sign, added up.
+/// Returns the sums of both parts of eight numbers, each times a sign.
 pub(crate) fn pair_sums(numbers: i16x16, signs: i16x16) -> i32x8
     ensures { (x g : ℕ → ℤ × ℤ) (at : ℕ) → AreShort x → AreUnits g →
         numbers ≡ parts (eight x at) → signs ≡ parts (eight g at) →
@@ -99,7 +99,7 @@ pub fn added(one: i32x8, other: i32x8) -> i32x8
     one + other
 }
 
-/// Sums of the products of so many groups of eight samples, with those of one group more.
+/// Returns the sums of products with those of another group of eight samples added.
 pub fn with_products(
     groups: usize,
     real: i32x8,
@@ -132,7 +132,7 @@ pub fn total_of(lanes: i32x8) -> i64
     sum
 }
 
-/// The sum of the products of so many groups of eight samples, of their sums on lanes.
+/// Returns the sum of the products of groups of eight samples, from their sums per lane.
 pub fn sum_of_lanes(groups: usize, real: i32x8, imaginary: i32x8) -> Pair
     requires few { groups ≤ 4096 }
     requires near { LanesAreNear groups real imaginary }

@@ -6,8 +6,7 @@ ghost use Rattle.pilot_search.specs.Search.{best_phase, energy};
 ghost use Rattle.pilot_search.specs.BestIn.{IsBestIn};
 ghost use Rattle.pilot_search.specs.SearchRun.{FindsBest, BestComesFirst};
 
-/// What is the best of all phases is `best_phase`, with the energy there; and `best_phase` is the
-/// best.
+/// The best of all phases is `best_phase`, with the energy there, and nothing else is.
 pub fn best_of_all_is_best_phase()
     ensures phase { (samples : List Sample) (phase most : ℕ) →
         IsBestIn samples 0 32768 phase most →
@@ -34,7 +33,7 @@ pub fn best_of_neighbours()
         IsBestIn samples from to high high_energy }
 {}
 
-/// Whatever steps workers take in whatever order, the answer is the best phase.
+/// For any steps of the workers in any order, the result is the best phase.
 ///
 /// A worker evaluates a phase of its range, publishes the energy of a phase that it evaluated,
 /// reads the shared value, or skips a phase of which some bound is below the value that it read. In

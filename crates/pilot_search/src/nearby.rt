@@ -78,8 +78,8 @@ fn next_place(round: &[Best], first: u8, second: u8, start: u8) -> u8
 /// The `count` phases of greatest energy near the best one, 1 to 3: the first of the 65 phases from
 /// 32 below it to 32 above it, modulo 32,768, by greater energy, then by lesser phase.
 ///
-/// `best` is what the sweep over all phases gives. It is always the first of them. Of zeros, the
-/// deltas are 0, 1 and 2 where the best phase is 0.
+/// `best` is the result of the sweep over all phases, and always the first path. For samples of
+/// zeros the deltas are 0, 1 and 2, with the best phase 0.
 pub fn near(samples: &[Sample], codes: &Codes, best: Best, count: u8) -> Near
     requires few { length samples.now ≤ 32768 }
     requires best { IsBestIn samples.now 0 32768 best.phase best.energy }

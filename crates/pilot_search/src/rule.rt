@@ -1,4 +1,4 @@
-//! The rule of the shared word, and what each step on it tells.
+//! The rule of the shared word, and what each step on it shows.
 
 ghost use Rattle.std.specs.Prelude.{ℕ};
 ghost use Rattle.pilot_search.specs.SharedRule.{IsSharedState, Begun, Loaded, Raised, fresh_view};
@@ -18,7 +18,7 @@ impl TableRule<(), View, ()> for BestRule {
     ghost first = { λ _. fresh_view };
 }
 
-/// A number that stands in contracts alone, and that a call picks.
+/// A number that exists only in contracts and that a call chooses.
 pub trait Ceiling {
     ghost ceiling: { ℕ };
 }

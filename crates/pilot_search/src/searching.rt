@@ -182,18 +182,17 @@ fn run<R: Threads + Sync, G: Gate + Sync>(
     (better(left, right), seat)
 }
 
-/// The best of all phases, by so many workers at once: the answer of [`sweep`](crate::sweep) over
-/// all phases, whatever the number of workers and however they get on.
+/// Returns the best of all phases, found by several workers at once: the result of
+/// [`sweep`](crate::sweep) over all phases, for any number of workers and any interleaving.
 ///
 /// Worker k of w tries the phases from floor(32768 k / w) to before floor(32768 (k + 1) / w) in
-/// ascending order, by [`try_phase`]. What the workers share is one word, the greatest energy that
+/// ascending order, by [`try_phase`]. What the workers share is one word, the largest energy that
 /// any of them has published. None waits for another, except that the call returns when all are
 /// done. Each calls [`Gate::arrive`] once before its first phase, and [`Gate::leave`] once after
-/// its last, with the number of its phases for which `try_phase` answered
-/// `None`.
+/// its last, with the number of its phases for which `try_phase` answered `None`.
 ///
-/// [`OutOfMemory`]: there was no memory for the shared word, or for 262,144 bytes of the codes'
-/// points. Nothing else allocates.
+/// Returns [`OutOfMemory`] if there is no memory for the shared word or for 262,144 bytes of the
+/// codes' points. Nothing else allocates.
 pub fn search<R: Threads + Sync, G: Gate + Sync>(
     rt: &R,
     alloc: Global,

@@ -7,8 +7,8 @@ use atomic_table::{Seat, Table};
 use std::alloc::Global;
 use std::marker::Model;
 
-/// What the workers share: the greatest energy that any of them has published, in one word that
-/// only rises and begins at 0; and the points of the codes, which make correlations faster.
+/// The workers' shared state: the largest energy that any of them has published, in one word that
+/// starts at 0 and only rises, and the points of the codes, which make correlations faster.
 ///
 /// Contracts see which word it is.
 #[derive(Drop)]

@@ -16,9 +16,9 @@ use std::marker::Brand;
 impl Shared {
     /// A word of 0, and its first seat.
     ///
-    /// The ceiling is the greatest energy of these samples at any phase. It stands in contracts
-    /// alone, and nothing computes it. [`OutOfMemory`]: there was no memory for the word, or for
-    /// 262,144 bytes of the codes' points.
+    /// The ceiling is the largest energy of these samples at any phase. It exists only in
+    /// contracts; nothing computes it. Returns [`OutOfMemory`] if there is no memory for the word
+    /// or for 262,144 bytes of the codes' points.
     pub fn new(
         alloc: Global,
         samples: &[Sample],
@@ -65,7 +65,7 @@ impl Shared {
         self.table.shared.load::<Load>(&mut seat.seat, 0)
     }
 
-    /// Raises the word to an energy, where it is below, and tells what it was.
+    /// Raises the word to an energy, if it is below, and returns its old value.
     pub(crate) fn fetch_max(&self, seat: &mut BestSeat, energy: u64) -> u64
         requires seat { IsHeld seat.old self.now }
         requires energy { energy ≤ seat.old.ceiling }

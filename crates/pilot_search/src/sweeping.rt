@@ -32,10 +32,10 @@ pub(crate) fn measured(samples: &[Sample], codes: &Codes, n: u16) -> Best
     }
 }
 
-/// The phase of greatest energy of those from `from` to before `to`, the least on a tie, with its
-/// energy.
+/// The phase of greatest energy of those from `from` to before `to`, the smallest on a tie, with
+/// its energy.
 ///
-/// Every phase of the range is tried. Of no samples, or of zeros, each energy is 0.
+/// Every phase of the range is tried. Without samples, or with samples of zeros, each energy is 0.
 pub fn sweep(samples: &[Sample], codes: &Codes, from: u16, to: u16) -> Best
     requires few { length samples.now ≤ 32768 }
     requires order { from < to }

@@ -17,11 +17,10 @@ use chip_core::air::CODE_CHIPS;
 use chip_core::{Pair, Phase, Sample};
 use short_code::Codes;
 
-/// How many chunks are added up, at least, from one look at the bound to the next, where so many
-/// are left.
+/// The smallest number of chunks between two checks of the bound, if that many are left.
 const STRIDE: u16 = 4;
 
-/// The greatest energy that these sums can lead to, where each part may still change by so much.
+/// The largest energy that these sums can lead to, where each part may still change by so much.
 fn bound_of(sum: Pair, left: u64) -> u64
     requires i { unsigned_abs sum.i + left ≤ 2 ^ 31 }
     requires q { unsigned_abs sum.q + left ≤ 2 ^ 31 }
@@ -33,8 +32,9 @@ fn bound_of(sum: Pair, left: u64) -> u64
     i * i + q * q
 }
 
-/// How many chunks are added up from chunk `j` on before the bound is looked at again: up to where
-/// it could be below the limit without any sum, and no more than there are before the last one.
+/// Returns how many chunks are added up from chunk `j` on before the bound is looked at again: up
+/// to where it could be below the limit without any sum, and no more than there are before the last
+/// one.
 fn stride(tails: &Tails, j: u16, last: u16, limit: u64) -> u16
     requires order { j < last }
     requires last { last < 512 }
@@ -68,7 +68,7 @@ fn joined(one: Pair, other: Pair) -> Pair
     }
 }
 
-/// The phase of the code so many chips on.
+/// Returns the phase of the code `chips` chips later.
 fn later(phase: Phase, chips: u16) -> Phase
     requires { chips ≤ 32768 }
     ensures { result ≡ (phase + chips) % 32768 }
@@ -76,8 +76,8 @@ fn later(phase: Phase, chips: u16) -> Phase
     Phase::new((phase.get() + chips) % CODE_CHIPS as u16).unwrap()
 }
 
-/// So many chunks, or as many as there are before the code begins again, where the first of them
-/// meets the code's chip of this phase; and one where the code begins again in it.
+/// Returns `chunks` or as many as fit before the code repeats, given the phase at the first of
+/// them; 1 if the code repeats within it.
 fn before_the_end(chunks: u16, phase: Phase) -> u16
     requires some { 1 ≤ chunks }
     ensures some { 1 ≤ result }
@@ -125,7 +125,7 @@ fn sum_unless_below(
 
 /// The energy at a phase, unless a bound on it is below the limit.
 ///
-/// A bound never rises from chunk to chunk, so the one before the last chunk tells.
+/// A bound never rises from chunk to chunk, so the one before the last chunk decides.
 fn energy_unless_below(
     samples: &[Sample],
     codes: &Codes,
@@ -152,16 +152,16 @@ fn energy_unless_below(
     Some(norm_of(joined(sum, part)))
 }
 
-/// The energy of the samples at a phase, which is then published; `None` where it can't be the
-/// greatest.
+/// The energy of the samples at a phase, which is then published; `None` if it can't be the
+/// largest.
 ///
 /// It reads the shared word once. Then it adds the samples up. With the sums so far, and the sum of
 /// |I| + |Q| over the samples that are left, the energy is at most (|re| + left)^2 + (|im| +
-/// left)^2. Where this is below the value read before any chunk of 64 samples, some other phase has
-/// a greater energy, and the phase is left. Where the bound equals the value read the phase isn't
-/// left, since it may be the first of several that have the greatest energy. Since the bound never
-/// rises, it is looked at where it could be below without any sum, at most once in four chunks, and
-/// before the last one.
+/// left)^2. If this is below the value read before any chunk of 64 samples, some other phase has a
+/// greater energy, and the phase is left. If the bound equals the value read the phase isn't left,
+/// since it may be the first of several that have the largest energy. Since the bound never rises,
+/// it is looked at where it could be below without any sum, at most once in four chunks, and before
+/// the last one.
 pub fn try_phase(
     shared: &Shared,
     seat: &mut BestSeat,

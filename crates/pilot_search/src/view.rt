@@ -1,10 +1,10 @@
-//! What a seat of the shared word knows.
+//! Knowledge of a seat of the shared word.
 
-/// What a worker knows of the shared word. No value of it is made: it stands in contracts alone.
+/// A worker's knowledge of the shared word. It exists only in contracts; no value of it is made.
 pub struct View {
     /// The ceiling isn't given yet.
     pub fresh: bool,
-    /// The seat was joined to another one, and knows nothing any more.
+    /// The seat was joined to another one and has no knowledge left.
     pub spent: bool,
     /// The word was at least this when the seat last saw it.
     pub floor: u64,

@@ -1,4 +1,4 @@
--- Things in an array: the first so many, and a filler after them.
+-- Items in an array: the first `count`, and a filler after them.
 use Rattle.std.specs.Prelude.{◌≡◌, ℕ, ◌-◌, ◌≤◌, List, ◌++◌, drop, length, replicate}
 
 -- the array of things

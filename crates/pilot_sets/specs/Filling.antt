@@ -1,4 +1,4 @@
--- What the model of a short list rests on: the array can be made again from the things it holds.
+-- The basis of the model of a short list: the array can be rebuilt from its items.
 use Rattle.std.proofs.Common.{◌≡◌, ◌<◌, ℕ, ◌+◌, ◌-◌, List, ◌++◌, take, drop, length, replicate, sym}
 use Rattle.std.proofs.Common.{slice_set, ap, ◌∙◌, arith}
 use Rattle.std.proofs.lemmas.List.{length-take, length-set, take-append-drop, drop-set-lt}

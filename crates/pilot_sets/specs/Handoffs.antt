@@ -1,4 +1,4 @@
--- The first thing of a moment: the direction for its time takes effect.
+-- The first step of a moment: the direction for its time takes effect.
 use Rattle.pilot_sets.specs.Common.{Thresholds, ActivePilot, CandidatePilot, NamedPilot, Accepted}
 use Rattle.pilot_sets.specs.Common.{PilotSets}
 use Rattle.std.specs.Prelude.{ℕ, ◌+◌, Bool, false, cond, not, if◌then◌else◌, ◌&&◌, ◌==◌, List, []}

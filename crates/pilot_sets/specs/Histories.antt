@@ -1,4 +1,4 @@
--- What happens to the sets, call by call.
+-- The sets over a history of calls.
 use Rattle.pilot_sets.specs.Common.{DirectionFields, DirectionFault, Thresholds, Accepted}
 use Rattle.pilot_sets.specs.Common.{ActivePilot, CandidatePilot, PilotSets}
 use Rattle.std.specs.Prelude.{ℕ, ◌≡◌, ◌≢◌, ◌≤◌, ◌<◌, ◌%◌, ◌⊎◌, List, [], ◌∷◌, ◌++◌, length, map}

@@ -1,4 +1,4 @@
--- The other things of a moment: timers start, stop and run out, pilots move between the candidates
+-- The other steps of a moment: timers start, stop and run out, pilots move between the candidates
 -- and the neighbors, and a report may be due.
 use Rattle.pilot_sets.specs.Common.{Thresholds, ActivePilot, CandidatePilot, PilotSets}
 use Rattle.std.specs.Prelude.{ℕ, ◌-◌, ◌*◌, Bool, not, ◌&&◌, ◌||◌, ◌==◌, if◌then◌else◌, List, []}

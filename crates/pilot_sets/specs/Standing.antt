@@ -1,4 +1,4 @@
--- What the sets keep, and how each call changes it.
+-- The content of the sets, and how each call changes it.
 use Rattle.pilot_sets.specs.Common.{DirectionFields, DirectionFault, Thresholds, SetChange}
 use Rattle.pilot_sets.specs.Common.{Accepted, ActivePilot, PilotSets}
 use Rattle.std.specs.Prelude.{ℕ, ℤ, pos, Bool, not, if◌then◌else◌, ◌&&◌, ◌==◌, List, [], ◌∷◌, map}

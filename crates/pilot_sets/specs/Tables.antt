@@ -1,5 +1,5 @@
 -- The standard's tables of search windows and drop timers (TIA/EIA-95-B, 6.6.6.2), and the ratios
--- that thresholds in half decibels stand for.
+-- of thresholds in half decibels.
 use Rattle.std.specs.Prelude.{ℕ, List, ◌∷◌, [], get_or}
 
 abbrev pub drop_timers : List ℕ

@@ -1,4 +1,4 @@
--- Which pilots are strong, and which timers run out (after TIA/EIA-95-B, 6.6.6.2).
+-- Strong pilots, and timers that run out (after TIA/EIA-95-B, 6.6.6.2).
 use Rattle.pilot_sets.specs.Common.{Thresholds}
 use Rattle.std.specs.Prelude.{ℕ, ◌-◌, ◌*◌, Bool, false, cond, ◌&&◌, nat_lt, nat_le, Option, Some}
 use Rattle.std.specs.Prelude.{None, unwrap_or}

@@ -1,6 +1,6 @@
-//! What an evaluation of the pilot sets changed.
+//! The result of an evaluation of the pilot sets.
 
-/// What an evaluation of the pilot sets, at one moment, changed.
+/// The result of an evaluation of the pilot sets at one moment.
 #[derive(Clone, Copy, PartialEq, Eq, Debug)]
 pub struct SetChange {
     /// The active or the candidate list isn't what it was when the moment began.

@@ -1,4 +1,4 @@
-//! What a handoff direction orders, and why it is refused.
+//! Reads a handoff direction, or finds why it is refused.
 
 ghost use Rattle.std.specs.Prelude.{◌≡◌, ◌<◌, ◌≤◌, ◌^◌, ◌+◌, [], length};
 ghost use Rattle.std.specs.List.{All, find};
@@ -35,7 +35,7 @@ fn unknown_row(rows: &Numbers) -> Option<u8>
     None
 }
 
-/// The first pilot that stands there a second time.
+/// Returns the first pilot that occurs a second time.
 fn repeated(pilots: &Numbers) -> Option<u16>
     requires few { length pilots.now ≤ 6 }
     requires fit { All (λ p. p < 512) pilots.now }
@@ -52,7 +52,7 @@ fn repeated(pilots: &Numbers) -> Option<u16>
     None
 }
 
-/// Why a direction is refused; `None` where it isn't.
+/// Why a direction is refused; `None` if it isn't.
 pub(crate) fn direction_fault(d: &DirectionFields) -> Option<DirectionFault>
     requires { IsDirection d.now }
     ensures { result ≡ fault_of_direction d.now }
@@ -70,8 +70,8 @@ pub(crate) fn direction_fault(d: &DirectionFields) -> Option<DirectionFault>
     }
 }
 
-/// The time at which a direction takes effect, where `first` is that of the first moment that isn't
-/// before the end of its message, in moments.
+/// Returns the time at which a direction takes effect, in moments; `first` is the time of the first
+/// moment at or after the end of its message.
 pub(crate) fn direction_time(first: u64, d: &DirectionFields) -> u64
     requires first { first < 2 ^ 40 }
     requires action { d.now.action < 64 }
@@ -104,7 +104,7 @@ fn named_pilots(pns: &Numbers, combs: &Numbers, rows: &Numbers) -> Few<NamedPilo
     named
 }
 
-/// What a direction orders, and when.
+/// Returns the content of a direction and its time.
 pub(crate) fn accept(first: u64, d: &DirectionFields) -> Accepted
     requires first { first < 2 ^ 40 }
     requires direction { IsDirection d.now }

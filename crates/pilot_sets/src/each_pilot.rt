@@ -1,4 +1,4 @@
-//! Lists with one thing for each pilot that the sets may hold.
+//! Lists with one item for each pilot that the sets may hold.
 
 ghost use Rattle.std.specs.Prelude.{◌≡◌, ◌<◌, ◌≤◌, ◌+◌, [], ◌∷◌, ◌++◌, length, slice_get, Some};
 ghost use Rattle.std.specs.Prelude.{IsOk, OnOk, OnErr, ◌↔◌, IsTrue};
@@ -8,7 +8,7 @@ use chip_core::Full;
 use std::alloc::AllocError;
 use std::marker::Model;
 
-/// A list of at most 36 things, one for each pilot that the sets may hold. Contracts see the list.
+/// A list of at most 36 items, one for each pilot that the sets may hold. Contracts see the list.
 #[derive(Copy, PartialEq, Eq, Debug)]
 pub struct EachPilot<T: Filler> {
     list: Few<T, 36>,
@@ -40,14 +40,14 @@ impl<T: Filler> Clone for EachPilot<T> {
 }
 
 impl<T: Filler> EachPilot<T> {
-    /// The list of nothing.
+    /// An empty list.
     pub fn empty() -> EachPilot<T>
         ensures { result ≡ [] }
     {
         EachPilot { list: Few::empty() }
     }
 
-    /// How many things the list has.
+    /// Returns how many items the list has.
     pub fn len(&self) -> u8
         ensures value { result ≡ length self.now }
         ensures most { result ≤ 36 }
@@ -55,14 +55,14 @@ impl<T: Filler> EachPilot<T> {
         self.list.all().len() as u8
     }
 
-    /// Whether the list has nothing.
+    /// Whether the list is empty.
     pub fn is_empty(&self) -> bool
         ensures { IsTrue result ↔ (self.now ≡ []) }
     {
         self.list.all().is_empty()
     }
 
-    /// Thing `i`, counted from 0.
+    /// Returns item `i`, counted from 0.
     pub fn get(&self, i: u8) -> T
         requires { i < length self.now }
         ensures { slice_get self.now i ≡ Some result }
@@ -70,7 +70,8 @@ impl<T: Filler> EachPilot<T> {
         self.list.all()[usize::from(i)]
     }
 
-    /// Adds a thing at the end; `Full` exactly where the list has 36, and it is unchanged then.
+    /// Adds an item at the end. Returns `Full` exactly if the list has 36 items; it is unchanged
+    /// then.
     pub fn push(&mut self, thing: T) -> Result<(), Full>
         ensures room { IsOk result ↔ (length self.old < 36) }
         ensures ok { OnOk result (self.new ≡ self.old ++ thing ∷ []) }
@@ -83,7 +84,7 @@ impl<T: Filler> EachPilot<T> {
         Ok(())
     }
 
-    /// Adds things at the end.
+    /// Adds items at the end.
     pub(crate) fn add(&mut self, things: &[T])
         requires { length self.old + length things.now ≤ 36 }
         ensures { self.new ≡ self.old ++ things.now }
@@ -93,7 +94,7 @@ impl<T: Filler> EachPilot<T> {
         }
     }
 
-    /// The things of the list.
+    /// Returns the items of the list.
     pub(crate) fn all(&self) -> &[T]
         ensures { result.now ≡ self.now }
     {

@@ -1,20 +1,20 @@
-//! Short lists that need no memory of their own.
+//! Short lists that are not allocated.
 
 ghost use Rattle.std.specs.Prelude.{◌≡◌, ◌<◌, ◌≤◌, List, [], ◌∷◌, ◌++◌, length, take};
 
 use std::alloc::AllocError;
 use std::marker::Model;
 
-/// What a short list holds.
+/// A type of item of a short list.
 pub trait Filler: Copy {
     ghost filler: { Self };
 
-    /// What stands in the places of a list that aren't used.
+    /// The filler of unused places of a list.
     fn filler() -> Self
         ensures { result ≡ filler };
 }
 
-/// A list of at most `N` things. Contracts see the list.
+/// A list of at most `N` items. Contracts see the list.
 ///
 /// The places that aren't used hold the filler, so that lists can be copied and compared.
 #[derive(Copy, PartialEq, Eq, Debug)]
@@ -55,7 +55,7 @@ impl<T: Filler, const N: usize> Clone for Few<T, N> {
 }
 
 impl<T: Filler, const N: usize> Few<T, N> {
-    /// The list of nothing.
+    /// An empty list.
     pub(crate) fn empty() -> Few<T, N>
         ensures { result ≡ [] }
     {
@@ -65,7 +65,7 @@ impl<T: Filler, const N: usize> Few<T, N> {
         }
     }
 
-    /// The things of the list.
+    /// Returns the items of the list.
     pub(crate) fn all(&self) -> &[T]
         ensures value { result.now ≡ self.now }
         ensures most { length result.now ≤ N }
@@ -73,7 +73,7 @@ impl<T: Filler, const N: usize> Few<T, N> {
         &self.places[..self.count]
     }
 
-    /// Adds a thing at the end.
+    /// Adds an item at the end.
     pub(crate) fn push(&mut self, thing: T)
         requires { length self.old < N }
         ensures { self.new ≡ self.old ++ thing ∷ [] }
@@ -82,7 +82,7 @@ impl<T: Filler, const N: usize> Few<T, N> {
         self.count += 1;
     }
 
-    /// Adds a thing at the end where the list has fewer than `room` things.
+    /// Adds an item at the end if the list has fewer than `room` items.
     pub(crate) fn push_within(&mut self, room: usize, thing: T)
         requires room { room ≤ N }
         requires within { length self.old ≤ room }

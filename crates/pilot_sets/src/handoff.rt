@@ -1,4 +1,4 @@
-//! The first thing of a moment: a handoff direction takes effect.
+//! The first step of a moment: a handoff direction takes effect.
 
 ghost use Rattle.std.specs.Prelude.{◌≡◌, ◌<◌, ◌≤◌, ◌^◌, ◌+◌, length};
 ghost use Rattle.pilot_sets.specs.Handoffs.{with_search as with_search_by, pilots_named, left};

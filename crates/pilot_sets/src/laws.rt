@@ -25,8 +25,8 @@ pub fn sets_stay_apart()
         AreApart (after_all calls (new_standing pilot row)).sets }
 {}
 
-/// An accepted direction waits until its time, whatever is called meanwhile, unless another is
-/// accepted; at its time it takes effect, and at no other. A refused one changes nothing.
+/// An accepted direction waits until its time through any calls, unless another is accepted; it
+/// takes effect exactly at its time. A refused one changes nothing.
 pub fn directions_wait_for_their_time()
     ensures accepted { (first : ℕ) (d : TheDirection) (s : Standing) →
         direction_fault d ≡ None →

@@ -51,7 +51,7 @@ impl Model for ActiveList {
 }
 
 impl ActiveList {
-    /// How many pilots the set has, 1 to 6.
+    /// Returns how many pilots the set has, 1 to 6.
     #[allow(clippy::len_without_is_empty)]
     pub fn len(&self) -> u8
         ensures value { result ≡ length self.now }

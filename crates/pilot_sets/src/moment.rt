@@ -14,7 +14,7 @@ use crate::reports::is_report_due;
 use crate::standing::{ActivePilot, Began, CandidatePilot, PilotSets};
 use crate::strengths::Strength;
 
-/// The lists as they stand.
+/// Returns the current lists.
 pub(crate) fn began_now(sets: &PilotSets) -> Began
     ensures { result ≡ lists_of sets.now }
 {
@@ -25,7 +25,7 @@ pub(crate) fn began_now(sets: &PilotSets) -> Began
     }
 }
 
-/// The third and the fourth thing of a moment, `began` being the neighbors when it began. Answers
+/// Performs the third and fourth step of a moment; `began` has the neighbors when it began. Returns
 /// whether a report is due.
 pub(crate) fn measure(
     sets: &mut PilotSets,

@@ -1,4 +1,4 @@
-//! The third thing of a moment: timers start and stop, and pilots move between the candidates and
+//! The third step of a moment: timers start and stop, and pilots move between the candidates and
 //! the neighbors.
 
 ghost use Rattle.std.specs.Prelude.{◌≡◌, ◌<◌, ◌≤◌, ◌+◌, ◌^◌, ◌++◌, length, map, filter, take};
@@ -185,9 +185,9 @@ fn move_up(sets: &mut PilotSets, up: &[u16])
     sets.neighbors = without(up, sets.neighbors.all());
 }
 
-/// The third thing of a moment, `began` being the neighbors when it began: timers start and stop,
-/// candidates whose timer has expired become neighbors, and strong neighbors become candidates.
-/// Answers those that moved up.
+/// Performs the third step of a moment; `began` has the neighbors when it began. Timers start and
+/// stop, candidates whose timer has expired become neighbors, and strong neighbors become
+/// candidates. Returns those that moved up.
 pub(crate) fn move_pilots(
     sets: &mut PilotSets,
     began: &[u16],

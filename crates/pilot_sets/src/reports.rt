@@ -1,4 +1,4 @@
-//! The fourth thing of a moment: whether a report is due.
+//! The fourth step of a moment: whether a report is due.
 
 ghost use Rattle.pilot_sets.specs.Common.{ActivePilot as TheActive};
 ghost use Rattle.std.specs.Prelude.{◌≡◌, ◌<◌, ◌^◌};
@@ -68,7 +68,7 @@ fn has_expired(actives: &[ActivePilot], thresholds: &Thresholds, time: u64) -> b
     false
 }
 
-/// Whether a report is due, where the pilots `up` have moved up.
+/// Whether a report is due after the pilots `up` have moved up.
 pub(crate) fn is_report_due(sets: &PilotSets, up: &[u16], strengths: &[Strength], time: u64) -> bool
     requires { time < 2 ^ 40 }
     ensures { result ≡ is_due_by (energy_in strengths.now) time up.now sets.now }

@@ -34,7 +34,7 @@ use chip_core::Numbers;
 use std::marker::Model;
 use traffic_message::HandoffDirection;
 
-/// The pilot sets of a handset: which base stations it hears.
+/// The pilot sets of a handset: the base stations that it receives or may receive.
 ///
 /// TIA/EIA-95-B, 6.6.6.2, as far as this project follows it (`docs/LINK.md`). No pilot is in two
 /// sets; the active set has 1 to 6 pilots, the candidate set at most 10, the neighbor set at most
@@ -82,7 +82,7 @@ fn keep_deltas(deltas: &mut [i16; 512], strengths: &[Strength])
 }
 
 impl Sets {
-    /// The sets of a handset that hears one pilot's traffic channel on a row.
+    /// Makes the sets of a handset that receives one pilot's traffic channel on a row.
     pub fn new(pilot: u16, row: u8) -> Sets
         requires pilot { pilot < 512 }
         requires row { row < 64 }
@@ -158,7 +158,7 @@ impl Sets {
         }
     }
 
-    /// The delta of a pilot at the last step that measured it, in chips; 0 where none did.
+    /// The delta of a pilot at the last step that measured it, in chips; 0 if none did.
     pub fn delta(&self, pilot: u16) -> i16
         requires { pilot < 512 }
         ensures { slice_get self.now.deltas pilot ≡ Some result }
@@ -183,10 +183,9 @@ impl Sets {
     }
 
     /// Takes a handoff direction; `first` is the time of the first moment that isn't before the end
-    /// of its message. Answers the time at which it takes effect, unless another takes its place.
+    /// of its message. Returns the time at which it takes effect, unless another takes its place.
     ///
-    /// The first of its faults is answered, and nothing is changed then: `TooMany`, `Unknown`,
-    /// `Twice`.
+    /// If it has faults, returns the first of `TooMany`, `Unknown` and `Twice` and changes nothing.
     pub fn direct(&mut self, d: &HandoffDirection, first: u64) -> Result<u64, DirectionFault>
         requires { first < 2 ^ 40 }
         ensures answer { MatchResult result
@@ -203,8 +202,8 @@ impl Sets {
         Ok(direction_time(first, &fields))
     }
 
-    /// The direction for this time takes effect; false exactly where none waits for it, and then
-    /// nothing is changed.
+    /// Applies the direction for this time. Returns false exactly if none waits for it; nothing is
+    /// changed then.
     pub fn due(&mut self, time: u64) -> bool
         requires { time < 2 ^ 40 }
         ensures taken { result ≡ is_for time self.old.sets.waiting }
@@ -221,9 +220,9 @@ impl Sets {
         true
     }
 
-    /// What happens at a moment, once the direction for its time has taken effect: timers start,
-    /// stop and run out, candidates become neighbors, neighbors become candidates, and a report may
-    /// be due. A pilot's energy is that of its first strength, or 0 where it has none.
+    /// Performs a moment after the direction for its time has taken effect: timers start, stop and
+    /// run out, candidates become neighbors, neighbors become candidates, and a report may be due.
+    /// A pilot's energy is that of its first strength, or 0 if it has none.
     pub fn step(&mut self, strengths: &Strengths, power: u64, time: u64) -> SetChange
         requires time { time < 2 ^ 40 }
         requires pilots { All (λ (s : TheStrength). s.pilot < 512) strengths.now }

@@ -1,4 +1,4 @@
-//! What the sets keep.
+//! The content of the sets.
 
 use crate::few::{Few, Filler};
 use crate::thresholds::Thresholds;
@@ -13,7 +13,7 @@ pub(crate) struct ActivePilot {
     pub row: u8,
     /// The power control subchannel.
     pub subchannel: u8,
-    /// The time at which the timer started, where it runs, in moments.
+    /// The time at which the timer started, if it runs, in moments.
     pub timer: Option<u64>,
 }
 
@@ -37,7 +37,7 @@ impl Filler for ActivePilot {
 pub(crate) struct CandidatePilot {
     /// The pilot's offset, in steps of 64 chips (PILOT_PN).
     pub pilot: u16,
-    /// The time at which the timer started, where it runs, in moments.
+    /// The time at which the timer started, if it runs, in moments.
     pub timer: Option<u64>,
 }
 

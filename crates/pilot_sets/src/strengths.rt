@@ -11,9 +11,9 @@ use crate::few::Filler;
 pub struct Strength {
     /// The pilot's offset, in steps of 64 chips (PILOT_PN).
     pub pilot: u16,
-    /// The greatest energy in the pilot's search window.
+    /// The largest energy in the pilot's search window.
     pub energy: u64,
-    /// The least delta with that energy, in chips.
+    /// The smallest delta with that energy, in chips.
     pub delta: i16,
 }
 
@@ -34,7 +34,7 @@ impl Filler for Strength {
 /// A list of at most 36 strengths, one for each pilot that the sets may hold.
 pub type Strengths = EachPilot<Strength>;
 
-/// The energy of a pilot: that of its first strength, or 0 where it has none.
+/// The energy of a pilot: that of its first strength, or 0 if it has none.
 pub(crate) fn energy_of(strengths: &[Strength], pilot: u16) -> u64
     ensures { result ≡ energy_in strengths.now pilot }
 {

@@ -25,7 +25,7 @@ const RATIOS: [u32; 64] = [
     1_585, 1_413, 1_259, 1_122, 1_000, 891, 794, 708,
 ];
 
-/// Drop timer number `k` (T_TDROP), in milliseconds; 0 where there is none.
+/// Drop timer number `k` (T_TDROP), in milliseconds; 0 if there is none.
 pub(crate) fn drop_timer_ms(k: u8) -> u32
     ensures { result ≡ drop_timer_of k }
 {
@@ -36,14 +36,15 @@ pub(crate) fn drop_timer_ms(k: u8) -> u32
     }
 }
 
-/// How wide search window number `k` is (SRCH_WIN_A, SRCH_WIN_N), in chips; 0 where there is none.
+/// Returns how wide search window number `k` is (SRCH_WIN_A, SRCH_WIN_N), in chips; 0 if there is
+/// none.
 pub(crate) fn window_chips(k: u8) -> u16
     ensures { result ≡ window_of k }
 {
     if k < 16 { WINDOWS[usize::from(k)] } else { 0 }
 }
 
-/// The ratio of `k` half decibels below 0, in millionths; 0 where there is none.
+/// The ratio of `k` half decibels below 0, in millionths; 0 if there is none.
 pub(crate) fn ratio(k: u8) -> u32
     ensures value { result ≡ ratio_of k }
     ensures most { result ≤ 1000000 }

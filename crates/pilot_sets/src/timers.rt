@@ -33,7 +33,7 @@ fn threshold(k: u8, power: u64) -> u128
     1024 * u128::from(ratio(k)) * u128::from(power)
 }
 
-/// Whether a pilot of this energy is strong for threshold `k`, where the samples have this power.
+/// Whether a pilot of this energy is strong for threshold `k`, given the power of the samples.
 pub(crate) fn is_strong(k: u8, power: u64, energy: u64) -> bool
     ensures { result ≡ is_strong_by k power energy }
 {
@@ -53,8 +53,7 @@ pub(crate) fn is_expired(thresholds: &Thresholds, time: u64, timer: Option<u64>)
     }
 }
 
-/// A timer after a moment at which its pilot is strong, or isn't: it stops, or it starts or goes
-/// on.
+/// Returns a timer after a moment: stopped if its pilot is strong, otherwise started or running.
 pub(crate) fn timer_after(is_strong: bool, time: u64, timer: Option<u64>) -> Option<u64>
     ensures { result ≡ defined_timer_after is_strong time timer }
 {

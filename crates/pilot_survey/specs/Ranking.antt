@@ -1,4 +1,4 @@
--- What a ranking of pilots is.
+-- Rankings of pilots.
 use Rattle.std.specs.Prelude.{◌≡◌, ◌<◌, ◌≤◌, ◌⊎◌, ℕ, ◌+◌, List, length, slice_index_or, All}
 use Rattle.std.specs.Prelude.{Contains}
 use Rattle.chip_core.specs.declared.sample.Sample.{Sample}

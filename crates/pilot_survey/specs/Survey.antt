@@ -1,4 +1,4 @@
--- The survey: how strong each pilot is, and the ranking of all 512.
+-- The survey: the strength of each pilot, and the ranking of all 512.
 use Rattle.std.specs.Prelude.{ℕ, ◌+◌, ◌-◌, ◌*◌, ◌/◌, ◌%◌, List, map, pos, ◌-ℤ◌}
 use Rattle.chip_core.specs.Sums.{first_greatest, first_places}
 use Rattle.chip_core.specs.declared.sample.Sample.{Sample}

@@ -22,7 +22,7 @@ fn phase_at(base: Phase, width: u8, pilot: u16, place: u8) -> Phase
     Phase::new(number as u16).unwrap()
 }
 
-/// How many chips a place is above the pilot's own phase.
+/// Returns how many chips a place is above the pilot's own phase.
 fn delta_of(width: u8, place: u8) -> i8
     requires width { width ≤ 31 }
     requires place { place ≤ 62 }
@@ -31,7 +31,7 @@ fn delta_of(width: u8, place: u8) -> i8
     place as i8 - width as i8
 }
 
-/// The pilot's greatest energy, at the least delta on a tie.
+/// The pilot's greatest energy, at least delta on a tie.
 fn measured(samples: &[Sample], codes: &Codes, base: Phase, width: u8, pilot: u16) -> Rank
     requires few { length samples.now ≤ 32768 }
     requires width { width ≤ 31 }

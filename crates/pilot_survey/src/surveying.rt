@@ -24,7 +24,7 @@ fn start(worker: u8, workers: u8) -> u16
     (PILOTS as u32 * u32::from(worker) / u32::from(workers)) as u16
 }
 
-/// How many pilots the workers from the number `first` to before `end` have.
+/// Returns how many pilots the workers from the number `first` to before `end` have.
 fn share(first: u8, end: u8, workers: u8) -> u16
     requires order { first ≤ end }
     requires all { end ≤ workers }
@@ -124,11 +124,11 @@ fn run<R: Threads + Sync, G: Gate + Sync>(
 /// The ranks of all 512 pilots, by so many workers at once: the same whatever their number.
 ///
 /// `base` is the phase of the pilot of offset 0. The pilot of offset p has its own phase 64 p chips
-/// below it, modulo 32,768. Its energy is the greatest of the phases from `width` chips below that
-/// one to `width` above, at the least delta on a tie. The ranks come by greater energy, then by
-/// lesser pilot. Worker k of w measures the pilots from floor(512 k / w) to before
-/// floor(512 (k + 1) / w). Each calls [`Gate::arrive`] once before its first pilot, and
-/// [`Gate::leave`] once after its last, with 0: it leaves no phase.
+/// below it, modulo 32,768. Its energy is the largest of the phases from `width` chips below that
+/// one to `width` above, at least delta on a tie. The ranks come by greater energy, then by lesser
+/// pilot. Worker k of w measures the pilots from floor(512 k / w) to before floor(512 (k + 1) / w).
+/// Each calls [`Gate::arrive`] once before its first pilot, and [`Gate::leave`] once after its
+/// last, with 0: it leaves no phase.
 ///
 /// [`OutOfMemory`]: there was no memory for the ranks. Nothing else allocates.
 pub fn survey<R: Threads + Sync, G: Gate + Sync>(

@@ -1,4 +1,4 @@
--- The fault of a message whose capsule is at fault, and what is read where there is none.
+-- The fault of a message by that of its capsule, and what is read otherwise.
 use Rattle.std.specs.Prelude.{Option, Some, None, Result, Ok, Err}
 use Rattle.quality_bits.specs.declared.capsule.CapsuleFault.{CapsuleFault}
 use Rattle.quality_bits.specs.declared.message_fault.MessageFault.{MessageFault}

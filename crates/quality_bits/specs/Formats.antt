@@ -1,5 +1,4 @@
--- What the frames of a rate are made of, whatever its rate set (TIA/EIA-95-B, 7.1.3.1.4 and
--- 7.1.3.5).
+-- The frames of a rate of any rate set (TIA/EIA-95-B, 7.1.3.1.4 and 7.1.3.5).
 use Rattle.std.specs.Prelude.{◌≡◌, ℕ, ◌+◌, ◌*◌, ◌≤◌, Bool, false, if◌then◌else◌, List, ◌++◌, Option}
 use Rattle.std.specs.Prelude.{replicate}
 use Rattle.quality_bits.specs.Kinds.{quality_indicator, quality_length}

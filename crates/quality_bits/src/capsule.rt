@@ -17,7 +17,7 @@ use thiserror::Error;
 /// Why a list of bits is no capsule.
 #[derive(Clone, Copy, PartialEq, Eq, Debug, Error)]
 pub enum CapsuleFault {
-    /// It doesn't have as many bits as its MSG_LENGTH says, or that is outside 5 to 148 octets.
+    /// Its number of bits differs from its MSG_LENGTH, or that is outside 5 to 148 octets.
     #[error("bad length")]
     BadLength,
     /// It doesn't end with its check.
@@ -41,8 +41,8 @@ pub fn capsule_of(kind: Kind, form: CheckForm, body: &Bits) -> Bits
 
 /// The body of a capsule.
 ///
-/// `BadLength` exactly where the list isn't as long as it says or that length isn't lawful; else
-/// `BadCheck` exactly where its last bits aren't the check of those before.
+/// Returns `BadLength` exactly if the list's length differs from its MSG_LENGTH or that is not
+/// lawful; otherwise `BadCheck` exactly if its last bits are not the check of those before.
 pub fn body_of(kind: Kind, form: CheckForm, bits: &Bits) -> Result<Bits, CapsuleFault>
     ensures bad_length { (result ≡ Err CapsuleFault.BadLength) ↔ ¬ (IsWhole bits.now) }
     ensures bad_check { (result ≡ Err CapsuleFault.BadCheck) ↔
@@ -56,10 +56,10 @@ pub fn body_of(kind: Kind, form: CheckForm, bits: &Bits) -> Result<Bits, Capsule
     Ok(bits.part(8, count))
 }
 
-/// How many bits the body of a capsule has, which stands after the 8 bits of the length.
+/// Returns how many bits the body of a capsule has, after the 8 bits of the length.
 ///
-/// `BadLength` exactly where the list isn't as long as it says or that length isn't lawful; else
-/// `BadCheck` exactly where its last bits aren't the check of those before.
+/// Returns `BadLength` exactly if the list's length differs from its MSG_LENGTH or that is not
+/// lawful; otherwise `BadCheck` exactly if its last bits are not the check of those before.
 pub fn body_count(kind: Kind, form: CheckForm, bits: &Bits) -> Result<u16, CapsuleFault>
     ensures bad_length { (result ≡ Err CapsuleFault.BadLength) ↔ ¬ (IsWhole bits.now) }
     ensures bad_check { (result ≡ Err CapsuleFault.BadCheck) ↔
@@ -80,7 +80,7 @@ pub fn body_count(kind: Kind, form: CheckForm, bits: &Bits) -> Result<u16, Capsu
     Ok(bits.len() - 8 - degree)
 }
 
-/// Whether a list is as long as it says, and that is a lawful length.
+/// Whether a list has the length in its first 8 bits, and that is lawful.
 fn is_whole(bits: &Bits) -> bool
     ensures { IsTrue result ↔ IsWhole bits.now }
 {
@@ -90,8 +90,8 @@ fn is_whole(bits: &Bits) -> bool
     }
 }
 
-/// How many bits the capsule has that begins with these; `None` exactly where fewer than 8 are
-/// there, or where they say a length outside 5 to 148 octets.
+/// Returns how many bits the capsule has that begins with these; `None` exactly if there are fewer
+/// than 8, or if they give a length outside 5 to 148 octets.
 pub fn stated_length(bits: &Bits) -> Option<u16>
     ensures { SomeIff result (IsTrue (is_stated bits.now)) (stated_bits bits.now) }
 {

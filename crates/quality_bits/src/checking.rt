@@ -33,7 +33,7 @@ pub fn append_check(kind: Kind, form: CheckForm, bits: &mut Bits)
     bits.append_number(kind.divisor().degree as u8, u64::from(sent));
 }
 
-/// The check of the first so many bits as it is sent, as a number.
+/// Returns the check of the first `count` bits, as transmitted, as a number.
 fn sent_after(kind: Kind, form: CheckForm, bits: &Bits, count: u16) -> u32
     requires { count ≤ length bits.now }
     ensures { result ≡ number (sent_check kind form (take count bits.now)) }
@@ -45,7 +45,7 @@ fn sent_after(kind: Kind, form: CheckForm, bits: &Bits, count: u16) -> u32
     }
 }
 
-/// A register that took the first so many bits.
+/// Returns a register that took the first `count` bits.
 fn taken(kind: Kind, bits: &Bits, count: u16) -> Register
     requires { count ≤ length bits.now }
     ensures { Checks result kind (take count bits.now) }
@@ -58,7 +58,7 @@ fn taken(kind: Kind, bits: &Bits, count: u16) -> Register
     register
 }
 
-/// A register that took the first so many octets.
+/// Returns a register that took the first `count` octets.
 fn octets_taken(kind: Kind, bits: &Bits, count: u16) -> Register
     requires { 8 * count ≤ length bits.now }
     ensures { Checks result kind (take (8 * count) bits.now) }
@@ -73,7 +73,7 @@ fn octets_taken(kind: Kind, bits: &Bits, count: u16) -> Register
 
 /// Takes the eight bits from a place on into a register that took all bits before them.
 ///
-/// Where the place is a multiple of 8 they lie in one word of the list, which is fetched once.
+/// If the place is a multiple of 8 they lie in one word of the list, which is fetched once.
 fn take_octet(register: &mut Register, bits: &Bits, from: u16)
     requires { from + 8 ≤ length bits.now }
     ensures { (kind : TheKind) → Checks register.old kind (take from bits.now) →

@@ -1,5 +1,4 @@
-//! Frames of a traffic channel, whatever its rate set: each rate has a format that says what its
-//! frames are made of.
+//! Frames of a traffic channel of any rate set: each rate has a format that specifies its frames.
 
 ghost use Rattle.std.specs.Prelude.{◌≡◌, ◌*◌, ◌≤◌, ◌++◌, length};
 ghost use Rattle.quality_bits.specs.Kinds.{quality_indicator};
@@ -24,7 +23,7 @@ pub struct FrameFormat<R> {
     pub rate: R,
     /// How many information bits a frame has.
     pub information: u16,
-    /// The kind of its quality indicator, where it has one.
+    /// The kind of its quality indicator, if it has one.
     pub quality: Option<Kind>,
     /// How often each code symbol is repeated.
     pub repeats: u8,
@@ -65,7 +64,7 @@ impl<R: Copy> FrameFormat<R> {
         }
     }
 
-    /// How many repeated symbols a frame has, before any are dropped: 384 or 576.
+    /// Returns how many repeated symbols a frame has, before any are dropped: 384 or 576.
     fn repeated_symbols(&self) -> u16
         ensures value { result ≡ repeated_in self.now }
         ensures most { result ≤ 576 }
@@ -77,7 +76,7 @@ impl<R: Copy> FrameFormat<R> {
         }
     }
 
-    /// How many code symbols a frame has, two a bit.
+    /// Returns how many code symbols a frame has, two a bit.
     pub fn code_symbols(&self) -> usize
         requires { IsFormat self.now }
         ensures value { result ≡ 2 * bits_in self.now }
@@ -86,7 +85,7 @@ impl<R: Copy> FrameFormat<R> {
         usize::from(self.repeated_symbols() / u16::from(self.repeats))
     }
 
-    /// Information bits, and after them the quality indicator, where frames of the rate have one.
+    /// Information bits, followed by the quality indicator if frames of the rate have one.
     fn with_quality(&self, information: &Bits) -> Bits
         requires format { IsFormat self.now }
         requires count { length information.now ≡ self.now.information }
@@ -100,8 +99,8 @@ impl<R: Copy> FrameFormat<R> {
         bits
     }
 
-    /// The bits of a frame with this information: the quality indicator stands after the
-    /// information, and the tail after both (7.1.3.5).
+    /// Returns the bits of a frame with this information: information, quality indicator, tail
+    /// (7.1.3.5).
     pub fn codeword(&self, information: &Bits) -> Bits
         requires format { IsFormat self.now }
         requires count { length information.now ≡ self.now.information }

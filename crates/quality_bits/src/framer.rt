@@ -11,10 +11,9 @@ use std::marker::Model;
 /// signaling parts of a traffic channel's frames.
 ///
 /// TIA/EIA-95-B, 7.7.1.2: a frame of the sync channel has 32 bits, the SOM bit and 31 bits of body.
-/// 7.7.3.1: a signaling part begins with the SOM bit. A frame with SOM 1 starts a capsule, and
-/// drops one that isn't complete; one with SOM 0 goes on with the open capsule, or is passed over
-/// where there is none. Contracts see the bits of the open capsule, and say for which frames the
-/// framer stands.
+/// 7.7.3.1: a signaling part begins with the SOM bit. A frame with SOM 1 starts a capsule and drops
+/// an incomplete one; a frame with SOM 0 continues the open capsule, or is ignored if there is
+/// none. Contracts see the bits of the open capsule and state which frames the framer has taken.
 #[derive(Clone, Copy, PartialEq, Eq, Debug)]
 pub struct CapsuleFramer {
     capsule: OpenCapsule,
@@ -31,7 +30,7 @@ impl Model for CapsuleFramer {
 }
 
 impl CapsuleFramer {
-    /// A framer that took no frames.
+    /// Makes a framer that has taken no frames.
     pub fn new() -> CapsuleFramer
         ensures { CapsuleStandsFor result [] }
     {
@@ -40,9 +39,7 @@ impl CapsuleFramer {
         }
     }
 
-    /// Takes a frame, and gives the capsule whose last bit lies in it: whatever frames the framer
-    /// stood for, it stands for those and this one after them, and the capsule is the one that
-    /// they end with.
+    /// Takes the next frame and returns the capsule whose last bit lies in it, if any.
     pub fn push(&mut self, frame: &Bits) -> Option<Bits>
         requires { 1 ≤ length frame.now }
         ensures stands { (frames : List (List Bool)) →

@@ -12,8 +12,8 @@ pub fn capsule_has_one_body()
         capsule kind form a ≡ capsule kind form b → a ≡ b }
 {}
 
-/// What one more piece does to a stream: the capsule that ends in it and what is under way after
-/// it follow from what was under way before it, or from no bits where it starts a message.
+/// The effect of another piece on a stream: the capsule that ends in it and the open capsule after
+/// it follow from the open capsule before it, or from no bits if it starts a message.
 pub fn one_more_piece()
     ensures under_way { (pieces : List Piece) (p : Piece) →
         under_way (pieces ++ p ∷ []) ≡

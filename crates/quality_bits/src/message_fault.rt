@@ -6,7 +6,7 @@ use thiserror::Error;
 /// Why a list of bits is no message of a channel.
 #[derive(Clone, Copy, PartialEq, Eq, Debug, Error)]
 pub enum MessageFault {
-    /// It doesn't have as many bits as its MSG_LENGTH says, or that is outside 5 to 148 octets.
+    /// Its number of bits differs from its MSG_LENGTH, or that is outside 5 to 148 octets.
     #[error("bad length")]
     BadLength,
     /// It doesn't end with its check.

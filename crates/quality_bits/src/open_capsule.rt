@@ -9,10 +9,10 @@ use crate::capsule::stated_length;
 use chip_core::Bits;
 use std::marker::Model;
 
-/// The bits of a capsule that isn't complete yet, or none where no capsule is open.
+/// The bits of a capsule that isn't complete yet, or none if no capsule is open.
 ///
-/// It closes by itself: after the capsule's last bit, and where the first 8 bits say a length
-/// outside 5 to 148 octets. Contracts see the bits since the capsule's start, where it is open.
+/// It closes by itself after the capsule's last bit, and if the first 8 bits give a length outside
+/// 5 to 148 octets. Contracts see the bits since the capsule's start, if it is open.
 #[derive(Clone, Copy, PartialEq, Eq, Debug)]
 pub struct OpenCapsule {
     bits: Option<Bits>,
@@ -32,7 +32,7 @@ impl Model for OpenCapsule {
 }
 
 impl OpenCapsule {
-    /// A capsule that begins with the next bit.
+    /// Returns a capsule that begins with the next bit.
     pub fn new() -> OpenCapsule
         ensures { result ≡ Some [] }
     {
@@ -56,10 +56,10 @@ impl OpenCapsule {
         self.bits.is_some()
     }
 
-    /// Takes the next bit, and gives the capsule that it completes.
+    /// Takes the next bit and returns the capsule that it completes, if any.
     ///
-    /// With that, or where a length outside 5 to 148 octets is told, it is closed. A bit is passed
-    /// over where no capsule is open.
+    /// It is closed then, or if its length is outside 5 to 148 octets. The bit is ignored if no
+    /// capsule is open.
     pub fn push(&mut self, bit: bool) -> Option<Bits>
         ensures goes_on { self.new ≡ continued self.old (bit ∷ []) }
         ensures gives { result ≡ completed self.old (bit ∷ []) }
@@ -70,9 +70,10 @@ impl OpenCapsule {
         front(&bits)
     }
 
-    /// Takes the bits of a piece from place `from` on, and gives the capsule that they complete.
+    /// Takes the bits of a piece from place `from` on and returns the capsule that they complete,
+    /// if any.
     ///
-    /// What follows its last bit in the piece is passed over.
+    /// Bits after the capsule's last one are ignored.
     pub fn push_all(&mut self, piece: &Bits, from: u16) -> Option<Bits>
         ensures goes_on { self.new ≡ continued self.old (drop from piece.now) }
         ensures gives { result ≡ completed self.old (drop from piece.now) }
@@ -86,11 +87,11 @@ impl OpenCapsule {
         whole
     }
 
-    /// Takes a piece whose first bit is its mark, and gives the capsule whose last bit lies in it.
+    /// Takes a piece whose first bit is its mark and returns the capsule whose last bit lies in it,
+    /// if any.
     ///
-    /// With the mark 1 a capsule begins after it, and one that isn't complete is dropped; with 0
-    /// the piece goes on with the open capsule, or is passed over where there is none. Whatever
-    /// pieces the capsule stood for, it stands for those and this one after them.
+    /// With the mark 1 a capsule begins after it, and an incomplete one is dropped; with 0 the
+    /// piece continues the open capsule, or is ignored if there is none.
     pub fn push_piece(&mut self, bits: &Bits) -> Option<Bits>
         requires { 1 ≤ length bits.now }
         ensures stands { (pieces : List (List Bool)) →
@@ -106,7 +107,8 @@ impl OpenCapsule {
     }
 }
 
-/// The capsule that a piece's bits go to: a new one where the mark is 1, else the one that is open.
+/// Returns the capsule to which a piece's bits belong: a new one if the mark is 1, otherwise the
+/// open one.
 fn from_start(mark: bool, capsule: OpenCapsule) -> OpenCapsule
     ensures { result ≡ cond mark (Some []) capsule }
 {
@@ -123,7 +125,7 @@ fn may_go_on(bits: &Bits) -> bool
     }
 }
 
-/// The capsule at the front of the bits, where all of it is there.
+/// Returns the capsule at the front of the bits, if it is complete.
 fn front(bits: &Bits) -> Option<Bits>
     ensures { result ≡ front_capsule bits.now }
 {

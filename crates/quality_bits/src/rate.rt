@@ -26,7 +26,7 @@ pub enum Rate {
 impl Rate {
     ghost use Rattle.quality_bits.specs.TrafficCodewords.{repeats_of, information_of, quality_of};
 
-    /// How many information bits a frame of a traffic channel has: 172, 80, 40 or 16
+    /// Returns how many information bits a frame of a traffic channel has: 172, 80, 40 or 16
     /// (TIA/EIA-95-B, 7.1.3.5).
     pub fn information_bits(&self) -> u16
         ensures { result ≡ information_of self.now }
@@ -34,15 +34,16 @@ impl Rate {
         format_of(*self).information
     }
 
-    /// How many bits a second are sent, frame quality indicators and encoder tails included.
+    /// Returns how many bits a second are sent, frame quality indicators and encoder tails
+    /// included.
     pub fn bits_per_second(&self) -> u16
         ensures { result * repeats_of self.now ≡ 9600 }
     {
         9600 / u16::from(self.repeats())
     }
 
-    /// How many bits a frame of 20 ms has, its frame quality indicator and encoder tail included:
-    /// 192, 96, 48 or 24.
+    /// Returns how many bits a frame of 20 ms has, its frame quality indicator and encoder tail
+    /// included: 192, 96, 48 or 24.
     pub fn frame_bits(&self) -> u16
         ensures { result * repeats_of self.now ≡ 192 }
     {
@@ -57,7 +58,7 @@ impl Rate {
         format_of(*self).quality
     }
 
-    /// How many code symbols a frame has, two to a bit: 384, 192, 96 or 48.
+    /// Returns how many code symbols a frame has, two to a bit: 384, 192, 96 or 48.
     pub fn code_symbols(&self) -> u16
         ensures { result * repeats_of self.now ≡ 384 }
     {
@@ -74,7 +75,7 @@ impl Rate {
     }
 }
 
-/// What the frames of a rate of rate set 1 are made of (TIA/EIA-95-B, 7.1.3.1.4 and 7.1.3.5).
+/// The frame formats of rate set 1 (TIA/EIA-95-B, 7.1.3.1.4 and 7.1.3.5).
 pub fn format_of(rate: Rate) -> FrameFormat<Rate>
     ensures value { result ≡ format_of rate }
     ensures format { IsFormat result }

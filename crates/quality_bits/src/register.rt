@@ -9,10 +9,9 @@ ghost use Rattle.quality_bits.specs.declared.kind.Kind.{Kind as TheKind};
 use crate::kind::Kind;
 use std::marker::Model;
 
-/// A register that computes a check while the bits go by, one shift a bit.
+/// A register that computes a check bit by bit, with one shift per bit.
 ///
-/// Contracts see its kind and what it holds, and say for which bits it stands: those that it took
-/// since it was new.
+/// Contracts see its kind and its content, and state which bits it has taken.
 #[derive(Clone, Copy, PartialEq, Eq, Debug)]
 pub struct Register {
     kind: Kind,
@@ -33,7 +32,7 @@ impl Model for Register {
 }
 
 impl Register {
-    /// A register that took no bits. It starts with all ones.
+    /// Makes a register that has taken no bits. It starts with all ones.
     pub fn new(kind: Kind) -> Register
         ensures { Checks result kind [] }
     {
@@ -44,7 +43,7 @@ impl Register {
         }
     }
 
-    /// Takes one bit: whatever bits it stood for, it stands for those and this one after them.
+    /// Takes one bit.
     pub fn push(&mut self, bit: bool)
         ensures { (kind : TheKind) (bits : List Bool) →
             Checks self.old kind bits → Checks self.new kind (bits ++ bit ∷ []) }

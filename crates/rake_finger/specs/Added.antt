@@ -1,4 +1,4 @@
--- What is known while soft values are added up.
+-- Intermediate sums of soft values.
 use Rattle.rake_finger.specs.Common.{Sample, Form}
 use Rattle.std.specs.Prelude.{◌≡◌, ℕ, ◌+◌, ◌<◌, ◌≤◌, List, get_or, ℤ, pos, ◌+ℤ◌, unsigned_abs}
 use Rattle.rake_finger.specs.Held.{Held, HoldsLast}

@@ -1,4 +1,4 @@
--- What a ring of samples holds.
+-- The samples in a ring.
 use Rattle.rake_finger.specs.Common.{Sample}
 use Rattle.std.specs.Prelude.{◌≡◌, ℕ, ◌+◌, ◌%◌, ◌<◌, ◌≤◌, List, length, get_or}
 

@@ -1,4 +1,4 @@
--- Which samples a finger needs, and which a pilot's strength.
+-- The samples that a finger needs, and those that a pilot's strength needs.
 use Rattle.rake_finger.specs.Common.{Form}
 use Rattle.std.specs.Prelude.{ℕ, ◌+◌, ◌-◌, ◌≤◌, pos, ◌≤ℤ◌}
 use Rattle.rake_finger.specs.Held.{Held}

@@ -1,4 +1,4 @@
--- The signs of a Walsh row's chips, and signs of the code that the row's have turned.
+-- The signs of a Walsh row's chips, and signs of the code multiplied by them.
 use Rattle.rake_finger.specs.Common.{sign, walsh}
 use Rattle.std.specs.Prelude.{◌≡◌, ℕ, suc, ◌%◌, ◌<◌, ◌≤◌, List, [], ◌∷◌, get_or, ℤ, pos, ◌*ℤ◌}
 use Rattle.std.specs.Prelude.{unsigned_abs}

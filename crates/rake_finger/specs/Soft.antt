@@ -1,4 +1,4 @@
--- Soft values of fingers: what a symbol's chips add up to, turned by the pilot.
+-- Soft values of fingers: the sum of a symbol's chips, turned by the pilot.
 use Rattle.rake_finger.specs.Common.{sign, places, times, conjugate, sum_of, total, Sample, walsh}
 use Rattle.rake_finger.specs.Common.{Form}
 use Rattle.std.specs.Prelude.{ℕ, suc, ◌+◌, ◌*◌, ◌/◌, ◌%◌, ◌^◌, List, [], ◌∷◌, map, take, drop, ℤ}

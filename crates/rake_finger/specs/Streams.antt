@@ -1,4 +1,4 @@
--- Where the frames of a channel lie in a file, and what they are decoded from.
+-- The places of a channel's frames in a file, and what they are decoded from.
 use Rattle.rake_finger.specs.Common.{places, Sample, Form}
 use Rattle.std.specs.Prelude.{ℕ, zero, suc, ◌+◌, ◌-◌, ◌*◌, Bool, if◌then◌else◌, ◌==◌, ◌&&◌, List, ℤ}
 use Rattle.std.specs.Prelude.{[], ◌∷◌, filter, max, pos, ◌+ℤ◌, ◌-ℤ◌, unsigned_abs, nat_le, int_le}

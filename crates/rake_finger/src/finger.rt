@@ -19,7 +19,7 @@ pub struct Finger {
     pub row: u8,
 }
 
-/// The phase so many chips above another, modulo the period of the codes.
+/// Returns the phase `delta` chips above another, modulo the period of the codes.
 fn phase_above(phase: Phase, delta: i8) -> Phase
     ensures { result ≡ modulo_code (pos phase +ℤ delta) }
 {
@@ -27,7 +27,7 @@ fn phase_above(phase: Phase, delta: i8) -> Phase
     Phase::new(number as u16).unwrap()
 }
 
-/// The finger that receives a row so many chips earlier than at a phase.
+/// Makes the finger that receives a row `delta` chips earlier than at a phase.
 pub fn finger_at(row: u8, phase: Phase, delta: i8) -> Finger
     ensures value { result ≡ finger_of row phase delta }
     ensures near { is_near result.delta ≡ true }
@@ -69,7 +69,7 @@ impl Fingers {
         }
     }
 
-    /// How many fingers there are, 1 to 8.
+    /// Returns how many fingers there are, 1 to 8.
     pub fn len(&self) -> u8
         ensures value { result ≡ length self.now }
         ensures least { 1 ≤ result }
@@ -94,7 +94,7 @@ impl Fingers {
         &self.items[..usize::from(self.count)]
     }
 
-    /// Adds a finger at the end; `Full` exactly where there are 8, and the list is unchanged then.
+    /// Adds a finger at the end; `Full` exactly if there are 8, and the list is unchanged then.
     pub fn push(&mut self, finger: Finger) -> Result<(), Full>
         ensures room { IsOk result ↔ (length self.old < 8) }
         ensures ok { OnOk result (self.new ≡ self.old ++ finger ∷ []) }

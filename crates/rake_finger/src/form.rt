@@ -17,7 +17,7 @@ pub enum Form {
 }
 
 impl Form {
-    /// How many chips a symbol has.
+    /// Returns how many chips a symbol has.
     pub(crate) fn symbol_chips(self) -> u16
         ensures { result ≡ symbol_chips self }
     {
@@ -27,7 +27,7 @@ impl Form {
         }
     }
 
-    /// How many chips a window has.
+    /// Returns how many chips a window has.
     pub(crate) fn window_chips(self) -> u16
         ensures { result ≡ window_chips self }
     {
@@ -37,7 +37,7 @@ impl Form {
         }
     }
 
-    /// How many windows a frame has.
+    /// Returns how many windows a frame has.
     pub(crate) fn windows(self) -> u16
         ensures { result ≡ windows self }
     {
@@ -47,7 +47,7 @@ impl Form {
         }
     }
 
-    /// How many symbols a window has.
+    /// Returns how many symbols a window has.
     pub(crate) fn window_symbols(self) -> u16
         ensures { result ≡ window_symbols self }
     {

@@ -14,7 +14,7 @@ pub fn frames_stay_small()
     ensures three_frames { (form : Form) → 3 * (3 * (symbols form * soft_bound form)) ≤ 2 ^ 62 }
 {}
 
-/// A pilot's strength depends on its phase modulo the code's period alone.
+/// A pilot's strength depends only on its phase modulo the code's period.
 pub fn strengths_repeat()
     ensures { (samples : List Sample) (a b window : ℕ) → window ≤ 65536 →
         a % 32768 ≡ b % 32768 →

@@ -8,7 +8,7 @@
 //! (7.1.3.1.8), is turned by it and weighed by it. The soft value of a symbol is the real part, and
 //! the sum of it over all fingers.
 //!
-//! A pilot's strength is the greatest energy of the last samples near the phase where it should be.
+//! A pilot's strength is the largest energy of the last samples near the phase where it should be.
 #![tactic(auto)]
 
 mod combining;

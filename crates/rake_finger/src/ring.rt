@@ -35,7 +35,7 @@ impl Model for SampleRing {
 }
 
 impl SampleRing {
-    /// A ring that has taken no sample yet, with room for the last `room`.
+    /// Makes a ring that has taken no sample, with room for the last `room`.
     ///
     /// It allocates four bytes for each of them, and that is all that can fail.
     pub fn new(alloc: Global, room: u32) -> Result<SampleRing, OutOfMemory>
@@ -47,7 +47,7 @@ impl SampleRing {
         Ok(SampleRing { cells, taken: 0 })
     }
 
-    /// How many samples it has taken.
+    /// Returns how many samples it has taken.
     pub fn taken(&self) -> u64
         ensures value { result ≡ self.now.taken }
         ensures most { result ≤ 2 ^ 63 }
@@ -55,7 +55,7 @@ impl SampleRing {
         self.taken
     }
 
-    /// Takes one more sample into the cell that is next.
+    /// Takes another sample into the cell that is next.
     fn put(&mut self, cell: usize, s: Sample)
         requires next { cell ≡ self.old.taken % self.old.room }
         requires few { self.old.taken < 2 ^ 63 }
@@ -68,7 +68,7 @@ impl SampleRing {
         self.taken += 1;
     }
 
-    /// Takes one more sample, in place of the oldest where the room is full.
+    /// Takes another sample, in place of the oldest if the room is full.
     pub fn push(&mut self, s: Sample)
         requires { self.old.taken < 2 ^ 63 }
         ensures room { self.new.room ≡ self.old.room }
@@ -113,7 +113,7 @@ impl SampleRing {
         if cell < last { cell + 1 } else { 0 }
     }
 
-    /// How many cells there are from a cell on.
+    /// Returns how many cells there are from a cell on.
     pub(crate) fn cells_from(&self, cell: usize) -> usize
         requires { cell < self.now.room }
         ensures { result ≡ self.now.room - cell }

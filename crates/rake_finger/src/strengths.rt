@@ -20,8 +20,8 @@ fn phase_of(chip: u64) -> Phase
     Phase::new((chip % CODE_CHIPS) as u16).unwrap()
 }
 
-/// Of so many phases from `lowest` on, across the code's end, the greatest energy of the samples
-/// and its place, the least on a tie.
+/// Returns the largest energy of the samples over consecutive phases from `lowest` on, across the
+/// code's end, and its place, the first on a tie.
 fn strongest(samples: &[Sample], codes: &Codes, lowest: u64, count: u16) -> (u64, u16)
     requires samples { length samples.now ≤ 512 }
     requires lowest { lowest ≤ 2 ^ 63 + 2 ^ 16 }
@@ -40,12 +40,12 @@ fn strongest(samples: &[Sample], codes: &Codes, lowest: u64, count: u16) -> (u64
     (most, best)
 }
 
-/// The strength of a pilot over the 512 samples before `end`, counted from sample 0: the greatest
+/// The strength of a pilot over the 512 samples before `end`, counted from sample 0: the largest
 /// energy of a window of phases, and its delta in chips.
 ///
 /// `phase` is the chip of the code that falls on sample 0 at a delta of 0. The deltas run from
 /// `-window / 2` to `window / 2`; at each of them the samples are correlated with the code that
-/// many chips further on, and of several with the greatest energy the least is taken. The ring
+/// many chips further on, and of several with the largest energy the smallest is taken. The ring
 /// still holds the samples. Of zeros, the energy is 0 and the delta `-window / 2`.
 pub fn strength(ring: &SampleRing, codes: &Codes, phase: Phase, window: u16, end: u64) -> (u64, i16)
     requires ring { HoldsBefore ring.now end }

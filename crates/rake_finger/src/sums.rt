@@ -18,8 +18,8 @@ use chip_core::air::{CODE_CHIPS, PILOT_ROW, WALSH_CHIPS};
 use chip_core::{Pair, Phase, Sample};
 use short_code::{Codes, despread, signs_of};
 
-/// A sample times the conjugate of the codes' point with these chips, turned in sign where the chip
-/// of the Walsh row is a 1.
+/// Returns a sample times the conjugate of the codes' point with these chips, negated if the chip
+/// of the Walsh row is 1.
 fn covered(sample: Sample, chips: (bool, bool), row_chip: bool) -> Pair
     ensures value { result ≡
         times (record {
@@ -33,7 +33,7 @@ fn covered(sample: Sample, chips: (bool, bool), row_chip: bool) -> Pair
     despread(sample, signs_of(i != row_chip, q != row_chip))
 }
 
-/// The sum of so many samples from a place on, despread, each with the sign of its chip of a Walsh
+/// Returns the sum of despread samples from a place on, each with the sign of its chip of a Walsh
 /// row.
 ///
 /// The code's chip of this phase falls on sample 0, and the row's chip 0 on the sample at the

@@ -1,4 +1,4 @@
--- The frames of rate set 2, and what is decoded of one.
+-- The frames of rate set 2, and how one is decoded.
 use Rattle.std.specs.Prelude.{ℕ, Bool, List, [], ◌∷◌, map, ℤ}
 use Rattle.viterbi.specs.Codewords.{Codeword}
 use Rattle.frame_decoder.specs.Formats.{symbols_in, frame_of}

@@ -28,9 +28,9 @@ pub struct Decoded2 {
 /// scrambling, and `places` the places of the power control bits, whose soft values count as 0, as
 /// those of dropped symbols do. Of each rate the best codeword is found, of those that start from
 /// eight zeros and end with eight zeros, and is a candidate where its quality indicator is right.
-/// The candidate of the greatest score is taken, the higher rate on a tie, and is good exactly
-/// where that score is above 0. Where it isn't, and where there is no candidate, the rate is
-/// 14,400, with the information bits of the best codeword at that rate.
+/// The candidate of the largest score is taken, the higher rate on a tie, and is good exactly if
+/// that score is above 0. If it isn't, and if there is no candidate, the rate is 14,400, with the
+/// information bits of the best codeword at that rate.
 pub fn traffic2_frame(decoder: &mut Decoder, softs: &FrameSofts, places: &PowerPlaces) -> Decoded2
     requires room { 288 ≤ decoder.old }
     requires bound { sum_by unsigned_abs softs.now ≤ 2 ^ 62 }

@@ -153,7 +153,7 @@ impl Gate for Queue {
 /// worker 0 has left: few, where worker 0 doesn't work between arriving and leaving.
 #[derive(Drop)]
 pub struct Watch {
-    /// Whether worker 1 is there, 1 where it is,
+    /// Whether worker 1 is there, 1 if it is,
     there: AtomicU64,
     /// whether worker 0 has begun,
     begun: AtomicU64,

@@ -105,7 +105,7 @@ fn leaves_a_phase_that_is_surely_below(rt: HostRuntime) -> Result<(), Fail> {
     Ok(())
 }
 
-/// How many phases one worker leaves that tries all in order.
+/// Returns how many phases one worker leaves that tries all in order.
 #[tactic(auto, using(pilot_search::proofs::FoundLemmas::at_most_greatest))]
 fn left_in_order(alloc: Global, samples: &[Sample], codes: &Codes) -> Result<u64, OutOfMemory>
     requires { length samples.now ≤ 32768 }

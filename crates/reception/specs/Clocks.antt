@@ -1,4 +1,4 @@
--- The clock of a channel's frames, and what it stands for.
+-- The clock of a channel's frames, and its meaning.
 use Rattle.std.specs.Prelude.{◌≡◌, ◌⊎◌, ℕ, ◌+◌, ◌-◌, ◌*◌, ◌<◌, if◌then◌else◌, nat_lt, Bool, true}
 use Rattle.std.specs.Prelude.{List}
 use Rattle.rake_finger.specs.Soft.{frame_chips}

@@ -1,4 +1,4 @@
--- What a continued channel stands for as it is received.
+-- The state of the receiver of a continued channel.
 use Rattle.std.specs.Prelude.{◌≡◌, ℕ, ◌+◌, ◌-◌, ◌≤◌, true, List, length}
 use Rattle.std.specs.List.{flat_map}
 use Rattle.chip_core.specs.Bits.{places}

@@ -1,4 +1,4 @@
--- What always holds of a receiver's parts: they fit one another, and no number is large.
+-- The invariants of a receiver's parts: they fit one another, and no number is large.
 use Rattle.std.specs.Prelude.{◌≡◌, ◌+◌, ◌*◌, ◌^◌, ◌<◌, ◌≤◌, true, length}
 use Rattle.rake_finger.specs.Near.{AreBegun, AreClose, AreNear, have_rows}
 use Rattle.rake_finger.specs.Soft.{frame_chips, symbols}

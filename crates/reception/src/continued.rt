@@ -10,12 +10,12 @@ use rake_finger::{Fingers, Form, SampleRing, combine_into};
 use short_code::Codes;
 use viterbi::Decoder;
 
-/// A channel whose encoder goes on from frame to frame, as it is received: each of its frames is
-/// decoded together with the frame before it and the frame after it, where these lie in the file
-/// (TIA/EIA-95-B, 7.1.3.1.3).
+/// The receiver of a channel whose encoder continues from frame to frame: each frame is decoded
+/// together with the previous and the next one, as far as these are in the file (TIA/EIA-95-B,
+/// 7.1.3.1.3).
 #[derive(Drop)]
 pub struct Continued {
-    /// Where the frames lie, and how far they have come.
+    /// If the frames lie, and how far they have come.
     pub clock: FrameClock,
     /// The paths that it is received on.
     pub fingers: Fingers,
@@ -58,7 +58,7 @@ impl Continued {
     }
 
     /// Takes the soft values of the frame whose last sample has just come. `scrambling` has a bit
-    /// for each of its symbols, or none where the channel isn't scrambled.
+    /// for each of its symbols, or none if the channel isn't scrambled.
     pub fn take_frame(&mut self, ring: &SampleRing, codes: &Codes, scrambling: &[bool])
         requires sound { IsSoundChannel self.old }
         requires near { self.old.clock.have ≤ self.old.clock.next + 1 }
@@ -86,7 +86,7 @@ impl Continued {
         clock.advance();
     }
 
-    /// The own bits of the next frame, where it has come.
+    /// The own bits of the next frame, if it has come.
     pub fn own_bits(&self, decoder: &mut Decoder, kind: FrameKind) -> Bits
         requires sound { IsSoundChannel self.now }
         requires come { self.now.clock.next < self.now.clock.have }

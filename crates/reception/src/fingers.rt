@@ -12,7 +12,7 @@ use chip_core::air::{DATA_FRAME_CHIPS, DATA_SYMBOLS, SYNC_FRAME_CHIPS, SYNC_SYMB
 use pilot_search::Near;
 use rake_finger::{Finger, Fingers, Form, finger_at};
 
-/// How many chips a frame has.
+/// Returns how many chips a frame has.
 pub(crate) fn frame_chips(form: Form) -> u64
     ensures value { result ≡ frame_chips form }
     ensures least { 256 ≤ result }
@@ -24,7 +24,7 @@ pub(crate) fn frame_chips(form: Form) -> u64
     }
 }
 
-/// How many symbols a frame has.
+/// Returns how many symbols a frame has.
 pub(crate) fn frame_symbols(form: Form) -> usize
     ensures value { result ≡ symbols form }
     ensures most { result ≤ 384 }
@@ -77,7 +77,7 @@ pub(crate) fn are_begun(fingers: &Fingers, start: u64) -> bool
     true
 }
 
-/// Where one finger's frame ends that begins at a reference sample.
+/// Returns where one finger's frame ends that begins at a reference sample.
 fn end_of(finger: &Finger, form: Form, start: u64) -> u64
     requires close { is_close finger.now ≡ true }
     requires start { start < 2 ^ 30 }
@@ -87,7 +87,7 @@ fn end_of(finger: &Finger, form: Form, start: u64) -> u64
     (reference - i64::from(finger.delta)) as u64
 }
 
-/// Where the last of the fingers' frames ends that begin at a reference sample.
+/// Returns where the last of the fingers' frames ends that begin at a reference sample.
 pub fn frames_end(fingers: &Fingers, form: Form, start: u64) -> u64
     requires close { all_close fingers.now ≡ true }
     requires start { start < 2 ^ 30 }

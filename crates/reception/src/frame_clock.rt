@@ -1,9 +1,9 @@
-//! Where the frames of a channel lie in a file, and how far they have come.
+//! If the frames of a channel lie in a file, and how far they have come.
 
 use crate::fingers::{are_begun, frame_chips, frames_end};
 use rake_finger::{Fingers, Form};
 
-/// Where the frames of a channel lie in a file, and how far they have come.
+/// If the frames of a channel lie in a file, and how far they have come.
 #[derive(Clone, Copy)]
 pub struct FrameClock {
     /// How the channel's frames are cut.
@@ -12,7 +12,7 @@ pub struct FrameClock {
     pub waits: bool,
     /// The number of the first frame in the file.
     pub low: u64,
-    /// The number of the frame that is heard next.
+    /// The number of the frame that is decoded next.
     pub next: u64,
     /// The number of the frame whose samples come next.
     pub have: u64,
@@ -76,8 +76,8 @@ impl FrameClock {
         }
     }
 
-    /// Whether the frame that is heard next is known, in a file of so many samples: it has come,
-    /// and where it waits the frame after it has come, or isn't in the file.
+    /// Whether the frame that is decoded next is complete, in a file of this many samples: it has
+    /// come, and if it waits for the next frame, that has come too or is not in the file.
     pub fn is_due(&self, count: u64) -> bool
         requires { IsSoundClock self.now }
         ensures { IsTrue result ↔ IsDueAt count self.now }
@@ -99,7 +99,7 @@ impl FrameClock {
         self.have += 1;
     }
 
-    /// One frame more has been heard.
+    /// Counts another decoded frame.
     pub fn hear(&mut self)
         requires sound { IsSoundClock self.old }
         requires come { self.old.next < self.old.have }
@@ -123,8 +123,8 @@ impl FrameClock {
         }
     }
 
-    /// The frames that the next frame is decoded with: the frame before it, where it is in the
-    /// file, and the frame after it, where that has come.
+    /// Returns the frames with which the next frame is decoded: the previous one, if it is in the
+    /// file, and the following one, if it has come.
     pub fn span(&self) -> Span
         requires sound { IsSoundClock self.now }
         requires come { self.now.next < self.now.have }

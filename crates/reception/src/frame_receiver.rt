@@ -9,11 +9,11 @@ use frame_decoder::FrameSofts;
 use rake_finger::{Fingers, Form, SampleRing, combine_into};
 use short_code::Codes;
 
-/// The receiver of a channel's frames, each of which is received by itself: where they lie, the
-/// fingers that hear the next one, and how they are scrambled (TIA/EIA-95-B, 7.1.3.1.6).
+/// The receiver of a channel's frames, each received by itself: where they lie, the fingers for the
+/// next one, and how they are scrambled (TIA/EIA-95-B, 7.1.3.1.6).
 #[derive(Drop)]
 pub struct FrameReceiver {
-    /// Where the frames lie, and how far they have come.
+    /// If the frames lie, and how far they have come.
     pub clock: FrameClock,
     /// The fingers of the frame that comes next.
     pub fingers: Fingers,
@@ -57,8 +57,7 @@ impl FrameReceiver {
         }
     }
 
-    /// The soft values of the frame whose last sample has just come, as the fingers hear them: no
-    /// scrambling turns them.
+    /// Computes the soft values of the frame whose last sample has just come, without descrambling.
     pub fn raw(&self, ring: &SampleRing, codes: &Codes) -> FrameSofts
         requires sound { IsSoundReceiver self.now }
         requires room { ring.now.room ≡ 65536 }
@@ -87,7 +86,7 @@ impl FrameReceiver {
         unscramble(&self.scrambling.frame_bits(frame), softs);
     }
 
-    /// The frame has come whose last sample has just come: goes on to the one after it.
+    /// Notes that the frame has come, and proceeds to the next one.
     pub fn advance(&mut self)
         requires sound { IsSoundReceiver self.old }
         requires near { self.old.clock.have ≤ self.old.clock.next + 1 }
@@ -99,7 +98,7 @@ impl FrameReceiver {
         self.clock.advance();
     }
 
-    /// One frame more has been heard.
+    /// Counts another decoded frame.
     pub fn hear(&mut self)
         requires sound { IsSoundReceiver self.old }
         requires come { self.old.clock.next < self.old.clock.have }

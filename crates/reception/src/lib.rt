@@ -1,5 +1,5 @@
-//! How the frames of a channel are received: the clock that says where they lie in a file, the
-//! fingers that hear them, their soft values, and how these are descrambled.
+//! Receives the frames of a channel: the clock that gives their places in a file, the fingers that
+//! receive them, their soft values, and their descrambling.
 #![tactic(auto)]
 
 mod continued;

@@ -11,7 +11,7 @@ use chip_core::air::SPAN_SYMBOLS;
 /// The soft values of a channel's last three frames, one for each symbol, the newest at the end.
 pub type SpanSofts = [i64; SPAN_SYMBOLS];
 
-/// A soft value, turned in sign where its scrambling bit is 1.
+/// Returns a soft value, negated if its scrambling bit is 1.
 fn descrambled_value(bit: bool, soft: i64) -> i64
     requires { unsigned_abs soft ≤ 2 ^ 62 }
     ensures value { result ≡ sign bit *ℤ soft }
@@ -20,7 +20,7 @@ fn descrambled_value(bit: bool, soft: i64) -> i64
     if bit { -soft } else { soft }
 }
 
-/// Turns each soft value in sign whose scrambling bit is 1, where there are any (TIA/EIA-95-B,
+/// Turns each soft value in sign whose scrambling bit is 1, if there are any (TIA/EIA-95-B,
 /// 7.1.3.1.6).
 pub fn unscramble(bits: &[bool], softs: &mut [i64])
     requires bits { Scrambles bits.now (length softs.old) }

@@ -16,8 +16,8 @@ ghost use Rattle.cell_script.specs.Spelling.{script_of};
 ghost use Rattle.cell_plan.specs.declared.plan.CellPlan.{CellPlan};
 ghost use Rattle.cell_script.specs.declared.script_fault.ScriptFault.TheVariants.{Line};
 
-/// `Line { n }` is the least number n, counted from 1, such that no script whose lines state a plan
-/// begins with lines 1 to n. Where a script ends too early n is the number of the line after the
+/// `Line { n }` is the smallest number n, counted from 1, such that no script whose lines state a
+/// plan begins with lines 1 to n. If a script ends too early n is the number of the line after the
 /// last, and some script whose lines state a plan begins with all of its lines.
 pub fn line_fault_is_the_first_that_no_script_has()
     ensures counted { (script : List ℕ) (n : ℕ) → stated_plan script ≡ Err n → 1 ≤ n }
@@ -32,8 +32,8 @@ pub fn line_fault_is_the_first_that_no_script_has()
         (take m (lines other) ≡ take m (lines script)) }
 {}
 
-/// A script is answered `Line { n }` exactly where it isn't too big, and its lines state no plan
-/// with this n.
+/// A script is answered `Line { n }` exactly if it isn't too big, and its lines state no plan with
+/// this n.
 pub fn line_faults_come_first()
     ensures { (width : TheWidth) (script : List ℕ) (n : ℕ) →
         (plan_named width script ≡ Err (Line n)) ↔

@@ -4,7 +4,7 @@
 //! A clean link is a sample file that holds what one cell sends over one path, without noise. The
 //! bits of a slot come from its four frames alone: the span of the slot's first frame has none
 //! before it, and the span of its last none after it. On a clean link they are still the bits that
-//! were sent, because the sent codeword has the greatest score in any span of frames. So the
+//! were sent, because the sent codeword has the largest score in any span of frames. So the
 //! messages of a slot are the pages whose run begins in it and which end in it, in order, and the
 //! lines of a file's slots are, slot by slot, what the cell sends. That is so beside noise too, of
 //! any size that the sync channel and the paging channel bear.

@@ -15,15 +15,14 @@ use paging_message::HalfBits;
 use symbol_path::Rate;
 use viterbi::Decoder;
 
-/// The first frame of the span of a slot's frame: the one before it, where there is one.
+/// The first frame of the span of a slot's frame: the one before it, if there is one.
 fn span_first(frame: u8) -> u8
     ensures { result ≡ slot_span_first frame }
 {
     if frame == 0 { 0 } else { frame - 1 }
 }
 
-/// The frame at which the span ends: the one after the next, or where there is none, the slot's
-/// end.
+/// Returns the frame at which the span ends: the one after the next, or the slot's end.
 fn span_end(frame: u8) -> u8
     requires { frame < 4 }
     ensures { result ≡ span_end frame }
@@ -69,8 +68,8 @@ fn append_all(out: &mut HalfBits, bits: &Bits)
 /// first frame has none before it, the last has none after it, and no frame of another slot is
 /// used. The decoder takes three frames' bits.
 ///
-/// TIA/EIA-95-B, 6.6.2.1.1.3: a handset in slotted mode hears its slots; 7.1.3.4: a slot of 80 ms
-/// has four frames.
+/// TIA/EIA-95-B, 6.6.2.1.1.3: a handset in slotted mode receives its slots; 7.1.3.4: a slot of 80
+/// ms has four frames.
 pub fn slot_bits(_wake: &Wake, decoder: &mut Decoder, rate: Rate, softs: &[i64; 1536]) -> HalfBits
     requires room { (paging_channel rate).bits * 3 ≤ decoder.old }
     requires bound { (frame : ℕ) → frame < 4 →

@@ -3,9 +3,9 @@
 ghost use Rattle.slot_mode.specs.Laws.{ComesAgain, ComesInTime, ComesOnce, HasOneRemainder};
 ghost use Rattle.slot_mode.specs.Laws.{IsAmongShorter, IsOfNeighbours, IsHeardAsEver};
 
-/// A handset monitors one slot in each cycle: of as many times in a row as its cycle has slots just
-/// one, and with it each that is a whole number of cycles later. So all of its times have one
-/// remainder, and no others have it.
+/// A handset monitors one slot in each cycle: exactly one of as many consecutive times as its cycle
+/// has slots, and with it each time that is a whole number of cycles later. So all of its times
+/// have one remainder, and no others have it.
 pub fn one_slot_in_each_cycle()
     ensures again { ComesAgain }
     ensures in_time { ComesInTime }
@@ -19,8 +19,8 @@ pub fn longer_cycles_skip_slots()
 {}
 
 /// The frames of a span are the frame itself and its neighbours among the slot's four. The two
-/// frames in the middle have both neighbours there, and so just the bits that a handset which never
-/// sleeps gives them.
+/// middle frames have both neighbours there, so their bits are those that a handset which never
+/// sleeps decodes.
 pub fn spans_lie_in_the_slot()
     ensures neighbours { IsOfNeighbours }
     ensures middle { IsHeardAsEver }

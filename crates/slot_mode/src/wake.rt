@@ -9,7 +9,7 @@ use std::marker::Model;
 /// How many slots the shortest cycle has, 1.28 seconds.
 const SHORTEST_CYCLE: u64 = 16;
 
-/// How many slots a cycle of this index has.
+/// Returns how many slots a cycle of this index has.
 fn period(cycle: u8) -> u64
     requires { cycle ≤ 7 }
     ensures { result ≡ slot_period cycle }
@@ -56,8 +56,8 @@ impl Model for Wake {
 }
 
 impl Wake {
-    /// The handset of a key, awake at a time; `None` exactly where it doesn't monitor the slot of
-    /// this time in its cycle, whose index is 0 to 7.
+    /// The handset of a key, awake at a time; `None` exactly if it doesn't monitor the slot of this
+    /// time in its cycle, whose index is 0 to 7.
     pub fn new(time: u64, key: u32, cycle: u8) -> Option<Wake>
         requires { cycle ≤ 7 }
         ensures { SomeIff result (IsTrue (is_monitored time key cycle))

@@ -1,4 +1,4 @@
--- The symbols that a frame sends, by the format of its rate, whatever the rate set.
+-- The transmitted symbols of a frame, by the format of its rate in any rate set.
 use Rattle.std.specs.Prelude.{ℕ, ◌*◌, ◌/◌, Bool, false, if◌then◌else◌, List, replicate, ℤ}
 use Rattle.conv_code.specs.ConvCode.{code_symbols}
 use Rattle.quality_bits.specs.Formats.{bits_in, format_codeword}

@@ -1,4 +1,4 @@
--- The bits of the frames of rate set 2, and their symbols as they are sent.
+-- The bits of the frames of rate set 2, and their transmitted symbols.
 use Rattle.std.specs.Prelude.{Bool, List}
 use Rattle.quality_bits.specs.Formats.{format_codeword}
 use Rattle.symbol_path.specs.declared.rate_two.Rate2.{Rate2}

@@ -1,4 +1,4 @@
--- The rates of rate set 2, and what a frame of each has.
+-- The rates of rate set 2, and the sizes of a frame of each.
 use Rattle.std.specs.Prelude.{ℕ, ◌/◌, true, Option, Some}
 use Rattle.quality_bits.specs.Formats.{RateRow, bits_in, format_by}
 use Rattle.quality_bits.specs.declared.format.FrameFormat.{FrameFormat}

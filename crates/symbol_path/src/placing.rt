@@ -25,7 +25,7 @@ pub(crate) enum SentSymbols {
 }
 
 impl SentSymbols {
-    /// How many symbols a frame sends.
+    /// Returns how many symbols a frame sends.
     fn count(self) -> u16
         ensures { result ≡ sent_count self }
     {

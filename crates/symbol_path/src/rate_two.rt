@@ -46,7 +46,7 @@ impl Rate2 {
         format_of2(*self).repeats
     }
 
-    /// How many code symbols a frame has, two to a bit: 576, 288, 144 or 72.
+    /// Returns how many code symbols a frame has, two to a bit: 576, 288, 144 or 72.
     pub fn code_symbols(&self) -> u16
         ensures value { result ≡ symbols_of self.now }
         ensures most { result ≤ 576 }
@@ -54,14 +54,15 @@ impl Rate2 {
         REPEATED_SYMBOLS as u16 / u16::from(self.repeats())
     }
 
-    /// How many bits a second are sent, frame quality indicators and encoder tails included.
+    /// Returns how many bits a second are sent, frame quality indicators and encoder tails
+    /// included.
     pub fn bits_per_second(&self) -> u16
         ensures { result * repeats_of2 self.now ≡ 14400 }
     {
         14400 / u16::from(self.repeats())
     }
 
-    /// How many information bits a frame has, the reserved bit first: 268, 126, 56 or 22.
+    /// Returns how many information bits a frame has, the reserved bit first: 268, 126, 56 or 22.
     pub fn information_bits(&self) -> u16
         ensures { result ≡ information_of2 self.now }
     {

@@ -76,8 +76,8 @@ fn group_bits(state: &mut State, mask: u64) -> [bool; 24]
 /// in rising order.
 ///
 /// TIA/EIA-95-B, 7.1.3.1.7: a frame has 16 groups of 24 symbols, and in each a power control bit
-/// takes the place of two symbols. Where it begins, the scrambling bits of the group before say;
-/// that of the first group is in the frame before.
+/// takes the place of two symbols. If it begins, the scrambling bits of the group before say; that
+/// of the first group is in the frame before.
 pub fn power_places(state: &State, mask: u64) -> PowerPlaces
     requires { mask < 2 ^ 42 }
     ensures value { result ≡ power_places state.now mask }

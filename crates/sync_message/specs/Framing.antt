@@ -1,4 +1,4 @@
--- The frames of the sync channel: the SOM bit, 1 where a message starts, and 31 bits of body.
+-- The frames of the sync channel: the SOM bit, which is 1 if a message starts, and 31 bits of body.
 use Rattle.std.specs.Prelude.{ℕ, ◌+◌, ◌/◌, Bool, List, length}
 pub use Rattle.quality_bits.specs.Pieces.{CapsuleStandsFor}
 

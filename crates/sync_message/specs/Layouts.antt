@@ -1,4 +1,4 @@
--- The layout of what stands after the message type, and what the message says as contents of it.
+-- The layout after the message type, and the message as contents of it.
 use Rattle.sync_message.specs.Common.{SyncFields}
 use Rattle.std.specs.Prelude.{ℕ, ◌==◌, if◌then◌else◌, Bool, List, [], ◌∷◌, get_or, Option, None}
 use Rattle.std.specs.Prelude.{Some}

@@ -1,5 +1,5 @@
--- The message that a capsule spells, as a function of its bits: each field is the number that
--- stands at its place.
+-- The message that a capsule spells, as a function of its bits: each field is the number at its
+-- place.
 use Rattle.sync_message.specs.Common.{if_spelled, SyncFields}
 use Rattle.std.specs.Prelude.{◌-◌, ◌%◌, ◌==◌, ◌&&◌, Bool, if◌then◌else◌, List, length, take, drop}
 use Rattle.std.specs.Prelude.{nat_le, Option, None}

@@ -1,4 +1,4 @@
--- What stands after the fields that each message has.
+-- The bits after the fields that each message has.
 use Rattle.std.specs.Prelude.{ℕ, ◌≡◌, ◌≤◌, ◌<◌, ◌%◌, ◌^◌, Bool, List, length, Option, Some, None}
 use Rattle.sync_message.specs.Rows.{freq_row}
 

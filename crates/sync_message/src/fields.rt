@@ -2,15 +2,15 @@
 
 use chip_core::Bits;
 
-/// What a Sync Channel Message says, each field as a number of the width that the standard gives
-/// it.
+/// The content of a Sync Channel Message, each field as a number of the width that the standard
+/// gives it.
 ///
 /// TIA/EIA-95-B, 7.7.1.3.
 #[derive(Clone, Copy, PartialEq, Eq, Debug)]
 pub struct SyncFields {
     /// P_REV, 8 bits: the revision of the protocol.
     pub prev: u8,
-    /// MIN_P_REV, 8 bits: the least revision that a mobile station needs.
+    /// MIN_P_REV, 8 bits: the smallest revision that a mobile station needs.
     pub min: u8,
     /// SID, 15 bits: the system's number.
     pub sid: u16,
@@ -26,7 +26,7 @@ pub struct SyncFields {
     pub lp: u8,
     /// LTM_OFF, 6 bits: the offset of the local time, in units of 30 minutes.
     pub ltm: u8,
-    /// DAYLT, 1 bit: 1 where daylight saving time is in effect.
+    /// DAYLT, 1 bit: 1 if daylight saving time is in effect.
     pub daylt: u8,
     /// PRAT, 2 bits: the data rate of the paging channel.
     pub prat: u8,

@@ -40,7 +40,7 @@ impl Model for SyncMessage {
 }
 
 impl SyncMessage {
-    /// The message of these fields; `None` exactly where a value doesn't fit its width, or the rest
+    /// The message of these fields; `None` exactly if a value doesn't fit its width, or the rest
     /// hasn't a length that is admitted: 3 bits without a frequency, and 0 to 976 in steps of 8
     /// with one.
     pub fn new(fields: SyncFields) -> Option<SyncMessage>
@@ -53,7 +53,7 @@ impl SyncMessage {
         }
     }
 
-    /// What the message says.
+    /// Returns the content of the message.
     pub fn fields(&self) -> SyncFields
         ensures value { result ≡ self.now }
         ensures spelled { IsSyncMessage result }
@@ -77,10 +77,9 @@ impl SyncMessage {
 
     /// The message that a capsule spells, as `sync_reading` defines it.
     ///
-    /// `BadLength` exactly where the list isn't as long as its MSG_LENGTH says, or that is outside
-    /// 5 to 148 octets; else
-    /// `BadCheck` exactly where the check differs; else `BadBody` exactly where the body isn't that
-    /// of a message.
+    /// `BadLength` exactly if the list isn't as long as its MSG_LENGTH says, or that is outside 5
+    /// to 148 octets; else `BadCheck` exactly if the check differs; else `BadBody` exactly if the
+    /// body isn't that of a message.
     pub fn decode(capsule: &Bits, form: CheckForm) -> Result<SyncMessage, MessageFault>
         ensures found { IfOk result (λ m. IsSyncMessage m × (capsule.now ≡ sync_capsule form m)) }
         ensures only { (m : TheFields) → IsSyncMessage m → capsule.now ≡ sync_capsule form m →

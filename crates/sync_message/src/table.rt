@@ -5,8 +5,8 @@ ghost use Rattle.sync_message.specs.Rows.{sync_names, sync_widths};
 
 use message_layout::{FieldRow, field_rows, name_in, width_in};
 
-/// Hands a macro the fields that each Sync Channel Message has, in the order in which they are
-/// sent: of each its place, its name and its number of bits.
+/// Hands a macro the fields that each Sync Channel Message has, in the order of transmission: of
+/// each its place, its name and its number of bits.
 macro_rules! sync_fields {
     ($made:ident $(, $($with:tt)+)?) => {
         $made! {
@@ -19,8 +19,8 @@ macro_rules! sync_fields {
 
 pub(crate) use sync_fields;
 
-/// The names of the fields that each Sync Channel Message has, in the order in which they are sent,
-/// each with its number of bits. The message type, 8 bits, stands before them.
+/// The names of the fields that each Sync Channel Message has, in the order of transmission, each
+/// with its number of bits. The message type, 8 bits, stands before them.
 ///
 /// TIA/EIA-95-B, 7.7.1.3. Whatever spells, reads or prints the message goes by this table.
 pub const SYNC_FIELDS: [FieldRow; 11] = sync_fields!(field_rows);

@@ -1,4 +1,4 @@
--- Which bodies are those of messages.
+-- The bodies of messages.
 use Rattle.traffic_message.specs.Common.{number_at}
 use Rattle.std.specs.Prelude.{◌≡◌, ◌&&◌, Bool, List, length, drop, nat_le, is_some}
 use Rattle.traffic_message.specs.Messages.{Message, traffic_message_body, IsTrafficMessage}

@@ -1,4 +1,4 @@
--- The layouts of what stands after the head, and what the messages say as contents of these.
+-- The layouts after the head, and the messages as contents of them.
 use Rattle.traffic_message.specs.Common.{digit, in_widths, plain_contents, plain_shape, LineNames}
 use Rattle.traffic_message.specs.Common.{MessageShape, spelling, Contents, Head}
 use Rattle.std.specs.Prelude.{ℕ, ◌==◌, ◌&&◌, if◌then◌else◌, not, Bool, List, [], ◌∷◌, get_or, codes}

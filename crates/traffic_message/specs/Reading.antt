@@ -1,5 +1,5 @@
 -- The message that a body or a capsule spells, as a function of its bits: each field is the number
--- that stands at its place, after the head by the layout of the type.
+-- at its place, after the head by the layout of the type.
 use Rattle.traffic_message.specs.Common.{number_at, values_at, CheckForm, if_spelled, Head}
 use Rattle.std.specs.Prelude.{ℕ, ◌-◌, ◌%◌, ◌==◌, ◌&&◌, if◌then◌else◌, Bool, List, length, take}
 use Rattle.std.specs.Prelude.{drop, get_or, nat_le, Option, None}

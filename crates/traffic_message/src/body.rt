@@ -1,4 +1,4 @@
-//! What a message says after its head.
+//! The content of a message after its head.
 
 ghost use Rattle.traffic_message.specs.Common.{line_names, shape};
 ghost use Rattle.std.specs.Prelude.{◌≡◌, ◌+◌, ◌≤◌, ◌++◌, drop, length};
@@ -14,7 +14,7 @@ use crate::neighbors::NeighborUpdate;
 use chip_core::{Bits, Numbers};
 use message_layout::{BitSlice, Contents, Layout, append, read_from};
 
-/// What a message of the traffic channel says after its head.
+/// The content of a message of the traffic channel after its head.
 ///
 /// TIA/EIA-95-B, 7.7.3.3.
 #[derive(Clone, Copy, PartialEq, Eq, Debug)]
@@ -25,7 +25,7 @@ pub enum TrafficBody {
     Neighbors(NeighborUpdate),
     /// Type 17 without a hard handoff.
     Handoff(HandoffDirection),
-    /// Any other type, and whatever is encrypted.
+    /// Any other type, and any encrypted message.
     Other {
         /// The message type, 8 bits.
         kind: u8,
@@ -47,8 +47,8 @@ impl TrafficBody {
         }
     }
 
-    /// Reads what stands after the head, from a place on, by the type where nothing is encrypted;
-    /// `None` where the fields of the type don't fit.
+    /// Reads the content after the head, from place `from` on, by the type if it is not encrypted;
+    /// `None` if the fields of the type don't fit.
     pub(crate) fn read(
         kind: u8,
         encryption: u8,
@@ -64,7 +64,7 @@ impl TrafficBody {
         Some(TrafficBody::of(form, kind, &contents))
     }
 
-    /// What says so in this form.
+    /// Makes the content of this form.
     fn of(form: Form, kind: u8, contents: &Contents) -> TrafficBody
         requires { HasFields (body_from form kind contents.now) }
         ensures { result ≡ body_from form kind contents.now }
@@ -80,7 +80,7 @@ impl TrafficBody {
         }
     }
 
-    /// Adds what stands after the head.
+    /// Adds the content after the head.
     pub(crate) fn append_to(&self, body: &mut Bits)
         requires { length body.old + length (bits_of self.now) ≤ 1184 }
         ensures { body.new ≡ body.old ++ bits_of self.now }
@@ -88,7 +88,7 @@ impl TrafficBody {
         append(&self.layout(), &self.contents(), body);
     }
 
-    /// The form of what stands after the head.
+    /// Returns the form of the content after the head.
     fn form(&self) -> Form
         ensures { result ≡ form_in self.now }
     {
@@ -100,7 +100,7 @@ impl TrafficBody {
         }
     }
 
-    /// The layout of what stands after the head.
+    /// Returns the layout of the content after the head.
     pub fn layout(&self) -> Layout
         ensures shape { shape result ≡ traffic_shape_of (form_in self.now) }
         ensures names { line_names result ≡ traffic_names_of (form_in self.now) }
@@ -108,7 +108,7 @@ impl TrafficBody {
         layout_of(self.form())
     }
 
-    /// What stands after the head, as its layout has it.
+    /// Returns the content after the head, in the form of its layout.
     pub fn contents(&self) -> Contents
         ensures value { result ≡ traffic_contents_of self.now }
         ensures fields { HasFields self.now }

@@ -1,8 +1,8 @@
-//! What the messages say, each field as a number of the width that its table gives it.
+//! The contents of the messages, each field as a number of the width in its table.
 
 use chip_core::{Bits, Numbers};
 
-/// What stands after the type of each message. `HEAD_FIELDS` has the widths of the fields.
+/// The head: the fields after the type of each message. `HEAD_FIELDS` has their widths.
 ///
 /// TIA/EIA-95-B, 7.7.3.2.1.
 #[derive(Clone, Copy, PartialEq, Eq, Debug)]
@@ -13,12 +13,12 @@ pub struct Head {
     pub msg_seq: u8,
     /// ACK_REQ: whether it wants an acknowledgement.
     pub ack_req: bool,
-    /// ENCRYPTION: how what follows is encrypted; 0 where it isn't.
+    /// ENCRYPTION: how what follows is encrypted; 0 if it isn't.
     pub encryption: u8,
 }
 
-/// What an In-Traffic System Parameters Message says. `IN_TRAFFIC_FIELDS` has the widths of the
-/// fields.
+/// The content of an In-Traffic System Parameters Message. `IN_TRAFFIC_FIELDS` has the widths of
+/// the fields.
 ///
 /// TIA/EIA-95-B, 7.7.3.3.2.7.
 #[derive(Clone, Copy, PartialEq, Eq, Debug)]
@@ -47,7 +47,7 @@ pub struct InTrafficFields {
     pub rest: Bits,
 }
 
-/// What a Neighbor List Update Message says. It has as many neighbors as fit.
+/// The content of a Neighbor List Update Message. It has as many neighbors as fit.
 ///
 /// TIA/EIA-95-B, 7.7.3.3.2.8.
 #[derive(Clone, Copy, PartialEq, Eq, Debug)]
@@ -76,7 +76,7 @@ pub struct Search {
     pub ttdrop: u8,
 }
 
-/// What an Extended Handoff Direction Message says. It has as many records as fit.
+/// The content of an Extended Handoff Direction Message. It has as many records as fit.
 ///
 /// TIA/EIA-95-B, 7.7.3.3.2.17.
 #[derive(Clone, Copy, PartialEq, Eq, Debug)]
@@ -87,9 +87,9 @@ pub struct DirectionFields {
     pub action: u8,
     /// HDM_SEQ, 2 bits: the number of this direction.
     pub hdm: u8,
-    /// The search parameters, where SEARCH_INCLUDED, 1 bit, is 1.
+    /// The search parameters, if SEARCH_INCLUDED, 1 bit, is 1.
     pub search: Option<Search>,
-    /// The additional fields, whole octets: as many as ADD_LENGTH, 3 bits, says.
+    /// The additional fields: ADD_LENGTH, 3 bits, octets.
     pub extra: Bits,
     /// PILOT_PN of each record, 9 bits: the offset of the pilot code, in units of 64 chips.
     pub pns: Numbers,

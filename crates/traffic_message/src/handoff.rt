@@ -13,8 +13,8 @@ use crate::fields::{DirectionFields, Search};
 use message_layout::{BitSlice, Contents, FieldValues};
 use std::marker::Model;
 
-/// What an Extended Handoff Direction Message says after its head: fields that fit, and a record
-/// or more. Contracts see the fields.
+/// The content of an Extended Handoff Direction Message after its head: fields that fit, and a
+/// record or more. Contracts see the fields.
 ///
 /// TIA/EIA-95-B, 7.7.3.3.2.17.
 #[derive(Clone, Copy, PartialEq, Eq, Debug)]
@@ -38,8 +38,8 @@ impl Model for HandoffDirection {
 }
 
 impl HandoffDirection {
-    /// What the message says: each record has a pilot, a combination indicator and a row, so the
-    /// three lists have one length.
+    /// Returns the content of the message: each record has a pilot, a combination indicator and a
+    /// row, so the three lists have one length.
     pub fn fields(&self) -> DirectionFields
         ensures value { result ≡ self.now }
         ensures spelled { IsHandoffDirection result }
@@ -64,7 +64,7 @@ impl HandoffDirection {
         ]
     }
 
-    /// The message that says so.
+    /// Makes the message with these contents.
     #[tactic(auto, unfolding(crate::specs::Handoff::direction_of))]
     pub(crate) fn of(contents: &Contents) -> HandoffDirection
         requires { IsHandoffDirection (direction_from contents.now) }
@@ -75,7 +75,7 @@ impl HandoffDirection {
         }
     }
 
-    /// What stands after the head, as its layout has it.
+    /// Returns the content after the head, in the form of its layout.
     pub(crate) fn contents(&self) -> Contents
         ensures value { result ≡ direction_contents self.now }
         ensures spelled { IsHandoffDirection self.now }
@@ -108,7 +108,7 @@ fn is_set(bits: &BitSlice<'_>, from: u16, place: u16) -> bool
     place < bits.len() - from && bits.get(from + place)
 }
 
-/// Where HARD_INCLUDED stands: after the search parameters where SEARCH_INCLUDED is set.
+/// Returns the place of HARD_INCLUDED: after the search parameters if SEARCH_INCLUDED is set.
 #[tactic(auto, unfolding(crate::specs::Handoff::hard_place))]
 fn hard_at(bits: &BitSlice<'_>, from: u16) -> u16
     requires { from ≤ length bits.now }

@@ -12,8 +12,8 @@ use chip_core::{Bits, Numbers};
 use message_layout::{Contents, FieldValues, fields_of_values, values_of_fields};
 use std::marker::Model;
 
-/// What an In-Traffic System Parameters Message says after its head: fields that fit. Contracts
-/// see the fields.
+/// The content of an In-Traffic System Parameters Message after its head: fields that fit.
+/// Contracts see the fields.
 ///
 /// TIA/EIA-95-B, 7.7.3.3.2.7.
 #[derive(Clone, Copy, PartialEq, Eq, Debug)]
@@ -37,7 +37,7 @@ impl Model for InTraffic {
 }
 
 impl InTraffic {
-    /// What the message says.
+    /// Returns the content of the message.
     pub fn fields(&self) -> InTrafficFields
         ensures value { result ≡ self.now }
         ensures spelled { IsInTraffic result }
@@ -52,7 +52,7 @@ impl InTraffic {
         in_traffic_fields!(values_of_fields, self.fields)
     }
 
-    /// The message that says so.
+    /// Makes the message with these contents.
     pub(crate) fn of(contents: &Contents) -> InTraffic
         requires { IsInTraffic (in_traffic_from contents.now) }
         ensures { result ≡ in_traffic_from contents.now }
@@ -61,7 +61,7 @@ impl InTraffic {
         InTraffic { fields }
     }
 
-    /// What stands after the head, as its layout has it.
+    /// Returns the content after the head, in the form of its layout.
     pub(crate) fn contents(&self) -> Contents
         ensures value { result ≡ in_traffic_contents self.now }
         ensures spelled { IsInTraffic self.now }

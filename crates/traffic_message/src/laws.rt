@@ -16,8 +16,8 @@ pub fn spelling_has_one_message()
         m ≡ n }
 {}
 
-/// Reading a list by the layouts of its parts gives a message exactly where the list is the
-/// message's capsule, and likewise for its body.
+/// Reading a list by the layouts of its parts gives a message exactly if the list is the message's
+/// capsule, and likewise for its body.
 pub fn reading_turns_spelling_back()
     ensures capsule { (form : TheForm) (capsule : List Bool) (m : Message) →
         (traffic_reading form capsule ≡ Some m)
@@ -27,8 +27,8 @@ pub fn reading_turns_spelling_back()
         ↔ (IsTrafficMessage m × (body ≡ traffic_message_body m)) }
 {}
 
-/// A body that fills a capsule is that of a message exactly where its type, its length and the
-/// numbers that count its records admit it; no other body is.
+/// A body that fills a capsule is that of a message exactly if its type, its length and the numbers
+/// that count its records admit it; no other body is.
 pub fn type_and_length_admit()
     ensures fills { (m : Message) → IsTrafficMessage m → FillsCapsule M16 (traffic_message_body m) }
     ensures admitted { (body : List Bool) →

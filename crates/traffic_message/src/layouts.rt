@@ -1,4 +1,4 @@
-//! The layouts of the type with the head, and of what stands after them.
+//! The layouts of the type with the head, and of the content after them.
 
 ghost use Rattle.traffic_message.specs.Common.{line_names, shape};
 ghost use Rattle.std.specs.Prelude.{◌≡◌, ◌≤◌, drop, length};
@@ -10,7 +10,7 @@ use message_layout::{
     ALL_BITS, BitSlice, Group, Layout, NO_GROUP, NO_OCTETS, NO_RECORDS, Octets, Presence, Records,
 };
 
-/// How what stands after a head is laid out.
+/// The form of the content after a head.
 #[derive(Clone, Copy)]
 pub(crate) enum Form {
     /// As an In-Traffic System Parameters Message.
@@ -23,7 +23,7 @@ pub(crate) enum Form {
     Plain,
 }
 
-/// The form of what stands after a head, by the type where nothing is encrypted.
+/// Returns the form of the content after a head, by the type if it is not encrypted.
 pub(crate) fn form_of(kind: u8, encryption: u8, bits: &BitSlice<'_>, from: u16) -> Form
     requires { from ≤ length bits.now }
     ensures { result ≡ form_at kind encryption (drop from bits.now) }

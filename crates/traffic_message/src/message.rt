@@ -17,7 +17,7 @@ use message_layout::{BitSlice, Contents, FieldValues, append, read_fields};
 use quality_bits::{Kind, MessageFault, body_count, capsule_of};
 use std::marker::Model;
 
-/// A signaling message of the traffic channel that has a spelling: its head, and what it says.
+/// A signaling message of the traffic channel that has a spelling: its head and its content.
 /// Contracts see both.
 ///
 /// TIA/EIA-95-B, 7.7.3.
@@ -40,7 +40,7 @@ impl Model for TrafficMessage {
 }
 
 impl TrafficMessage {
-    /// What stands after the type.
+    /// Returns the head, which follows the type.
     pub fn head(&self) -> Head
         ensures value { result ≡ self.now.head }
         ensures spelled { IsTrafficMessage self.now }
@@ -48,7 +48,7 @@ impl TrafficMessage {
         self.head
     }
 
-    /// What the message says after its head.
+    /// Returns the content after its head.
     pub fn body(&self) -> TrafficBody
         ensures value { result ≡ self.now.body }
         ensures spelled { IsTrafficMessage self.now }
@@ -56,8 +56,8 @@ impl TrafficMessage {
         self.body
     }
 
-    /// The message that a body spells, as `traffic_body_reading` defines it; `None` exactly where
-    /// no message has this body.
+    /// The message that a body spells, as `traffic_body_reading` defines it; `None` exactly if no
+    /// message has this body.
     pub fn from_body(body: &Bits) -> Option<TrafficMessage>
         ensures found { IfSome result
             (λ m. IsTrafficMessage m × (body.now ≡ traffic_message_body m)) }
@@ -77,9 +77,9 @@ impl TrafficMessage {
 
     /// The message that a capsule spells, as `traffic_reading` defines it.
     ///
-    /// `BadLength` exactly where the list isn't as long as its MSG_LENGTH says, or that is outside
-    /// 5 to 148 octets; else `BadCheck` exactly where the check of 16 bits differs; else `BadBody`
-    /// exactly where the body isn't that of a message.
+    /// Returns `BadLength` exactly if the list's length differs from its MSG_LENGTH, or if that is
+    /// outside 5 to 148 octets; otherwise `BadCheck` exactly if the check of 16 bits differs;
+    /// otherwise `BadBody` exactly if the body is not that of a message.
     pub fn decode(capsule: &Bits, form: CheckForm) -> Result<TrafficMessage, MessageFault>
         ensures found { IfOk result
             (λ m. IsTrafficMessage m × (capsule.now ≡ traffic_capsule form m)) }

@@ -14,9 +14,9 @@ use quality_bits::Rate;
 pub struct Mux {
     /// Primary traffic.
     pub primary: Bits,
-    /// Signaling, where the frame has any: 88, 128, 152 or 168 bits.
+    /// Signaling, if the frame has any: 88, 128, 152 or 168 bits.
     pub signal: Option<Bits>,
-    /// Secondary traffic, where the frame has any, as many bits.
+    /// Secondary traffic, if the frame has any, of the same sizes.
     pub secondary: Option<Bits>,
 }
 
@@ -49,7 +49,7 @@ fn split_full(bits: &Bits) -> Mux
     )
 }
 
-/// A frame of primary traffic alone.
+/// A frame of only primary traffic.
 fn only_primary(primary: Bits) -> Mux
     ensures { result ≡ record { primary = primary; signal = None; secondary = None } }
 {
@@ -60,7 +60,7 @@ fn only_primary(primary: Bits) -> Mux
     }
 }
 
-/// A frame of primary traffic, and of secondary traffic where TT is 1, else of signaling.
+/// A frame of primary traffic, and of secondary traffic if TT is 1, otherwise of signaling.
 fn mixed(tt: bool, primary: Bits, other: Bits) -> Mux
     ensures { result ≡ record {
       primary = primary;
@@ -75,7 +75,7 @@ fn mixed(tt: bool, primary: Bits, other: Bits) -> Mux
     }
 }
 
-/// How many bits of primary traffic the mode bits TM leave.
+/// Returns how many bits of primary traffic the mode bits TM leave.
 fn primary_size(tm1: bool, tm0: bool) -> u16
     ensures value { result ≡ primary_bits tm1 tm0 }
     ensures most { result ≤ 80 }

@@ -10,7 +10,7 @@ use chip_core::Numbers;
 use message_layout::Contents;
 use std::marker::Model;
 
-/// What a Neighbor List Update Message says after its head: fields that fit, and a neighbor or
+/// The content of a Neighbor List Update Message after its head: fields that fit, and a neighbor or
 /// more. Contracts see the fields.
 ///
 /// TIA/EIA-95-B, 7.7.3.3.2.8.
@@ -33,7 +33,7 @@ impl Model for NeighborUpdate {
 }
 
 impl NeighborUpdate {
-    /// What the message says.
+    /// Returns the content of the message.
     pub fn fields(&self) -> UpdateFields
         ensures value { result ≡ self.now }
         ensures spelled { IsNeighborUpdate result }
@@ -50,7 +50,7 @@ impl NeighborUpdate {
         [u64::from(self.fields.inc)]
     }
 
-    /// The message that says so.
+    /// Makes the message with these contents.
     pub(crate) fn of(contents: &Contents) -> NeighborUpdate
         requires { IsNeighborUpdate (update_from contents.now) }
         ensures { result ≡ update_from contents.now }
@@ -64,7 +64,7 @@ impl NeighborUpdate {
         }
     }
 
-    /// What stands after the head, as its layout has it.
+    /// Returns the content after the head, in the form of its layout.
     pub(crate) fn contents(&self) -> Contents
         ensures value { result ≡ update_contents self.now }
         ensures spelled { IsNeighborUpdate self.now }

@@ -6,14 +6,14 @@ ghost use Rattle.traffic_message.specs.Widths.{time_names};
 
 use message_layout::{field_rows, name_in};
 
-/// The names of the fields that stand after the type of each message, in the order in which they
-/// are sent, each with its number of bits: ACK_SEQ, MSG_SEQ, ACK_REQ and ENCRYPTION.
+/// The names of the fields after the type of each message, in the order of transmission, each with
+/// its number of bits: ACK_SEQ, MSG_SEQ, ACK_REQ and ENCRYPTION.
 ///
 /// TIA/EIA-95-B, 7.7.3.2.1. Whatever spells, reads or prints a message goes by these tables.
 pub const HEAD_FIELDS: [(&str, u8); 4] = [("ack", 3), ("seq", 3), ("req", 1), ("enc", 2)];
 
 /// Hands a macro the fields of the In-Traffic System Parameters Message after the head, in the
-/// order in which they are sent: of each its place, its name and its number of bits.
+/// order of transmission: of each its place, its name and its number of bits.
 macro_rules! in_traffic_fields {
     ($made:ident $(, $($with:tt)+)?) => {
         $made! {

@@ -1,4 +1,4 @@
--- The script of a trial: a whole link that a number tells, by a generator of numbers.
+-- The script of a trial: a whole link, drawn from a number by a generator.
 use Rattle.std.specs.Prelude.{ℕ, zero, suc, ◌+◌, ◌*◌, ◌/◌, ◌%◌, ◌^◌, ◌==◌, Bool, false, List, []}
 use Rattle.std.specs.Prelude.{if◌then◌else◌, ◌∷◌, ◌++◌, map, pos, Some}
 use Rattle.chip_core.specs.Bits.{binary, places}

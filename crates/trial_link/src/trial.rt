@@ -150,7 +150,7 @@ pub fn trial_serial_number(number: u64) -> u32
 /// drawn from the number, and the same number gives the same script. It names a lawful plan,
 /// whatever the number: see [`crate::laws::trial_scripts_are_lawful`].
 ///
-/// [`OutOfMemory`]: there was none.
+/// Returns [`OutOfMemory`] if allocation fails.
 #[tactic(auto, unfolding(crate::specs::Trial::trial_text))]
 pub fn trial_script(alloc: Global, number: u64) -> Result<Vec<u8>, OutOfMemory>
     ensures { IfOk result (λ script. script.items ≡ trial.trial_text number) }

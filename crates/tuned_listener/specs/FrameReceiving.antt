@@ -1,4 +1,4 @@
--- What the receiver of a channel's frames stands for, each of which is received by itself.
+-- The state of the receiver of a channel's frames, each received by itself.
 use Rattle.tuned_listener.specs.Common.{data_frame_chips, after, Tuning, Channel, Mark, Held}
 use Rattle.std.specs.Prelude.{◌≡◌, ℕ, ◌*◌, ◌<◌, ◌≤◌, length}
 use Rattle.heard_events.specs.Channels.{channel_stream, has_power_control, mask_of, state_at}

@@ -1,4 +1,4 @@
--- What writes the text of a channel's frames, and how far it has come.
+-- The writer of the text of a channel's frames, and its progress.
 use Rattle.tuned_listener.specs.Common.{IsListLength, CheckForm, Sample, soft_frames, Tuning, Mark}
 use Rattle.tuned_listener.specs.Common.{Channel, SoftFrame, slot_after, text_from}
 use Rattle.std.specs.Prelude.{◌≡◌, ◌≤◌, ℕ, List, [], ◌++◌, Option}

@@ -1,4 +1,4 @@
--- The laws of what is written of a sleeping handset's slots.
+-- The laws of the text for a sleeping handset's slots.
 use Rattle.tuned_listener.specs.Common.{superframe_chips, Sample, mark, AreNear, Tuning, Mark}
 use Rattle.tuned_listener.specs.Common.{sync_stream, tuned_text}
 use Rattle.std.specs.Prelude.{◌≡◌, ℕ, ◌+◌, ◌*◌, IsTrue, List, [], ◌∷◌, length, take, drop, ℤ, pos}

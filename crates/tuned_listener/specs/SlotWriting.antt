@@ -1,4 +1,4 @@
--- What hears the slots of a sleeping handset on the way.
+-- The writer of a sleeping handset's slots, and its progress.
 use Rattle.tuned_listener.specs.Common.{CheckForm, frame_most, SoftFrame}
 use Rattle.std.specs.Prelude.{◌≡◌, ◌<◌, ◌≤◌, ℕ, ◌*◌, Bool, List, [], ◌∷◌, length, take, drop, None}
 use Rattle.std.specs.Prelude.{sum_by, unsigned_abs, Option, Some}

@@ -1,4 +1,4 @@
--- What always holds of a listener.
+-- The invariant of a listener.
 use Rattle.tuned_listener.specs.Common.{Near, IsSoundMark, Channel, Mark, samples_taken, Mobile}
 use Rattle.std.specs.Prelude.{◌≡◌, ◌≤◌, ℕ, pos, Some, slice_get}
 use Rattle.heard_events.specs.Channels.{IsLawful}

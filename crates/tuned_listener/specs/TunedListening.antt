@@ -1,4 +1,4 @@
--- Who hears the frames of one channel.
+-- The listener for the frames of one channel.
 use Rattle.tuned_listener.specs.Common.{Sample, mark, AreNear, has_room, Tuning, sync_stream, Mark}
 use Rattle.tuned_listener.specs.Common.{Channel, Mobile, Near, slot_after, after_mark, tuned_text}
 use Rattle.std.specs.Prelude.{◌≡◌, ℕ, Bool, true, false, List, [], ◌++◌, length, take, Option, Some}

@@ -1,4 +1,4 @@
--- What the receiver of one channel's frames stands for, and what a step does.
+-- The state of the receiver of one channel's frames, and the effect of a step.
 use Rattle.tuned_listener.specs.Common.{Sample, HoldsLast, soft_frames, frame_most, Tuning, Channel}
 use Rattle.tuned_listener.specs.Common.{Mark, SoftFrame}
 use Rattle.std.specs.Prelude.{◌≡◌, ℕ, ◌+◌, ◌-◌, ◌<◌, ◌≤◌, List, ◌++◌, length, take, IfSome, None}

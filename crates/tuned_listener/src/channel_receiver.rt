@@ -75,14 +75,14 @@ impl ChannelReceiver {
         }
     }
 
-    /// How many samples have been taken when the frame ends that comes next.
+    /// Returns how many samples have been taken when the frame ends that comes next.
     pub(crate) fn end(&self) -> u64
         ensures { result ≡ self.now.frames.clock.end }
     {
         self.frames.clock.end
     }
 
-    /// The power control bits of a frame, from its soft values as the fingers hear them.
+    /// Returns the power control bits of a frame, from its soft values before descrambling.
     fn power_in(&self, frame: u64, raw: &FrameSofts) -> Option<PowerControl>
         requires mask { self.now.frames.scrambling.mask < 2 ^ 42 }
         requires frame { frame < 2 ^ 32 }
@@ -127,7 +127,7 @@ impl ChannelReceiver {
         }
     }
 
-    /// Gives the frame whose last sample has just come, and goes on to the frame after it.
+    /// Returns the frame whose last sample has just come, and proceeds to the next frame.
     pub(crate) fn take_frame(&mut self, ring: &SampleRing, codes: &Codes) -> SoftFrame
         requires sound { IsSoundChannelReceiver self.old }
         requires room { ring.now.room ≡ 65536 }

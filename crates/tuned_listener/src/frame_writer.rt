@@ -1,4 +1,4 @@
-//! What decodes the frames of one channel, and writes what is made of them.
+//! Decodes the frames of one channel and writes their text.
 
 ghost use Rattle.tuned_listener.specs.Common.{CheckForm as TheCheck, Sample as TheSample, Tuning};
 ghost use Rattle.tuned_listener.specs.Common.{soft_frames, frame_most, IsSoundMark, slot_after};
@@ -25,7 +25,7 @@ use rate_set_two::traffic2_frame;
 use std::alloc::Global;
 use viterbi::Decoder;
 
-/// What decodes the frames of one channel, and writes what is made of them.
+/// Decodes the frames of one channel and writes their text.
 #[derive(Drop)]
 pub(crate) enum FrameWriter {
     /// Decodes frames of rate set 2.
@@ -36,7 +36,7 @@ pub(crate) enum FrameWriter {
     Slots(SlotWriter),
 }
 
-/// Writes the line of a frame of rate set 2, where the channel has power control bits.
+/// Writes the line of a frame of rate set 2, if the channel has power control bits.
 fn write_rate2<K: Sink>(
     decoder: &mut Decoder,
     frame: &SoftFrame,
@@ -58,8 +58,8 @@ fn write_rate2<K: Sink>(
     write_frame2(frame.end, &decoded, &power.power_bits, sink)
 }
 
-/// Writes the line of a frame of rate set 1 with the first so many codewords of a rate, where the
-/// channel has power control bits.
+/// Writes the line of a frame of rate set 1, decoded from the first `k` codewords of each rate, if
+/// the channel has power control bits.
 #[tactic(auto, unfolding(event_tap::specs::EventLines::event_line))]
 fn write_listed<K: Sink>(
     decoder: &mut ListDecoder,

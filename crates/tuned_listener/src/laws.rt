@@ -2,18 +2,18 @@
 
 ghost use Rattle.tuned_listener.specs.SlotLaws.{IsWrittenByTimes, NeedsMark, SleepsThroughTheRest};
 
-/// What is written of a sleeping handset is the line of each slot that it monitors, in the order of
-/// their times, and with each the lines of the messages of the slot's bits. A slot is written where
-/// all of its four frames are in the file on each path and have ended, and where the mark's data
-/// rate is one that a paging channel has. Where no mark is set nothing is written.
+/// The text for a sleeping handset has a line for each slot that it monitors, in time order, each
+/// followed by the lines of the messages in the slot's bits. A slot has a line if all of its four
+/// frames are in the file on each path and have ended, and if the mark's data rate is not reserved.
+/// Without a mark nothing is written.
 pub fn slots_are_written_by_their_times()
     ensures times { IsWrittenByTimes }
     ensures mark { NeedsMark }
 {}
 
-/// What is written of a sleeping handset doesn't depend on what it sleeps through: it is the same for
-/// two files of one tuning and one length that agree before the mark and, path by path, in the
-/// samples of the slots that it hears.
+/// The text for a sleeping handset doesn't depend on what it sleeps through: it is the same for two
+/// files of one tuning and one length that agree before the mark and, path by path, in the samples
+/// of its slots.
 pub fn sleep_hides_the_rest()
     ensures { SleepsThroughTheRest }
 {}

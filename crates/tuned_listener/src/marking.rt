@@ -14,11 +14,11 @@ use mobile_core::{Mark, Mobile};
 pub struct Reached {
     /// How many of the samples it took.
     pub taken: usize,
-    /// The mark; `None` where none is set, and then all samples were taken.
+    /// The mark; `None` if none is set, and then all samples were taken.
     pub mark: Option<Mark>,
 }
 
-/// Gives samples to a handset that was told no mark, up to the step that sets one, or all.
+/// Gives samples to a handset without a mark, up to the step that sets one, or all.
 pub fn step_to_mark(mobile: &mut Mobile, samples: &[Sample]) -> Reached
     requires room { length samples.now ≤ has_room mobile.old }
     requires untold { IsUntold mobile.old }

@@ -1,4 +1,4 @@
-//! What hears the slots of a sleeping handset, and writes what is heard in them.
+//! Decodes the slots of a sleeping handset and writes their text.
 
 ghost use Rattle.tuned_listener.specs.Common.{frame_most, IsSoundMark, SoftFrame as TheFrame};
 ghost use Rattle.tuned_listener.specs.Common.{slot_more, slot_text};
@@ -24,7 +24,7 @@ use std::alloc::Global;
 use symbol_path::Rate;
 use viterbi::Decoder;
 
-/// What hears the slots of a sleeping handset, and writes what is heard in them.
+/// Decodes the slots of a sleeping handset and writes their text.
 #[derive(Drop)]
 pub(crate) struct SlotWriter {
     decoder: Decoder,
@@ -48,8 +48,8 @@ fn place_in_slot(number: u64) -> u8
     (number % u64::from(SLOT_FRAMES)) as u8
 }
 
-/// Whether a frame at a place of a slot goes on with so many frames that are kept of it; the first
-/// one always does.
+/// Whether a frame at a place of a slot continues the `kept` frames of it; the first one always
+/// does.
 fn goes_on(place: u8, kept: u8) -> bool
     ensures { IsTrue result ↔ ((place ≡ 0) ⊎ (place ≡ kept)) }
 {
@@ -71,8 +71,8 @@ struct Page {
     message: PagingMessage,
 }
 
-/// Lets the framer take the next bit of a slot, and gives the message that this completes; `None`
-/// where it completes none, or one that has a fault.
+/// Gives the framer the next bit of a slot and returns the message that it completes; `None` if it
+/// completes none or one with a fault.
 fn page_after(framer: &mut HalfFramer, bit: bool, check: CheckForm) -> Option<Page>
     ensures size { framer.new.size ≡ framer.old.size }
     ensures stands { (bits : List Bool) → HalfFramesStandFor framer.old bits →
@@ -87,7 +87,7 @@ fn page_after(framer: &mut HalfFramer, bit: bool, check: CheckForm) -> Option<Pa
     }
 }
 
-/// How many messages the bits of a slot have.
+/// Returns how many messages the bits of a slot have.
 fn count_pages(bits: &HalfBits, rate: Rate, check: CheckForm) -> u16
     requires rate { IsPagingRate rate }
     ensures { result ≡ length (slot_pages check rate bits.now) }
@@ -101,7 +101,7 @@ fn count_pages(bits: &HalfBits, rate: Rate, check: CheckForm) -> u16
     count
 }
 
-/// Writes the line of a message of a slot, where there is one.
+/// Writes the line of a message of a slot, if there is one.
 ///
 /// `at` is the number of samples at which the slot ends.
 #[tactic(auto, unfolding(event_tap::specs::EventLines::event_line))]
@@ -196,7 +196,7 @@ impl SlotWriter {
         })
     }
 
-    /// Keeps the next frame, where it goes on with its slot.
+    /// Keeps the next frame, if it continues its slot.
     fn keep(&mut self, frame: &SoftFrame)
         requires ready { IsReadyForSlots self.old }
         requires small { sum_by unsigned_abs frame.now.descrambled ≤ frame_most }
@@ -217,8 +217,8 @@ impl SlotWriter {
         self.kept = place + 1;
     }
 
-    /// Writes the lines of the slot whose four frames are kept, where it is one that is monitored
-    /// and the mark's data rate stands for a rate. `frame` is its last frame.
+    /// Writes the lines of the slot whose four frames are kept, if it is monitored and the mark's
+    /// data rate is not reserved. `frame` is its last frame.
     fn write_slot<K: Sink>(
         &mut self,
         mark: &Mark,
@@ -253,10 +253,10 @@ impl SlotWriter {
         write_lines(frame.end, time, &bits, rate, *check, sink)
     }
 
-    /// Hears the next frame after a mark, and writes the lines of the slot that it ends, where it
-    /// ends one that is monitored.
+    /// Takes the next frame after a mark and writes the lines of the slot that it ends, if that is
+    /// monitored.
     ///
-    /// [`Failed`] comes only where the sink's count of faults rose, and the sink got then a
+    /// Returns [`Failed`] only if the sink's count of faults rose, and the sink got then a
     /// beginning of the lines.
     pub(crate) fn write<K: Sink>(
         &mut self,

@@ -1,5 +1,5 @@
-//! Who hears the frames of one channel: a handset up to the step that sets the mark, and after it
-//! a receiver of these frames alone.
+//! A listener for the frames of one channel: a handset up to the step that sets the mark, and after
+//! it a receiver of only these frames.
 
 ghost use Rattle.tuned_listener.specs.SoundListener.{IsSoundListener};
 
@@ -15,7 +15,7 @@ use mobile_core::{HeardRing, Mobile};
 use pilot_search::Near;
 use std::alloc::Global;
 
-/// Who hears the samples that come next.
+/// The part that takes the next samples.
 #[derive(Drop)]
 enum Hearer {
     /// The handset that waits for the mark, and for what the receiver after it is opened.
@@ -45,8 +45,8 @@ impl Hearer {
     ghost use Rattle.tuned_listener.specs.SoundListener.{CanOpen, IsSoundHearer};
     ghost use Rattle.tuned_listener.specs.TunedListening.{ListensFrom, WasTold, is_ahead, room_of};
 
-    /// The receiver of the frames after a mark, in place of the handset that was told it. A
-    /// receiver that is there already stays.
+    /// Replaces the handset by the receiver of the frames after a mark. A receiver that is already
+    /// there stays.
     fn opened(self, mark: Mark) -> (Hearer, ())
         requires mark { IsSoundMark mark }
         requires opens { CanOpen self mark }
@@ -76,12 +76,12 @@ impl Hearer {
 /// The listener of one channel of the reference base station, which writes what is made of its
 /// frames.
 ///
-/// Up to the step that sets the mark a handset hears the samples, and after it a receiver of the
-/// channel's frames, in place of the handset.
+/// Up to the step that sets the mark a handset takes the samples, and after it a receiver of the
+/// channel's frames.
 #[derive(Drop)]
 pub struct TunedListener {
     hearer: Hearer,
-    /// What decodes the frames, and writes what is made of them.
+    /// The part that decodes the frames and writes their text.
     writer: FrameWriter,
     ghost sound: { IsSoundListener hearer writer },
 }
@@ -147,8 +147,8 @@ impl TunedListener {
     /// Takes samples, and writes what is made of each frame that ends within them.
     ///
     /// The samples are those of the file that follow on those taken before, as many of them as
-    /// there are or fewer. [`Failed`] comes only where the sink's count of faults rose, and the
-    /// sink got then a beginning of the text.
+    /// there are or fewer. Returns [`Failed`] only if the sink's count of faults rose, and the sink
+    /// got then a beginning of the text.
     // Its frame holds a handset, and is not to lie beneath that of who hears all channels.
     #[inline(never)]
     pub fn hear<K: Sink>(&mut self, samples: &[Sample], sink: &mut K) -> Result<(), Failed>
@@ -169,9 +169,8 @@ impl TunedListener {
         self.write_frames(&samples[taken..], sink)
     }
 
-    /// Gives samples to the handset up to the step that sets the mark, or all, and puts the
-    /// receiver of the frames in its place where the mark is set. Where it was set before, no
-    /// sample is taken.
+    /// Gives samples to the handset up to the step that sets the mark, or all, and replaces it by
+    /// the receiver of the frames if the mark is set. If it was set before, no sample is taken.
     fn reach_mark(&mut self, samples: &[Sample]) -> usize
         requires room { length samples.now ≤ tuned_room self.old }
         ensures most { result ≤ length samples.now }
@@ -195,7 +194,7 @@ impl TunedListener {
         taken
     }
 
-    /// Gives samples to the receiver of the frames, where there is one, and writes what is made of
+    /// Gives samples to the receiver of the frames, if there is one, and writes what is made of
     /// each frame that ends within them.
     fn write_frames<K: Sink>(&mut self, samples: &[Sample], sink: &mut K) -> Result<(), Failed>
         requires room { length samples.now ≤ tuned_room self.old }

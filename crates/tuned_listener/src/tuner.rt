@@ -14,14 +14,14 @@ use short_code::Codes;
 pub struct TunerStep {
     /// How many of the samples were taken.
     pub taken: usize,
-    /// The frame that ends with the last sample taken; `None` where all samples were taken and no
+    /// The frame that ends with the last sample taken; `None` if all samples were taken and no
     /// frame ends within them.
     pub frame: Option<SoftFrame>,
 }
 
 /// The receiver of the frames of one channel of the reference base station, from the mark on: it
-/// takes the samples of a file in pieces of any size, and gives each frame when its last sample has
-/// been taken.
+/// takes the samples of a file in pieces of any size and returns each frame when its last sample
+/// has been taken.
 ///
 /// It doesn't decode the frames. Those of a paging channel and of a traffic channel have 384
 /// symbols each, whatever the rate (TIA/EIA-95-B, 7.1.3.4 and 7.1.3.5).
@@ -47,11 +47,11 @@ impl Tuner {
     ghost use Rattle.heard_events.specs.Tuning.{Tuning};
     ghost use Rattle.rake_finger.specs.Held.{HoldsLast};
 
-    /// The receiver of a channel after a mark, for a base station at a phase and near it, in a
-    /// file of so many samples.
+    /// Makes the receiver of a channel after a mark, given the phase of the base station and the
+    /// paths near it, in a file of `taken` samples so far.
     ///
-    /// The ring, with room for 65,536 samples, has taken the first samples of the file, up to the
-    /// mark at most; the receiver takes those after them. It allocates nothing.
+    /// The ring holds 65,536 samples and has taken the first samples of the file, at most up to the
+    /// mark; the receiver takes those after them. Allocates nothing.
     pub fn open(
         count: u64,
         ring: SampleRing,
@@ -89,9 +89,8 @@ impl Tuner {
 
     /// Takes samples up to the end of the next frame, or all.
     ///
-    /// The samples are those of the file that follow on those taken before, as many of them as
-    /// there are or fewer. Where the step gives a frame, the samples taken are exactly those up to
-    /// its end, and the caller gives the others again.
+    /// `samples` are the next ones of the file. If the step returns a frame, it took exactly the
+    /// samples up to the frame's end, and the caller passes the others again.
     pub fn step(&mut self, samples: &[Sample]) -> TunerStep
         requires { length samples.now ≤ samples_left self.old }
         ensures { IsTunerStep self.old self.new samples.now result }

@@ -151,8 +151,8 @@ fn greater(one: i64x8, other: i64x8) -> i64x8
     lanes
 }
 
-/// All states, one bit further, by the soft values of its two symbols, with `top`, the greatest
-/// metric, taken off every metric; the answer is the greatest of the new ones. Where `FORCED`, each
+/// All states, one bit further, by the soft values of its two symbols, with `top`, the largest
+/// metric, taken off every metric; the answer is the largest of the new ones. Where `FORCED`, each
 /// state is reached from the one with oldest bit 0.
 fn step_all<const FORCED: bool>(
     column: &[i64],

@@ -3,7 +3,7 @@
 //!
 //! TIA/EIA-95-B, 7.1.3.1.3.1, gives the encoder and leaves decoding free. Here a codeword's score
 //! is the sum of the soft values times the signs of its code symbols, and the decoder finds the
-//! codeword of the greatest score, by Viterbi's algorithm. Between codewords of equal score a fixed
+//! codeword of the largest score, by Viterbi's algorithm. Between codewords of equal score a fixed
 //! order decides, so there is exactly one answer.
 //!
 //! The state of a codeword is its last eight bits. Here they are numbered from the oldest, bit 0,

@@ -39,7 +39,7 @@ pub fn end_states(ends: Ends) -> usize
     }
 }
 
-/// Of so many states, from the first on, the one of the greatest metric, the first of several.
+/// Of so many states, from the first on, the one of the largest metric, the first of several.
 pub fn best_state(metrics: &[i64], count: usize) -> u8
     requires whole { length metrics.now ≡ 256 }
     requires some { 1 ≤ count }
@@ -55,7 +55,7 @@ pub fn best_state(metrics: &[i64], count: usize) -> u8
     best as u8
 }
 
-/// The greatest of the metrics.
+/// The largest of the metrics.
 pub fn greatest(metrics: &[i64]) -> i64
     requires { 1 ≤ length metrics.now }
     ensures { IsGreatest metrics.now result }

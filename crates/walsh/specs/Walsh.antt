@@ -1,5 +1,5 @@
--- The 64 orthogonal rows (TIA/EIA-95-B, 7.1.3.1.8), and the transform that tells what each of them
--- carries.
+-- The 64 orthogonal rows (TIA/EIA-95-B, 7.1.3.1.8), and the transform that returns the level of
+-- each row.
 use Rattle.std.specs.Prelude.{◌≡◌, ℕ, suc, ◌<◌, ◌≤◌, ◌==◌, if◌then◌else◌, Bool, ℤ, pos, ◌+ℤ◌, ◌*ℤ◌}
 use Rattle.std.specs.Prelude.{unsigned_abs, List, [], ◌∷◌, map}
 use Rattle.chip_core.specs.Bits.{binary, common_parity, sign, places}

@@ -1,4 +1,4 @@
-//! Writing the file of a cell.
+//! Writes the file of a cell.
 
 ghost use Rattle.cdma_replay.specs.Common.{AppendsPrefix, HasCause, sample_len};
 ghost use Rattle.std.specs.Prelude.{◌≡◌, ◌≤◌, ◌+◌, ◌-◌, ◌*◌, min, length, take, OnOk, OnErr};
@@ -9,7 +9,7 @@ use base_modulator::Cell;
 use cdma_io::{Failed, Sink, Width, header_bytes, sample_bytes_into, write_all};
 use chip_core::Sample;
 
-/// How many bytes so many samples have.
+/// Returns how many bytes `count` samples take.
 fn bytes_for(width: Width, count: usize) -> usize
     requires { count ≤ 4096 }
     ensures value { result ≡ sample_len width * count }
@@ -21,7 +21,7 @@ fn bytes_for(width: Width, count: usize) -> usize
     }
 }
 
-/// Spells the cell's next samples, as many as `samples` has room for.
+/// Spells the cell's next samples, exactly as many as `samples` holds.
 fn spell_next(cell: &mut Cell, width: Width, samples: &mut [Sample], bytes: &mut [u8])
     requires width { cell.old.width ≡ width }
     requires left { cell.old.given + length samples.old ≤ cell.old.plan.link.samples }
@@ -34,8 +34,8 @@ fn spell_next(cell: &mut Cell, width: Width, samples: &mut [Sample], bytes: &mut
     sample_bytes_into(width, samples, bytes);
 }
 
-/// Spells the cell's next samples, as many as `samples` has room for or the cell has left, and says
-/// how many bytes they have.
+/// Spells the cell's next samples, up to the length of `samples` or the end of the cell, and
+/// returns how many bytes they take.
 fn spell_piece(cell: &mut Cell, width: Width, samples: &mut [Sample], bytes: &mut [u8]) -> usize
     requires width { cell.old.width ≡ width }
     requires samples { length samples.old ≡ 4096 }
@@ -53,7 +53,7 @@ fn spell_piece(cell: &mut Cell, width: Width, samples: &mut [Sample], bytes: &mu
     len
 }
 
-/// Writes the file of a cell that has given no sample, by way of `samples` and `bytes`.
+/// Writes the file of a cell from its first sample, using `samples` and `bytes` as buffers.
 pub fn write_cell<K: Sink>(
     cell: &mut Cell,
     width: Width,
