@@ -218,11 +218,11 @@ module _ {R : Type 0} (repeats size : R → ℕ) (all : ℕ)
       let ends = closed (size r) v (enough r) allowed in
       elim (same r rate) [
         | inl one ↦ (
-            one,
-            is (given_one (shown_to rate bits r) (size r) 0 zeros v.bits bits refl allowed.bits_long ends giving
-                (subst (λ (q : R). codewords_giving (shown_to rate bits q) (size q) 0 zeros ≡ bits ∷ []) (sym one)
-                alone)),
-          )
+          one,
+          is (given_one (shown_to rate bits r) (size r) 0 zeros v.bits bits refl allowed.bits_long ends giving
+              (subst (λ (q : R). codewords_giving (shown_to rate bits q) (size q) 0 zeros ≡ bits ∷ []) (sym one)
+              alone)),
+        )
         | inr other ↦
             absurd (given_none (shown_to rate bits r) (size r) 0 zeros v.bits refl allowed.bits_long ends giving
             (others r other))
