@@ -1,5 +1,6 @@
 -- What the proofs of this crate cite of what lies below, and of its own definitions.
 pub use Rattle.std.proofs.Common.{ap₂, nat_eq, nat_le, nat_lt, unsigned_abs}
+pub use Rattle.std.specs.Prelude.{codes}
 pub use Rattle.cdma_io.proofs.ByteNumbers.{AreBytes, AreBytes-drop, AreBytes-from_all, AreBytes-take}
 pub use Rattle.cdma_io.proofs.Opening.{opening-ok}
 pub use Rattle.cdma_io.proofs.Spelling.{sample_bytes, sample_in}
@@ -72,7 +73,7 @@ pub use Rattle.tuned_listener.proofs.Sleep.{same_mark, sleeps}
 pub use Rattle.tuned_listener.proofs.SlotTimes.{mark_is_late, written_of_slots}
 pub use borrow.Author.Gap.{read_sfits}
 pub use Rattle.reply_laws.specs.Common.{Channel, Done, IsFingers, Listed, Paging, RateSetTwo, Reception, Slots, Status, Tuned, TunedText}
-pub use Rattle.reply_laws.specs.Common.{cell, cell_beside, codes, file, header_of, reference_alone, slots_after, sync_with, waiting}
+pub use Rattle.reply_laws.specs.Common.{cell, cell_beside, file, header_of, reference_alone, slots_after, sync_with, waiting}
 pub use Rattle.reply_laws.specs.HeardThrough.{HeardThroughComesBack, HoldsOfNearReplies, IsFileNear}
 pub use Rattle.reply_laws.specs.MadeLinks.{HasLouderPilot}
 pub use Rattle.reply_laws.specs.NoisyReplies.{IsBearingTraffic, IsHeardThrough, IsNoisyFile, NoisyRepliesComeBack}

@@ -1,8 +1,4 @@
 -- What the definitions of this crate cite of what lies below.
-pub use Rattle.std.specs.List.{Contains, flat_map}
-pub use Rattle.std.specs.Prelude.{All, Err, List, None, Ok, Option, Some, [], codes, false, is_some}
-pub use Rattle.std.specs.Prelude.{length, replicate, take, true, ℕ, ◌*◌, ◌++◌, ◌/◌, ◌<◌, ◌↔◌, ◌∷◌}
-pub use Rattle.std.specs.Prelude.{◌≡◌, ◌≤◌, ◌⊎◌}
 pub use Rattle.clean_link.specs.BySigns.{HearsBySigns}
 pub use Rattle.clean_link.specs.Common.{Bears, CellPlan, Event, IsAssigned, IsFreeOf, IsMargin}
 pub use Rattle.clean_link.specs.Common.{IsNear, IsReceivable, Mark, PagingPlan, Pilot, Sample, mark}

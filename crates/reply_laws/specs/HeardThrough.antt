@@ -1,11 +1,13 @@
 -- What each command owes of a file with noise, if the script alone shows that its cell is heard
 -- through noise of that size. The only premise on the file is that it is near.
-use Rattle.reply_laws.specs.Common.{signaling_sent, IsNotDirected, IsSampleFile, made_samples, List}
+use Rattle.std.specs.List.{Contains}
+use Rattle.std.specs.Prelude.{List, ◌≡◌, Option, take, None, Some, ◌≤◌, All, Ok, ℕ}
+use Rattle.reply_laws.specs.Common.{signaling_sent, IsNotDirected, IsSampleFile, made_samples}
 use Rattle.reply_laws.specs.Common.{HearsBearing, TrafficPlan, SendsSetOne, SendsSetTwo, PagingPlan}
-use Rattle.reply_laws.specs.Common.{FollowsSent, IsAssigned, event_line, slots_sent, clean_end, ◌≡◌}
-use Rattle.reply_laws.specs.Common.{Contains, phase_at, CellPlan, run_text, Traffic, kept_by, Width}
-use Rattle.reply_laws.specs.Common.{IsReply, Option, Sample, Header, IsNear, energy, Bears, Event}
-use Rattle.reply_laws.specs.Common.{Pilot, Reply, take, None, Some, Done, ◌≤◌, All, Job, Ok, ℕ}
+use Rattle.reply_laws.specs.Common.{FollowsSent, IsAssigned, event_line, slots_sent, clean_end}
+use Rattle.reply_laws.specs.Common.{phase_at, CellPlan, run_text, Traffic, kept_by, Width, IsReply}
+use Rattle.reply_laws.specs.Common.{Sample, Header, IsNear, energy, Bears, Event, Pilot, Reply}
+use Rattle.reply_laws.specs.Common.{Done, Job}
 use Rattle.reply_laws.specs.SignedReplies.{list_job, rate2_job, IsWholeReply}
 use Rattle.reply_laws.specs.NoisyReplies.{IsBearingTraffic, IsHeardThrough}
 use Rattle.reply_laws.specs.SentLines.{IsLineOfSetOne, IsLineOfSetTwo}

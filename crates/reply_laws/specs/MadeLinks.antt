@@ -1,13 +1,15 @@
 -- What `make` writes is a clean link, and what each command owes of it if the cell's pilot is louder
 -- than all of its other channels together. Then no premise speaks of the search.
-use Rattle.reply_laws.specs.Common.{ℕ, ◌≡◌, List, take, All, Option, Ok, IsSampleFile, Width, ◌<◌}
-use Rattle.reply_laws.specs.Common.{best_phase, made_samples, plan_named, header_of, phase_at, ◌≤◌}
-use Rattle.reply_laws.specs.Common.{CellPlan, events, Traffic, IsNotDirected, tuning_to, made_file}
-use Rattle.reply_laws.specs.Common.{IsCleanLink, cell_energy, FollowsSent, signaling_sent, ◌*◌, Job}
-use Rattle.reply_laws.specs.Common.{Contains, Sample, Header, gain_sum, IsFreeOf, PagingPlan, Pilot}
-use Rattle.reply_laws.specs.Common.{TrafficPlan, IsAssigned, SendsSetOne, SendsSetTwo, IsPaging}
-use Rattle.reply_laws.specs.Common.{event_line, kept_by, run_text, IsCellFile, clean_end, IsReply}
-use Rattle.reply_laws.specs.Common.{clean_events, Reply, Done, slots_sent}
+use Rattle.std.specs.List.{Contains}
+use Rattle.std.specs.Prelude.{ℕ, ◌≡◌, List, take, All, Option, Ok, ◌<◌, ◌≤◌, ◌*◌}
+use Rattle.reply_laws.specs.Common.{IsSampleFile, Width, best_phase, made_samples, plan_named}
+use Rattle.reply_laws.specs.Common.{header_of, phase_at, CellPlan, events, Traffic, IsNotDirected}
+use Rattle.reply_laws.specs.Common.{tuning_to, made_file, IsCleanLink, cell_energy, FollowsSent}
+use Rattle.reply_laws.specs.Common.{signaling_sent, Job, Sample, Header, gain_sum, IsFreeOf}
+use Rattle.reply_laws.specs.Common.{PagingPlan, Pilot, TrafficPlan, IsAssigned, SendsSetOne}
+use Rattle.reply_laws.specs.Common.{SendsSetTwo, IsPaging, event_line, kept_by, run_text}
+use Rattle.reply_laws.specs.Common.{IsCellFile, clean_end, IsReply, clean_events, Reply, Done}
+use Rattle.reply_laws.specs.Common.{slots_sent}
 use Rattle.reply_laws.specs.SignedReplies.{list_job, rate2_job}
 use Rattle.reply_laws.specs.SentLines.{IsLineOfSetOne, IsLineOfSetTwo}
 use Rattle.reply_laws.specs.SentReplies.{IsSentReply}

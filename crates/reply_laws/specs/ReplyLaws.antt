@@ -1,13 +1,14 @@
 -- Laws of replies: each input is owed one, the number of workers changes none, what each command
 -- owes of a good input, and that it doesn't depend on what a handset sleeps through.
-use Rattle.reply_laws.specs.Common.{◌≡◌, ℕ, ◌<◌, ◌≤◌, List, length, take, All, Option, Ok, is_some}
+use Rattle.std.specs.Prelude.{◌≡◌, ℕ, ◌<◌, ◌≤◌, List, length, take, All, Option, Ok, is_some, []}
+use Rattle.std.specs.Prelude.{◌↔◌, Some}
 use Rattle.reply_laws.specs.Common.{Traffic, Sample, Width, IsSampleFile, Header, best_phase, mark}
 use Rattle.reply_laws.specs.Common.{energy, plan_named, CellPlan, events, Channel, Pilot, kept_by}
 use Rattle.reply_laws.specs.Common.{event_line, run_text, tuned_text, TunedText, Listed, RateSetTwo}
 use Rattle.reply_laws.specs.Common.{Slots, Job, end_when, settings_for, tuning_for, waiting, Reply}
-use Rattle.reply_laws.specs.Common.{traffic_channel_with, made_file, survey_text, IsReply, Done, []}
-use Rattle.reply_laws.specs.Common.{trial_line, ◌↔◌, Some, Tuning, Paging, Mark, AgreeWhereHeard}
-use Rattle.reply_laws.specs.Common.{IsFingers, IsFileReply, Tuned, Reception}
+use Rattle.reply_laws.specs.Common.{traffic_channel_with, made_file, survey_text, IsReply, Done}
+use Rattle.reply_laws.specs.Common.{trial_line, Tuning, Paging, Mark, AgreeWhereHeard, IsFingers}
+use Rattle.reply_laws.specs.Common.{IsFileReply, Tuned, Reception}
 use Rattle.heard_events.specs.declared.channel.Channel.TheVariants as channels
 use Rattle.command_line.specs.declared.job.Job.TheVariants as jobs
 

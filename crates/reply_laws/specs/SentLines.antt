@@ -1,8 +1,9 @@
 -- The lines of a traffic channel's frames, and of a paging channel's slots, in a file of any origin.
-use Rattle.reply_laws.specs.Common.{◌≡◌, ◌≤◌, ℕ, ◌*◌, true, List, [], ◌∷◌, length, Option, None}
-use Rattle.reply_laws.specs.Common.{Some, Contains, flat_map, Sample, Width, CellPlan, TrafficPlan}
-use Rattle.reply_laws.specs.Common.{event_line, frame2_line, Traffic, IsAssigned, SendsSetOne, mark}
-use Rattle.reply_laws.specs.Common.{SendsSetTwo, sent_frame_event, cycled_frame2, sent_decoded2}
+use Rattle.std.specs.List.{Contains, flat_map}
+use Rattle.std.specs.Prelude.{◌≡◌, ◌≤◌, ℕ, ◌*◌, true, List, [], ◌∷◌, length, Option, None, Some}
+use Rattle.reply_laws.specs.Common.{Sample, Width, CellPlan, TrafficPlan, event_line, frame2_line}
+use Rattle.reply_laws.specs.Common.{Traffic, IsAssigned, SendsSetOne, mark, SendsSetTwo}
+use Rattle.reply_laws.specs.Common.{sent_frame_event, cycled_frame2, sent_decoded2}
 use Rattle.reply_laws.specs.Common.{IsDistinctFrame2, IsReceivable, IsOnPath, MarkIsAt, Tuning}
 use Rattle.reply_laws.specs.Common.{TrafficFrameHasSigns, tuned_text, TunedText, Listed, RateSetTwo}
 use Rattle.reply_laws.specs.Common.{reference_alone, Mark, tuned_frame_text, PagingPlan, Paging}

@@ -1,9 +1,11 @@
 -- What `rate2`, `list` and `idle` owe of a file that holds what a script's cell sends: frame by frame
 -- what the traffic channel sends, and slot by slot what the paging channel sends.
-use Rattle.reply_laws.specs.Common.{◌≡◌, ◌≤◌, ℕ, List, length, Err, Ok, Contains, Sample, Width}
-use Rattle.reply_laws.specs.Common.{IsSampleFile, Header, CellPlan, TrafficPlan, Job, Traffic}
-use Rattle.reply_laws.specs.Common.{IsCellFile, IsAssigned, SendsSetOne, SendsSetTwo, clean_end}
-use Rattle.reply_laws.specs.Common.{told_with_sync, IsReply, Reply, PagingPlan, slots_sent}
+use Rattle.std.specs.List.{Contains}
+use Rattle.std.specs.Prelude.{◌≡◌, ◌≤◌, ℕ, List, length, Err, Ok}
+use Rattle.reply_laws.specs.Common.{Sample, Width, IsSampleFile, Header, CellPlan, TrafficPlan, Job}
+use Rattle.reply_laws.specs.Common.{Traffic, IsCellFile, IsAssigned, SendsSetOne, SendsSetTwo}
+use Rattle.reply_laws.specs.Common.{clean_end, told_with_sync, IsReply, Reply, PagingPlan}
+use Rattle.reply_laws.specs.Common.{slots_sent}
 use Rattle.reply_laws.specs.SignedReplies.{list_job, rate2_job}
 use Rattle.reply_laws.specs.SentLines.{IsLineOfSetOne, IsLineOfSetTwo, IsSentText}
 use Rattle.command_line.specs.declared.job.Job.TheVariants as jobs

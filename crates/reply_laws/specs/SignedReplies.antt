@@ -1,10 +1,11 @@
 -- What each command reports of a file of any origin: for each channel whose soft values have the
 -- signs that a cell sends, exactly what the cell sends.
-use Rattle.reply_laws.specs.Common.{◌≡◌, ◌≤◌, ℕ, List, length, take, All, Option, None, Ok, Err}
-use Rattle.reply_laws.specs.Common.{is_some, Contains, Traffic, Sample, Width, IsSampleFile, Header}
-use Rattle.reply_laws.specs.Common.{best_phase, energy, IsReceivable, phase_at, CellPlan, events}
-use Rattle.reply_laws.specs.Common.{PagingPlan, TrafficPlan, kept_by, run_text, IsAssigned, Job}
-use Rattle.reply_laws.specs.Common.{SendsSetOne, SendsSetTwo, told_with_sync, HearsBySigns, IsReply}
+use Rattle.std.specs.List.{Contains}
+use Rattle.std.specs.Prelude.{◌≡◌, ◌≤◌, ℕ, List, length, take, All, Option, None, Ok, Err, is_some}
+use Rattle.reply_laws.specs.Common.{Traffic, Sample, Width, IsSampleFile, Header, best_phase}
+use Rattle.reply_laws.specs.Common.{energy, IsReceivable, phase_at, CellPlan, events, PagingPlan}
+use Rattle.reply_laws.specs.Common.{TrafficPlan, kept_by, run_text, IsAssigned, Job, SendsSetOne}
+use Rattle.reply_laws.specs.Common.{SendsSetTwo, told_with_sync, HearsBySigns, IsReply}
 use Rattle.reply_laws.specs.Common.{IsNotDirected, sent_events, FollowedHaveSigns, FollowsSent}
 use Rattle.reply_laws.specs.Common.{signaling_sent, FromMark, HasSyncSigns, MarksAreAt, slots_after}
 use Rattle.reply_laws.specs.Common.{PagingFrameHasSigns, TrafficFrameHasSigns, clean_end, end_when}

@@ -1,13 +1,13 @@
 -- Files that meet every premise of the laws: the file of a script without noise, one with noise of
 -- the size of its margin, and all files of a cell with noise up to its margin.
-use Rattle.reply_laws.specs.Common.{◌≡◌, ◌≤◌, ◌↔◌, ◌⊎◌, ◌++◌, ◌/◌, ℕ, List, [], ◌∷◌, codes, false}
-use Rattle.reply_laws.specs.Common.{replicate, take, None, Option, Some, Ok, IsSampleFile, Header}
-use Rattle.reply_laws.specs.Common.{IsFreeOf, made_samples, header_of, phase_at, CellPlan, cell}
-use Rattle.reply_laws.specs.Common.{PagingPlan, plan_named, sync_sent, cell_beside, file, last_page}
-use Rattle.reply_laws.specs.Common.{sync_event, sync_with, FollowsSent, paging_sent, sent_events}
-use Rattle.reply_laws.specs.Common.{IsMargin, cell_with, kept_by, run_text, Event, IsCleanLink}
-use Rattle.reply_laws.specs.Common.{clean_events, made_file, AnswersAfter, IsReply, Reply, Status}
-use Rattle.reply_laws.specs.Common.{Done, NoMemory, energy}
+use Rattle.std.specs.Prelude.{◌≡◌, ◌≤◌, ◌↔◌, ◌⊎◌, ◌++◌, ◌/◌, ℕ, List, [], ◌∷◌, codes, false}
+use Rattle.std.specs.Prelude.{replicate, take, None, Option, Some, Ok}
+use Rattle.reply_laws.specs.Common.{IsSampleFile, Header, IsFreeOf, made_samples, header_of}
+use Rattle.reply_laws.specs.Common.{phase_at, CellPlan, cell, PagingPlan, plan_named, sync_sent}
+use Rattle.reply_laws.specs.Common.{cell_beside, file, last_page, sync_event, sync_with}
+use Rattle.reply_laws.specs.Common.{FollowsSent, paging_sent, sent_events, IsMargin, cell_with}
+use Rattle.reply_laws.specs.Common.{kept_by, run_text, Event, IsCleanLink, clean_events, made_file}
+use Rattle.reply_laws.specs.Common.{AnswersAfter, IsReply, Reply, Status, Done, NoMemory, energy}
 use Rattle.clean_link.specs.Common.{binary, Plain, Sixteen, Sync, message_of, some_message}
 use Rattle.clean_link.specs.Common.{some_sync, sync_capsule}
 use Rattle.reply_laws.specs.HeardThrough.{ComesBackThrough, HoldsOfNearReplies}
