@@ -7,6 +7,7 @@ from __future__ import annotations
 
 import configparser
 import contextlib
+import io
 import json
 import os
 import random
@@ -19,6 +20,7 @@ import tracemalloc
 import unittest
 import unittest.mock
 from dataclasses import dataclass
+from fractions import Fraction
 from typing import Any
 
 import numpy
@@ -35,14 +37,17 @@ from cdma_tools.listening.events import Collected, Event
 from cdma_tools.listening.follow_run import FollowRun, Handset, Sets
 from cdma_tools.listening.line_writer import LineWriter
 from cdma_tools.listening.listening import Listening
+from cdma_tools.listening.live import Stream, hear_stream
 from cdma_tools.listening.live_sources import scheme_of
 from cdma_tools.listening.output import GrowingFile
 from cdma_tools.listening.pieces import Chips
 from cdma_tools.listening.relay import MOST_KILLED, Relay
 from cdma_tools.listening.seams import LEAST_OVERLAP
 from cdma_tools.listening.searching import SLICE_BINS, LiveSearch
+from cdma_tools.listening.sources import Backlog, Item, Skipped
 from cdma_tools.listening.stream_lock import LockOptions, StreamLock
 from cdma_tools.radio.acquisition import bins_within
+from cdma_tools.radio.search_policy import MOST_SEARCH
 
 # Where the pilot of the recording lies: the first slice of a live search finds it, however busy the machine is.
 NEAR = ["--shift", "3000", "--conjugate", "no"]
@@ -451,7 +456,7 @@ class NoiseTest(unittest.TestCase):
         return StreamLock(LockOptions("ci8", RATE, search=search, is_live=True))
 
     def test_whatever_the_search_takes(self) -> None:
-        for search in (500.0, 21_000.0, 88_000.0, 600_000.0):
+        for search in (500.0, 21_000.0, 88_000.0, MOST_SEARCH):
             for costs in (0.001, 0.05, 0.2, 0.5, 1.2):
                 air = Air(costs)
                 with (
@@ -465,10 +470,34 @@ class NoiseTest(unittest.TestCase):
     def test_what_it_takes_a_processor(self) -> None:
         """Time goes on as this process uses a processor, so that other processes don't count."""
         with unittest.mock.patch("cdma_tools.radio.acquisition.WORKERS", 1):
-            for search in (21_000.0, 88_000.0):
+            for search in (21_000.0, 88_000.0, MOST_SEARCH):
                 air = Air()
                 with unittest.mock.patch("cdma_tools.listening.searching.clock.monotonic", air.now):
-                    self.assertLess(air.lag(self.live(search), 7.0), 3.0, search)
+                    self.assertLess(air.lag(self.live(search), 6.0), 3.0, search)
+
+    def test_what_is_lost_is_counted_and_said(self) -> None:
+        """Samples that come too fast are left out of the backlog, and each remark and the end has their number."""
+        noise, errors = random.Random(1).randbytes(200_000), io.StringIO()
+        skipped = Skipped(4_321, "the lock fell behind a radio"), Skipped(679, "a radio was away")
+        items: list[Item | None] = [noise, skipped[0], noise, skipped[1], noise, None]
+
+        class Radio:
+            """A source that gives these items."""
+
+            def begin(self, backlog: Backlog) -> Any:
+                """What a thread does to fill a backlog."""
+                return lambda: [backlog.put(item) for item in items]
+
+        stream: Any = Stream("ci8", Fraction(RATE), live=Radio())  # type: ignore[arg-type]
+        writer, output = LineWriter(lambda data: None, False, {}), unittest.mock.Mock()
+        lock = LockOptions("ci8", RATE, is_live=True)
+        with contextlib.redirect_stderr(errors):
+            is_heard = hear_stream(stream, lock, Handset("/no/program"), writer, output)
+        self.assertFalse(is_heard)
+        told = errors.getvalue().splitlines()
+        self.assertIn("4321 samples are missing: the lock fell behind a radio", told[0])
+        self.assertIn("679 samples are missing: a radio was away", told[1])
+        self.assertEqual(told[-1], "listen: stopped after 0.2 s: 0 lines were written, 5,000 samples were lost")
 
     def test_all_slices_are_searched_in_turn(self) -> None:
         search = LiveSearch(88_000.0, (False, True))
