@@ -2,7 +2,7 @@
 
 import contextlib
 import threading
-from collections.abc import Iterator
+from collections.abc import Iterable, Iterator
 from dataclasses import dataclass
 from datetime import datetime, timezone
 from fractions import Fraction
@@ -67,7 +67,7 @@ class LiveListening:
         finally:
             self.listening.kill()
 
-    def take_all(self, backlog: Backlog) -> None:
+    def take_all(self, backlog: Iterable[Item]) -> None:
         """Takes all that comes; if the source fails, what came before is finished first."""
         fault: Refused | None = None
         try:

@@ -11,7 +11,7 @@ row; if it turns out to be another one at the part's beginning, the part is proc
 
 import math
 from bisect import bisect_right
-from collections.abc import Iterator
+from collections.abc import Callable, Iterator
 from dataclasses import dataclass, replace
 
 from cdma_tools.listening.events import Collected, Event, Remark
@@ -95,8 +95,10 @@ def part_at(parts: list[Part], at: int) -> int:
     return max([0, *(part.number for part in parts if part.begin <= seconds)])
 
 
-def hear_part(recording: Recording, handset: Handset, part: Part) -> PartHeard:
-    """Listens to a part."""
+def hear_part(
+    recording: Recording, handset: Handset, part: Part, look: Callable[[], None] = lambda: None
+) -> PartHeard:
+    """Listens to a part; `look` is called now and then, and may raise to break it off."""
     lock, size = recording.lock, TYPES[recording.lock.kind].size
     first, last = round(part.locked_from * lock.rate), round(part.locked_to * lock.rate)
     heard = Collected()
@@ -105,6 +107,7 @@ def hear_part(recording: Recording, handset: Handset, part: Part) -> PartHeard:
     block = size * int(BLOCK_SECONDS * lock.rate)
     try:
         for data in blocks_of_file(recording.path, size * first, size * (last - first), block):
+            look()
             listening.feed(data)
         listening.finish()
     finally:

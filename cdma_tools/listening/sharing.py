@@ -3,7 +3,7 @@
 import asyncio
 import concurrent.futures
 import contextlib
-from collections.abc import Iterator
+from collections.abc import Callable, Iterator
 from typing import Any, Protocol
 
 from cdma_tools.cluster import AHEAD, connected, result_of, some_ended, workers_of
@@ -24,15 +24,18 @@ class Workers(Protocol):
 class Alone:
     """This process."""
 
-    def __init__(self, recording: Recording, handset: Handset, parts: list[Part]) -> None:
-        """The parts of a recording."""
-        self.recording, self.handset, self.parts = recording, handset, parts
+    def __init__(
+        self, recording: Recording, handset: Handset, parts: list[Part], look: Callable[[], None] = lambda: None
+    ) -> None:
+        """The parts of a recording; `look` is called now and then, and may raise to break a part off."""
+        self.recording, self.handset, self.parts, self.look = recording, handset, parts, look
         self.last: tuple[tuple[int, int | None], PartHeard] | None = None
 
     def heard(self, number: int, row: int | None) -> PartHeard:
         """Returns what is received in a part."""
         if self.last is None or self.last[0] != (number, row):
-            self.last = (number, row), hear_part(self.recording, self.handset.on_row(row), self.parts[number])
+            handset = self.handset.on_row(row)
+            self.last = (number, row), hear_part(self.recording, handset, self.parts[number], self.look)
         return self.last[1]
 
 
