@@ -22,6 +22,7 @@ from cdma.domains import CodeDomain, code_domain
 from cdma.errors import Error, FileError, NoProgramError, ParameterError, ScriptError
 from cdma.events import Event, Frame, Page, Pilot, PilotSets, Rank, RawMessage, Sync, Table, TrafficMessage
 from cdma.explaining import Explanation, explain, margin
+from cdma.listening import Listening, ListenSource, listen
 from cdma.locking import Lock, RecordedPath, lock
 from cdma.programs import use_model, use_program
 from cdma.receiving import Run, find, follow, survey
@@ -41,6 +42,8 @@ __all__ = [
     "Explanation",
     "FileError",
     "Frame",
+    "ListenSource",
+    "Listening",
     "Lock",
     "Margin",
     "NoProgramError",
@@ -64,6 +67,7 @@ __all__ = [
     "explain",
     "find",
     "follow",
+    "listen",
     "load",
     "lock",
     "make",

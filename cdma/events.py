@@ -6,27 +6,34 @@ from collections.abc import Callable, Iterable
 from typing import Any, ClassVar, TypeVar
 
 from cdma.errors import Error
-from cdma_tools.lines import read_line, spell_line
+from cdma_tools.lines import TIME_NAME, read_line, spell_line
 
 MOST_SHOWN = 20  # rows of a table in a notebook
 
 
 @dataclasses.dataclass(frozen=True, slots=True)
 class Event:
-    """Anything that the program writes in one line; `str(event)` is that line."""
+    """Anything that the program writes in one line; `str(event)` is that line.
+
+    `time_utc` is the time of its `at` in UTC, such as 2026-11-29T18:43:11.123456Z. Only events of `cdma.listen` have
+    it, from the first message with a time on.
+    """
 
     first: ClassVar[str]
+    time_utc: str | None = dataclasses.field(default=None, kw_only=True, repr=False, compare=False)
 
     def to_dict(self) -> dict[str, Any]:
         """Returns the JSON object of the line, as `tools/lines` writes it."""
         found = {"line": self.first}
         for field in dataclasses.fields(self):
             value = getattr(self, field.name)
+            if field.name == TIME_NAME:
+                continue
             if field.name == "fields":
                 found |= plain(value)
             elif value is not None:
                 found[field.name] = plain(value)
-        return found
+        return found if self.time_utc is None else {**found, TIME_NAME: self.time_utc}
 
     def __str__(self) -> str:
         """Returns the line, without a line feed."""
@@ -175,7 +182,7 @@ def held(name: str, value: Any) -> Any:
     return bool(value) if name in FLAGS else value
 
 
-def event_of(line: str) -> Event:
+def event_of(line: str, time_utc: str | None = None) -> Event:
     """Returns the event of a line of the program, without its line feed."""
     read = read_line(line)
     kind = KINDS[read.pop("line")]
@@ -183,7 +190,7 @@ def event_of(line: str) -> Event:
     values = {name: held(name, value) for name, value in read.items() if name in names}
     if "fields" in names:
         values["fields"] = {name: value for name, value in read.items() if name not in names}
-    return kind(**values)
+    return kind(**values, time_utc=time_utc)
 
 
 class Table(list[RowType]):

@@ -1,7 +1,11 @@
 """Which program the library runs: `cdma_replay`, found as the tools find it, or the model."""
 
+import contextlib
 import os
+import shlex
 import sys
+import tempfile
+from collections.abc import Iterator
 from dataclasses import dataclass
 
 import model
@@ -84,3 +88,19 @@ def path_or_none() -> str | None:
         return program_path()
     except NoProgramError:
         return None
+
+
+@contextlib.contextmanager
+def script_of_model() -> Iterator[str]:
+    """Yields the path of the program, or of a script that runs the model, if that is chosen."""
+    found = chosen()
+    if not found.modules:
+        yield found.words[0]
+        return
+    with tempfile.TemporaryDirectory(prefix="cdma-") as folder:
+        path = os.path.join(folder, NAME)
+        modules, words = shlex.quote(found.modules), shlex.join(found.words)
+        with open(path, "w", encoding="utf-8") as file:
+            file.write(f'#!/bin/sh\nPYTHONPATH={modules}${{PYTHONPATH:+:$PYTHONPATH}} exec {words} "$@"\n')
+        os.chmod(path, 0o700)
+        yield path

@@ -226,8 +226,9 @@ class Arrays(Chosen):
 
     def test_flags_stay_with_chips(self) -> None:
         chips = cdma.Chips(numpy.arange(8).reshape(4, 2), checks=3)
-        self.assertEqual((getattr(chips[1:], "checks"), pickle.loads(pickle.dumps(chips)).checks, chips.copy().checks), (3, 3, 3))
-        self.assertEqual(pickle.loads(pickle.dumps(chips)).tolist(), chips.tolist())
+        sent = pickle.loads(pickle.dumps(chips))
+        self.assertEqual((getattr(chips[1:], "checks"), sent.checks, chips.copy().checks), (3, 3, 3))
+        self.assertEqual(sent.tolist(), chips.tolist())
         self.assertEqual(chips.as_complex().tolist(), [1j, 2 + 3j, 4 + 5j, 6 + 7j])
         big_endian = cdma.Chips(numpy.arange(8, dtype=">i2").reshape(4, 2))
         self.assertEqual((big_endian.tolist(), big_endian.dtype), (chips.tolist(), numpy.dtype(numpy.int16)))

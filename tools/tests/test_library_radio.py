@@ -17,7 +17,9 @@ import numpy  # noqa: E402
 import cdma  # noqa: E402
 from tools.tests.test_library import choose  # noqa: E402
 
-LINK = ["--type", "cu8", "--carrier", "1500", "--clock", "3", "--ec-io", "-7", "--paths", "0:0,2.5:-6:90", "--lose", "9:1"]
+LINK = [
+    "--type", "cu8", "--carrier", "1500", "--clock", "3", "--ec-io", "-7", "--paths", "0:0,2.5:-6:90", "--lose", "9:1",
+]  # fmt: skip
 
 
 class Recorded(unittest.TestCase):
@@ -148,7 +150,8 @@ class Radio(Recorded):
         """Neither on standard output nor on standard error, of the whole way from a cell to its code domain."""
         code = (
             "import cdma\ncdma.use_model()\ncell = cdma.Cell(samples=307200)\ncell.add_sync()\n"
-            "lock = cdma.lock(cdma.record(cdma.make(cell), ec_io=-6))\ncdma.code_domain(lock)\nlist(cdma.follow(lock.chips))\n"
+            "lock = cdma.lock(cdma.record(cdma.make(cell), ec_io=-6))\ncdma.code_domain(lock)\n"
+            "list(cdma.follow(lock.chips))\n"
         )
         words = [PYTHON, "-B", "-X", "dev", "-W", "ignore::DeprecationWarning", "-c", code]
         ran = subprocess.run(words, cwd=ROOT, capture_output=True, text=True, timeout=120)
