@@ -28,6 +28,7 @@ PAGES = (
     "docs/GLOSSARY.md",
     "docs/GUIDE.md",
     "docs/LESSON.md",
+    "docs/LIBRARY.md",
     "docs/LINK.md",
     "docs/PERFORMANCE.md",
     "docs/PROOFS.md",
