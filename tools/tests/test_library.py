@@ -67,6 +67,8 @@ class Examples(unittest.TestCase):
     def test_examples(self) -> None:
         count = 0
         for module in pkgutil.iter_modules(cdma.__path__):
+            if module.name == "pytest_plugin" and importlib.util.find_spec("pytest") is None:
+                continue
             with tempfile.TemporaryDirectory() as folder, contextlib.chdir(folder):
                 names = {"cdma": cdma, "examples": Path(EXAMPLES), "folder": Path(folder), "numpy": numpy}
                 for test in doctest.DocTestFinder().find(importlib.import_module(f"cdma.{module.name}"), globs=names):
