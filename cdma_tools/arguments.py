@@ -59,7 +59,7 @@ class PartParser(argparse.ArgumentParser):
 
     def error(self, message: str) -> NoReturn:
         """Ends with one line, and status 2."""
-        self.exit(WRONG, f"{self.prog}: {printable(message)} (--help has all arguments)\n")
+        self.exit(WRONG, f"{self.prog}: {printable(message)} (--help lists all arguments)\n")
 
 
 class VersionAction(argparse.Action):
@@ -154,7 +154,7 @@ class Within:
 
     def __call__(self, text: str) -> Any:
         """Returns the number of a text; raises a fault for argparse if it is no number, or out of bounds."""
-        number = read_by(self.form, text, "no whole number" if self.form is int else "no number")
+        number = read_by(self.form, text, "not a whole number" if self.form is int else "not a number")
         if number != number or not self.least <= number <= self.most or self.is_above and number == self.least:
             raise wrong(f"not {self.told()}", text)
         return number

@@ -16,8 +16,8 @@ def add_cell_options(words: argparse._ActionsContainer) -> None:
         "--cell",
         type=whole_within(1, MOST_RANK),
         metavar="K",
-        help="the K-th strongest cell, default 1: stronger ones are taken off first",
+        help="the K-th strongest cell (default 1): stronger ones are subtracted first",
     )
     which.add_argument(
-        "--pn", type=whole_within(0, OFFSETS - 1), metavar="P", help="the cell of PILOT_PN P, as the program hears it"
+        "--pn", type=whole_within(0, OFFSETS - 1), metavar="P", help="the cell with PILOT_PN P, by the program"
     )

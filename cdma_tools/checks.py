@@ -31,11 +31,11 @@ class Heard(NamedTuple):
     def told(self) -> str:
         """Returns a line with the choice and the reason for it."""
         if not self.plain and not self.complemented:
-            return "no message passes its check, plain or complemented; 30-bit checks are taken to be plain"
+            return "no message passes its check, plain or complemented; 30-bit checks are assumed to be plain"
         way = "complemented" if self.flag else "plain"
         more, fewer = max(self), min(self)
-        heard = f"{more} messages pass so, and {fewer} the other way"
-        return f"30-bit checks are taken to be {way}: {heard}; 16-bit checks weren't tried"
+        heard = f"{more} messages pass that way, and {fewer} the other way"
+        return f"30-bit checks are assumed to be {way}: {heard}; 16-bit checks weren't tried"
 
 
 def messages(program: str, path: str, flags: int) -> int:

@@ -123,12 +123,12 @@ def connected(address: str | None, workers: int) -> Iterator[Any]:
             else:
                 client = stack.enter_context(distributed.Client(address, timeout=CONNECT))
         except (OSError, TimeoutError, asyncio.TimeoutError, ValueError) as why:
-            where = "no cluster on this machine" if address is None else f"no scheduler at {address}"
+            where = "a cluster on this machine can't be started" if address is None else f"no scheduler at {address}"
             raise Refused(f"{where}: {why or 'it does not answer'}") from None
         try:
             client.wait_for_workers(1, timeout=FIRST_WORKER)
         except (TimeoutError, asyncio.TimeoutError):
-            raise Refused(f"the scheduler at {address} has no worker") from None
+            raise Refused(f"the scheduler at {address} has no workers") from None
         yield client
 
 
@@ -144,7 +144,7 @@ def some_ended(client: Any, futures: list[Any]) -> list[Any]:
             return list(quiet().wait(futures, timeout=LAST_WORKER, return_when="FIRST_COMPLETED").done)
         except (TimeoutError, asyncio.TimeoutError):
             if not workers_of(client):
-                raise Refused("the scheduler has no worker any more") from None
+                raise Refused("the scheduler has no workers left") from None
 
 
 def result_of(future: Any, task: str) -> Any:
@@ -152,12 +152,12 @@ def result_of(future: Any, task: str) -> Any:
     if future.status == "finished":
         return future.result()
     if future.status != "error":
-        raise Refused("the scheduler is gone, or gave up the run")
+        raise Refused("the scheduler ended, or cancelled the run")
     why = future.exception()
     if isinstance(why, Refused):
         raise why
     if type(why).__name__ == "KilledWorker":
-        raise Refused(f"one {task} ended several workers: they were killed, or have no memory")
+        raise Refused(f"one {task} ended several workers: they were killed, or ran out of memory")
     if isinstance(why, ModuleNotFoundError):
-        raise Refused(f"a worker has {why}: start it at the top of this repository, with PYTHONPATH=.")
+        raise Refused(f"a worker reports {why}: start it at the top of this repository, with PYTHONPATH=.")
     raise Refused(f"a worker failed: {type(why).__name__}: {why}")

@@ -21,10 +21,10 @@ def read_samples(data: bytes, span: int) -> Parts:
     if len(data) < HEADER.size:
         raise Refused("it ends within the header of a sample file")
     if data[: len(MAGIC)] != MAGIC or (told := Header(*HEADER.unpack(data[: HEADER.size])[1:])).version not in FORM:
-        raise Refused("it is no sample file of version 1 or 2")
+        raise Refused("it is not a sample file of version 1 or 2")
     version, count = told.version, told.count
     if count < span:
-        raise Refused(f"it has {count} samples, and the span is {span}")
+        raise Refused(f"it has {count} samples, fewer than the span of {span}")
     form = numpy.dtype(FORM[version])
     body = data[HEADER.size : HEADER.size + 2 * span * form.itemsize]
     if len(body) < 2 * span * form.itemsize:

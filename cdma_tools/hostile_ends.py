@@ -93,7 +93,7 @@ def ended(run: subprocess.Popen[bytes], closes_input: bool = True) -> Ended:
     except subprocess.TimeoutExpired:
         with contextlib.suppress(ProcessLookupError):
             os.killpg(run.pid, signal.SIGKILL)
-        return Ended(run.wait(), f"Traceback: no end within {SECONDS} s")
+        return Ended(run.wait(), f"Traceback: it didn't end within {SECONDS} s")
     return Ended(run.returncode, said.decode(errors="replace"))
 
 

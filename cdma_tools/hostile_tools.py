@@ -356,7 +356,7 @@ def run(tool: str, words: list[str], data: bytes) -> tuple[int, str]:
             warnings.simplefilter("ignore", ResourceWarning)  # a user sees none
             status = status_of(tool, words)
     except TooSlow:
-        return -1, f"no end within {SECONDS} seconds of a processor, or {MOST_WAIT} in all"
+        return -1, f"it didn't end within {SECONDS} seconds of a processor, or {MOST_WAIT} in all"
     except BaseException as why:
         return -1, f"{type(why).__name__}: {why} in {traceback.format_tb(why.__traceback__)[-1].strip()}"
     said.seek(0)

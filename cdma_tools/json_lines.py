@@ -19,7 +19,7 @@ def only_once(pairs: list[tuple[str, Any]]) -> dict[str, Any]:
     """The object of these names and values, each name once."""
     made = dict(pairs)
     if len(made) != len(pairs):
-        raise NoLine("a name stands twice")
+        raise NoLine("a name appears twice")
     return made
 
 
@@ -30,9 +30,9 @@ def object_of(text: str) -> dict[str, Any]:
     except NoLine:
         raise
     except (ValueError, RecursionError) as why:
-        raise NoLine(f"no JSON: {why}") from None
+        raise NoLine(f"not JSON: {why}") from None
     if not isinstance(given, dict):
-        raise NoLine("no object")
+        raise NoLine("not an object")
     return given
 
 
@@ -46,10 +46,10 @@ def turned_lines(source: Iterable[bytes], turned: Callable[[str], Turned]) -> It
     for number, line in enumerate(source, 1):
         try:
             if not line.endswith(b"\n"):
-                raise NoLine("no line feed after it" if len(line) < LONGEST else "it is too long")
+                raise NoLine("it has no line feed" if len(line) < LONGEST else "it is too long")
             yield turned(line[:-1].decode("ascii"))
         except UnicodeDecodeError:
-            raise NoLine(f"line {number}: it isn't ASCII") from None
+            raise NoLine(f"line {number}: it isn't ASCII text") from None
         except NoLine as why:
             raise NoLine(f"line {number}: {why}") from None
 

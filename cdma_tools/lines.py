@@ -88,21 +88,21 @@ def whole(value: Any) -> int:
     if isinstance(value, float) and value.is_integer() and abs(value) < MOST_EXACT:
         value = int(value)
     if isinstance(value, bool) or not isinstance(value, int):
-        raise NoLine(f"{value!r} is no whole number")
+        raise NoLine(f"{value!r} is not a whole number")
     return value
 
 
 def within(value: int, least: int, most: int) -> int:
     """Returns the number, if it is within its bounds."""
     if not least <= value <= most:
-        raise NoLine(f"{value} isn't {least} to {most}")
+        raise NoLine(f"{value} is out of range ({least} to {most})")
     return value
 
 
 def read_number(text: str) -> int:
     """A decimal number without leading zeros."""
     if not NUMBER.fullmatch(text) or len(text) > 20:
-        raise NoLine(f"{text[:30]!r} is no number")
+        raise NoLine(f"{text[:30]!r} is not a number")
     return int(text)
 
 
@@ -125,7 +125,7 @@ def one_of(numbers: tuple[int, ...]) -> Form:
 
     def among(value: int) -> int:
         if value not in numbers:
-            raise NoLine(f"{value} is none of {', '.join(map(str, numbers))}")
+            raise NoLine(f"{value} is not one of {', '.join(map(str, numbers))}")
         return value
 
     text = f"{', '.join(map(str, numbers[:-1]))} or {numbers[-1]}"
@@ -151,11 +151,11 @@ def check_bits(given: Any) -> str:
     """Bits as N:HEX: two digits for each octet of them, and zeros that pad the last one."""
     match = BITS.fullmatch(given) if isinstance(given, str) else None
     if not match:
-        raise NoLine(f"{str(given)[:30]!r} isn't bits as N:HEX")
+        raise NoLine(f"{str(given)[:30]!r} isn't of the form N:HEX")
     count, digits = int(match[1]), match[2]
     padding = 4 * len(digits) - count
     if count > MOST_BITS or not 0 <= padding < 8 or int(digits or "0", 16) & ((1 << padding) - 1):
-        raise NoLine(f"{given[:30]!r} hasn't just its digits and zeros after its bits")
+        raise NoLine(f"{given[:30]!r} must have two hex digits per octet, and zeros after its last bit")
     return given
 
 
@@ -166,7 +166,7 @@ def check_utc(given: Any) -> str:
             return given
     except ValueError:
         pass
-    raise NoLine(f"{str(given)[:30]!r} is no time in UTC, as 2026-11-30T21:30:00.000000Z")
+    raise NoLine(f"{str(given)[:30]!r} is not a time in UTC, such as 2026-11-30T21:30:00.000000Z")
 
 
 def commands() -> Form:
@@ -179,7 +179,7 @@ def commands() -> Form:
 
     def spell(value: Any) -> str:
         if not isinstance(value, list) or len(value) != GROUPS:
-            raise NoLine(f"{str(value)[:60]!r} is no list of {GROUPS}")
+            raise NoLine(f"{str(value)[:60]!r} is not a list of {GROUPS}")
         return "".join(str(within(whole(bit), 0, 1)) for bit in value)
 
     return Form(read, spell, f"{GROUPS} numbers of 1 bit")
@@ -188,7 +188,7 @@ def commands() -> Form:
 def spelled_list(value: Any, spell: Callable[[Any], str]) -> str:
     """The things of a list, joined by commas."""
     if not isinstance(value, list):
-        raise NoLine(f"{str(value)[:60]!r} is no list")
+        raise NoLine(f"{str(value)[:60]!r} is not a list")
     return ",".join(spell(thing) for thing in value)
 
 
@@ -208,12 +208,12 @@ def records(*forms: Form) -> Form:
     def read_record(given: str) -> list[int]:
         parts = given.split("/")
         if len(parts) != len(forms):
-            raise NoLine(f"{given[:30]!r} hasn't {len(forms)} numbers")
+            raise NoLine(f"{given[:30]!r} doesn't have {len(forms)} numbers")
         return [form.read(part) for form, part in zip(forms, parts)]
 
     def spell_record(value: Any) -> str:
         if not isinstance(value, list) or len(value) != len(forms):
-            raise NoLine(f"{str(value)[:60]!r} is no list of {len(forms)}")
+            raise NoLine(f"{str(value)[:60]!r} is not a list of {len(forms)}")
         return "/".join(form.spell(part) for form, part in zip(forms, value))
 
     def read(given: str) -> list[list[int]]:
@@ -426,7 +426,7 @@ class Tokens:
             return
         name, separator, value = word.partition("=")
         if name != field.name or not separator:
-            raise NoLine(f"{word[:30]!r} stands where {field.name}= should")
+            raise NoLine(f"{field.name}= is expected, not {word[:30]!r}")
         try:
             into[field.name] = field.form.read(value)
         except NoLine as why:
@@ -444,7 +444,7 @@ class Tokens:
         """The shape of a line of a first word, by the word that tells its kind."""
         word = self.take()
         if (first, word) not in BY_WORDS:
-            raise NoLine(f"{word[:30]!r} names no kind of {first}")
+            raise NoLine(f"{word[:30]!r} is not a kind of {first}")
         return BY_WORDS[first, word]
 
 
@@ -492,7 +492,7 @@ def read_line(text: str) -> dict[str, Any]:
 def read_tokens(first: str, tokens: Tokens) -> dict[str, Any]:
     """The object of a line, by its first word and the others."""
     if first not in FIRST:
-        raise NoLine(f"{first[:30]!r} begins no line")
+        raise NoLine(f"{first[:30]!r} is not a kind of line")
     shape = FIRST[first]
     read: dict[str, Any] = {"line": first}
     for field in shape.head:
@@ -503,7 +503,7 @@ def read_tokens(first: str, tokens: Tokens) -> dict[str, Any]:
     for part in shape.body:
         tokens.take_part(part, read)
     if tokens.place != len(tokens.words):
-        raise NoLine(f"{tokens.peek()[:30]!r} follows the last field" if tokens.peek() else "a space too many")
+        raise NoLine(f"{tokens.peek()[:30]!r} follows the last field" if tokens.peek() else "an extra space at the end")
     return read
 
 
@@ -525,20 +525,20 @@ def shape_of(given: dict[str, Any]) -> Shape:
     """The kind of line of which this is the object."""
     line = given.get("line")
     if not isinstance(line, str) or line not in FIRST:
-        raise NoLine(f"line: {line!r} begins no line")
+        raise NoLine(f"line: {line!r} is not a kind of line")
     shape = FIRST[line]
     if shape.word is None:
         return shape
     word = given.get(shape.key)
     if not isinstance(word, str) or (line, word) not in BY_WORDS:
-        raise NoLine(f"{shape.key}: {word!r} names no kind of {line}")
+        raise NoLine(f"{shape.key}: {word!r} is not a kind of {line}")
     return BY_WORDS[line, word]
 
 
 def spell_field(field: Field, given: dict[str, Any]) -> str:
     """Returns a field as it is written in the line, with a space before it."""
     if field.name not in given:
-        raise NoLine(f"no {field.name}")
+        raise NoLine(f"{field.name} is missing")
     try:
         value = field.form.spell(given[field.name])
     except NoLine as why:
@@ -565,7 +565,7 @@ def spell_line(given: dict[str, Any]) -> str:
     shape = shape_of(given)
     known = {"line"} | {field.name for field in shape.fields()} | ({shape.key} if shape.word else set())
     if unknown := [name for name in given if name not in known]:
-        raise NoLine(f"a line of {shape.line} has no {unknown[0][:30]!r}")
+        raise NoLine(f"a line of {shape.line} has no field {unknown[0][:30]!r}")
     text = shape.line + "".join(spell_field(field, given) for field in shape.head)
     if shape.word is not None:
         text += f" {shape.word}"

@@ -112,7 +112,7 @@ def search_margin(script: Script, cell: Cell, span: int) -> Margin:
     `cell` is the cell of the script.
     """
     if cell.samples < span:
-        raise Refused(f"the cell sends {cell.samples:,} samples, and the search needs {span:,}")
+        raise Refused(f"the cell sends {cell.samples:,} samples, but the search needs {span:,}")
     roots = search_roots(cell, span)
     margin = roots.margin()
     if not margin:

@@ -31,7 +31,7 @@ def plotting(**settings: Any) -> Any:
 def title_of(text: str) -> str:
     """Returns a title as matplotlib can draw it: the text between dollar signs is mathematics."""
     if len(text) > LONGEST_TITLE or not all(letter.isprintable() for letter in text):
-        raise argparse.ArgumentTypeError(f"no line of at most {LONGEST_TITLE} characters: {text[:LONGEST_TITLE]!r}")
+        raise argparse.ArgumentTypeError(f"not a line of at most {LONGEST_TITLE} characters: {text[:LONGEST_TITLE]!r}")
     if "$" in text:
         try:
             from matplotlib.cbook import is_math_text
@@ -42,7 +42,7 @@ def title_of(text: str) -> str:
         except ImportError:
             pass  # that it is missing is said where a picture is drawn
         except ValueError:
-            raise wrong("no mathematics between its dollar signs, as matplotlib reads them", text) from None
+            raise wrong("matplotlib can't read the mathematics between its dollar signs", text) from None
     return text
 
 

@@ -18,13 +18,13 @@ VARIABLE = "CDMA_REPLAY"
 
 # Where the program is looked for that nobody names, and what is said if it isn't there: in a checkout, and installed.
 IN_CHECKOUT = "the one built in this checkout"
-BESIDE = "the one beside this command"
+BESIDE = "the one next to this command"
 NOT_FOUND = (
-    f"no {NAME}: --program names none, nor does ${VARIABLE}, none is built in this checkout (rt ci builds it), and none"
-    " is on the path"
+    f"{NAME} was not found: give --program or set ${VARIABLE}; it is not built in this checkout (rt ci builds it), and"
+    " not on the path"
 )
 NOT_INSTALLED = (
-    f"no {NAME}: --program names none, nor does ${VARIABLE}, none stands beside this command, and none is on the path:"
+    f"{NAME} was not found: give --program or set ${VARIABLE}; it is not next to this command, and not on the path:"
     " install the package cdma-replay, which has it"
 )
 
@@ -66,7 +66,7 @@ def find_program(given: str | None) -> str:
     return os.path.abspath(found)
 
 
-def program_or_hint(given: str | None, lines: list[str], without: str = "no message of a cell is heard") -> str | None:
+def program_or_hint(given: str | None, lines: list[str], without: str = "no cell's messages are decoded") -> str | None:
     """The program; if it isn't there and none is named, None, and `lines` get why and what is missing without it."""
     try:
         return find_program(given)
@@ -85,5 +85,5 @@ def written_of(program: str, words: list[str], file: IO[bytes]) -> bytes:
     except OSError as why:
         raise Refused(f"{program}: {why.strerror}") from None
     except subprocess.TimeoutExpired:
-        raise Refused(f"{program} {' '.join(words)}: no end within {LONGEST_RUN} s") from None
+        raise Refused(f"{program} {' '.join(words)} didn't end within {LONGEST_RUN} s") from None
     return ran.stdout

@@ -145,12 +145,12 @@ def took(descriptor: int, kept: bytearray, most: int, name: str) -> bool:
     piece = os.read(descriptor, READ_BYTES)
     kept += piece
     if len(kept) > most:
-        raise Stopped(f"it wrote more than {most:,} bytes on {name}, and was ended")
+        raise Stopped(f"it wrote more than {most:,} bytes on {name}, and was stopped")
     return bool(piece)
 
 
 def late(is_running: bool, seconds: float) -> str:
     """Why a run is ended whose time is over."""
     if is_running:
-        return f"no end within {time_text(seconds)}"
-    return f"it ended, and a process that it began held its output longer than {time_text(seconds)}"
+        return f"it didn't end within {time_text(seconds)}"
+    return f"it ended, but a process that it began held its output longer than {time_text(seconds)}"

@@ -90,7 +90,7 @@ def sample_count(path: str, kind: str) -> int:
     """How many whole samples a file holds; refuses a file that ends within one, or isn't there."""
     size, total = TYPES[kind].size, sample_bytes(path)
     if total % size:
-        raise Refused(f"{path}: {total} bytes are no whole number of samples of {size} bytes")
+        raise Refused(f"{path}: {total} bytes are not a whole number of samples of {size} bytes")
     return total // size
 
 

@@ -109,7 +109,7 @@ def check_place(options: argparse.Namespace) -> None:
     if options.junit == STANDARD:
         raise WrongArguments("--junit needs a file: standard output has the other lines")
     if options.junit and not os.path.isdir(os.path.dirname(os.path.realpath(options.junit))):
-        raise WrongArguments(f"--junit {options.junit}: no folder for it")
+        raise WrongArguments(f"--junit {options.junit}: its folder doesn't exist")
 
 
 def json_of(result: Result) -> dict[str, Any]:

@@ -32,7 +32,7 @@ class SampleFile:
         self.version, self.flags, self.count = told.version, told.flags, told.count
         self.size = SAMPLE_BYTES[self.version]
         if size != told.file_bytes:
-            raise Refused(f"{path}: its header tells {self.count} samples, and it has another number")
+            raise Refused(f"{path}: its header says {self.count} samples, but it has another number of them")
         if not self.count:
             raise Refused(f"{path}: no samples")
 

@@ -37,8 +37,8 @@ def header(version: int, flags: int, count: int) -> bytes:
 def read_header(data: bytes, name: str) -> Header:
     """Returns the header at the beginning of a file's bytes; refuses other bytes, with the file's name."""
     if len(data) < HEADER.size or data[: len(MAGIC)] != MAGIC:
-        raise Refused(f"{name}: no sample file")
+        raise Refused(f"{name}: not a sample file")
     told = Header(*HEADER.unpack(data[: HEADER.size])[1:])
     if told.version not in FORM:
-        raise Refused(f"{name}: version {told.version}, and only 1 and 2 are known")
+        raise Refused(f"{name}: version {told.version}, but only 1 and 2 are known")
     return told

@@ -111,13 +111,13 @@ def read_script(text: str, name: str) -> Script:
         try:
             reader.take(line)
         except (KeyError, ValueError, IndexError):
-            raise Refused(f"{name}: line {number} is no line of a script: {line[:60]!r}") from None
+            raise Refused(f"{name}: line {number} is not a line of a script: {line[:60]!r}") from None
     try:
         channels = reader.channels()
     except (KeyError, ValueError):
         raise Refused(f"{name}: a traffic line lacks row, esn, offset or gain") from None
     if not reader.samples:
-        raise Refused(f"{name}: no script: it has no link line with samples")
+        raise Refused(f"{name}: not a script: it has no link line with samples")
     return Script(
         reader.link, reader.start, reader.samples, reader.prat, reader.gains, tuple(reader.paging), channels
     )

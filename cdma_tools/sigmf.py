@@ -28,14 +28,14 @@ def object_of(path: str, text: bytes) -> dict[str, Any]:
     try:
         meta = json.loads(text.decode("utf-8"))
     except ValueError as why:
-        raise Refused(f"{path}: no JSON: {why}") from None
+        raise Refused(f"{path}: not JSON: {why}") from None
     except RecursionError:
-        raise Refused(f"{path}: no JSON that can be read: it is nested too deeply") from None
+        raise Refused(f"{path}: its JSON is nested too deeply to be read") from None
     if not isinstance(meta, dict) or not isinstance(meta.get("global"), dict):
         raise Refused(f"{path}: no object 'global'")
     captures = meta.get("captures", [])
     if not isinstance(captures, list) or not all(isinstance(capture, dict) for capture in captures):
-        raise Refused(f"{path}: 'captures' is no list of objects")
+        raise Refused(f"{path}: 'captures' is not a list of objects")
     return meta
 
 
@@ -64,7 +64,7 @@ def samples_of(path: str, fields: dict[str, Any]) -> str:
     if named is None:
         return path[: -len(META)] + DATA
     if not is_name(named):
-        raise Refused(f"{path}: core:dataset is no file's name: {brief(named)}")
+        raise Refused(f"{path}: core:dataset is not a file's name: {brief(named)}")
     return os.path.join(os.path.dirname(path), named)
 
 
@@ -84,7 +84,7 @@ def type_told(path: str, fields: dict[str, Any]) -> str:
     told = fields.get("core:datatype")
     kind = type_named(told) if isinstance(told, str) else told
     if not isinstance(kind, str) or kind not in TYPES:
-        raise Refused(f"{path}: core:datatype is {brief(told)}, and none of {', '.join(TYPES)}")
+        raise Refused(f"{path}: core:datatype is {brief(told)}, not one of {', '.join(TYPES)}")
     return kind
 
 
@@ -92,7 +92,7 @@ def whole_of(path: str, capture: dict[str, Any], name: str) -> int:
     """A whole number from 0 on of a capture, 0 if it has none."""
     told = capture.get(name, 0)
     if isinstance(told, bool) or not isinstance(told, int) or told < 0:
-        raise Refused(f"{path}: {name} is {brief(told)}, and no whole number from 0 on")
+        raise Refused(f"{path}: {name} is {brief(told)}, not a whole number from 0 on")
     return told
 
 
@@ -101,12 +101,12 @@ def captures_of(path: str, meta: dict[str, Any], number: int | None) -> tuple[in
     captures = meta.get("captures", [])
     if number is not None:
         if number > len(captures):
-            raise Refused(f"{path}: no capture {number}: it has {len(captures)}")
+            raise Refused(f"{path}: no capture {number}: it has {len(captures)}, numbered from 0")
         return number - 1, number
     if len({capture.get("core:frequency") for capture in captures if "core:frequency" in capture}) > 1:
         raise Refused(f"{path}: {len(captures)} captures of several frequencies: give --capture N")
     if any(capture.get("core:header_bytes") for capture in captures[1:]):
-        raise Refused(f"{path}: other bytes stand between its {len(captures)} captures: give --capture N")
+        raise Refused(f"{path}: other bytes lie between its {len(captures)} captures: give --capture N")
     return 0, len(captures)
 
 
@@ -123,7 +123,7 @@ def extent_of(path: str, meta: dict[str, Any], samples: str, size: int, number: 
     if behind < len(captures):
         end = min(end, size * starts[behind] + sum(heads[:behind]))
     if end <= begin:
-        raise Refused(f"{path}: no samples in what is taken of {samples}")
+        raise Refused(f"{path}: no samples in the part taken from {samples}")
     return SamplePath(samples, first_byte(samples) + begin, end - begin)
 
 
@@ -144,7 +144,7 @@ def rate_told(path: str, fields: dict[str, Any], given: Fraction | None) -> Frac
     if given is not None:
         raise Refused(f"{path}: core:sample_rate is {brief(told)}; --rate can't be given too")
     if isinstance(told, bool) or not isinstance(told, (int, float)) or not 0 < told <= MOST_RATE:
-        raise Refused(f"{path}: core:sample_rate is {brief(told)}, and no number above 0, at most {MOST_RATE:,}")
+        raise Refused(f"{path}: core:sample_rate is {brief(told)}, not a number above 0 and at most {MOST_RATE:,}")
     return Fraction(told)
 
 
@@ -192,7 +192,7 @@ def annotate_all(meta: dict[str, Any], added: list[dict[str, Any]]) -> None:
     """Adds notes, in the order of their beginnings."""
     notes = meta.setdefault("annotations", [])
     if not isinstance(notes, list) or not all(isinstance(old, dict) for old in notes):
-        raise Refused("'annotations' is no list of objects")
+        raise Refused("'annotations' is not a list of objects")
     notes.extend(added)
     notes.sort(key=lambda old: start if isinstance(start := old.get("core:sample_start"), (int, float)) else 0)
 
@@ -202,7 +202,7 @@ def write_meta(path: str, meta: dict[str, Any]) -> None:
     try:
         text = json.dumps(meta, indent=2)
     except RecursionError:
-        raise Refused(f"{path}: what it has is nested too deeply") from None
+        raise Refused(f"{path}: its JSON is nested too deeply") from None
     with write_beside(path) as file:
         file.write(f"{text}\n".encode())
 
@@ -225,7 +225,7 @@ class Described(Protocol):
 def check_note(path: str, samples: str) -> None:
     """Refuses a .sigmf-meta that isn't next to the samples."""
     if os.path.abspath(os.path.dirname(path)) != os.path.abspath(os.path.dirname(samples)):
-        raise Refused(f"{path}: it must stand in the folder of the samples, {os.path.dirname(samples) or '.'}")
+        raise Refused(f"{path}: it must be in the folder of the samples, {os.path.dirname(samples) or '.'}")
 
 
 def meta_for(path: str, recording: str, kind: str, rate: Fraction, samples: str) -> dict[str, Any]:

@@ -45,13 +45,13 @@ class Signs:
 def expect_together(capture: Capture, cell: Cell, span: int) -> Found:
     """Returns what the search over a file's first `span` samples finds; Refused if the file isn't one of the cell."""
     if capture.count != cell.samples:
-        raise Refused(f"the file has {capture.count:,} samples, and the script's cell sends {cell.samples:,}")
+        raise Refused(f"the file has {capture.count:,} samples, but the script's cell sends {cell.samples:,}")
     flags = capture.complement_30 + 2 * capture.complement_16
     if flags != cell.checks:
-        raise Refused(f"the file's flags are {flags}, and the script has checks={cell.checks}")
+        raise Refused(f"the file's flags are {flags}, but the script has checks={cell.checks}")
     found = search(capture.samples[:span])
     if found.phase != own_phase(cell):
-        raise Refused(f"the search finds phase {found.phase} in the file, and the script's cell has {own_phase(cell)}")
+        raise Refused(f"the search finds phase {found.phase} in the file, but the script's cell has {own_phase(cell)}")
     return found
 
 

@@ -69,7 +69,7 @@ def stored_of(path: str, rate: Fraction | None, capture: int | None = None) -> S
     """The samples of a recording that tells its type; `rate` is given only if it tells none."""
     if path.endswith(WAVE):
         if rate is not None:
-            raise Refused(f"{path}: a WAV file tells its rate; --rate can't be given too")
+            raise Refused(f"{path}: a WAV file has its own rate; --rate can't be given too")
         return wave_of(path)
     if path.endswith(ARCHIVE):
         meta, samples = archive_parts(path)
@@ -102,7 +102,7 @@ def archive_parts(path: str) -> tuple[dict[str, Any], SamplePath]:
     except OSError as why:
         raise Refused(f"{path}: {why.strerror or why}") from None
     except tarfile.TarError as why:
-        raise Refused(f"{path}: no SigMF archive: {why}") from None
+        raise Refused(f"{path}: not a SigMF archive: {why}") from None
     if samples is None:
         raise Refused(f"{path}: no {name} in the archive")
     return sigmf.object_of(path, text), SamplePath(path, samples.offset_data, samples.size)
@@ -121,7 +121,7 @@ def chunks_of(path: str, file: BinaryIO, total: int) -> Iterator[tuple[bytes, in
     """The chunks of a WAV file: each one's name, its size, and its first bytes; the file follows its head."""
     head = file.read(12)
     if head[:4] not in (b"RIFF", b"RF64") or head[8:] != b"WAVE":
-        raise Refused(f"{path}: no WAV file")
+        raise Refused(f"{path}: not a WAV file")
     while len(told := file.read(CHUNK.size)) == CHUNK.size:
         name, size = CHUNK.unpack(told)
         begin = file.tell()
@@ -143,7 +143,7 @@ def wave_in(path: str, file: BinaryIO, total: int) -> Stored:
             long_size = struct.unpack_from("<Q", data, SIZES_PLACE)[0]
         elif name == b"data":
             if not kind:
-                raise Refused(f"{path}: no WAV file with a 'fmt ' chunk before its samples")
+                raise Refused(f"{path}: a WAV file without a 'fmt ' chunk before its samples")
             size = long_size if size == TO_THE_END[1] and long_size else size
             left, one = total - file.tell(), TYPES[kind].size
             held = left if size in TO_THE_END else min(size, left)
@@ -159,7 +159,7 @@ def wave_format(path: str, data: bytes) -> tuple[str, int]:
     if channels != 2:
         raise Refused(f"{path}: {channels} channels; a recording of a radio has two, i and q")
     if (form, bits) not in WAVE_TYPES:
-        raise Refused(f"{path}: format {form} of {bits} bits; known are 8, 16 and 32 bits, and floating point")
+        raise Refused(f"{path}: format {form} of {bits} bits; 8, 16 and 32 bits and floating point can be read")
     if not rate:
         raise Refused(f"{path}: a rate of 0 samples a second")
     return WAVE_TYPES[form, bits], rate
@@ -184,5 +184,5 @@ def kept_input(kind: str | None, rate: Fraction) -> str:
     except OSError as why:
         raise Refused(f"standard input: {why.strerror}") from None
     if held < one:
-        raise Refused("standard input: no samples came")
+        raise Refused("standard input: no samples arrived")
     return file.name

@@ -79,7 +79,7 @@ def mapped(function: Callable[[Item], Made], items: Iterable[Item], jobs: int, c
     try:
         yield from executor.map(function, items, chunksize=chunk)
     except BrokenProcessPool:
-        raise Refused("a process that shared the work was ended") from None
+        raise Refused("a worker process was killed") from None
     finally:
         executor.shutdown(cancel_futures=True)
 

@@ -63,7 +63,7 @@ def open_through(path: str) -> IO[bytes]:
             if why.errno != errno.ENXIO:
                 raise
             if time.monotonic() > until:
-                raise Refused(f"{path}: nobody has read this FIFO for {READER_WAIT:.0f} s") from None
+                raise Refused(f"{path}: nothing has read this FIFO for {READER_WAIT:.0f} s") from None
             time.sleep(READER_AGAIN)
         else:
             os.set_blocking(file, True)

@@ -73,13 +73,15 @@ class Answer:
         for number, line in enumerate(lines_of(source), 1):
             try:
                 self.take(line)
-            except (NoLine, UnicodeDecodeError) as why:
+            except UnicodeDecodeError:
+                raise Refused(f"the receiver's line {number}: it isn't ASCII text") from None
+            except NoLine as why:
                 raise Refused(f"the receiver's line {number}: {why}") from None
 
     def take(self, line: bytes) -> None:
         """Passes a line on, or keeps the status in it."""
         if self.status is not None:
-            raise NoLine("a line after the status")
+            raise NoLine("it comes after the status")
         if not self.is_json:
             word, *told = line.decode("ascii", errors="replace").rstrip("\n").split(" ", 2)
             if self.has_status and word == STATUS:
@@ -88,11 +90,11 @@ class Answer:
                 write(line)
             return
         if not line.endswith(b"\n"):
-            raise NoLine("no line feed at its end" if len(line) < LONGEST else "it is too long")
+            raise NoLine("it has no line feed" if len(line) < LONGEST else "it is too long")
         given = object_of(line[:-1].decode("ascii"))
         if self.has_status and STATUS in given:
             if not {STATUS} <= set(given) <= {STATUS, ERROR}:
-                raise NoLine(f"{STATUS} and {ERROR} stand by themselves")
+                raise NoLine(f"an object with {STATUS} may only have {ERROR} as well")
             self.end(*map(str, (given[STATUS], given.get(ERROR, ""))))
         else:
             write(spell_line(given).encode("ascii") + b"\n")
@@ -105,7 +107,7 @@ class Answer:
 def status_of(text: str) -> int:
     """Returns the status in a receiver's last line."""
     if not text.isdecimal() or int(text[:4]) > MOST_STATUS:
-        raise NoLine(f"no status from 0 to {MOST_STATUS}: {text[:40]!r}")
+        raise NoLine(f"not a status from 0 to {MOST_STATUS}: {text[:40]!r}")
     return int(text)
 
 

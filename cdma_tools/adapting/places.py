@@ -32,9 +32,9 @@ def pieces_of(line: str) -> list[str]:
     for word in words:
         left = PLACE.sub("", word)
         if "{" in left or "}" in left:
-            raise WrongArguments(f"--command has a place that is none: {word!r}")
+            raise WrongArguments(f"--command has a place that isn't {{NAME}} or {{NAME=DEFAULT}}: {word!r}")
         if any(found[1] == ARGUMENTS for found in PLACE.finditer(word)) and word != f"{{{ARGUMENTS}}}":
-            raise WrongArguments(f"{{{ARGUMENTS}}} is several arguments, and must stand by itself: {word!r}")
+            raise WrongArguments(f"{{{ARGUMENTS}}} stands for several, and must be an argument of its own: {word!r}")
     return words
 
 
@@ -51,7 +51,7 @@ def filled(words: Sequence[str], arguments: Sequence[str], files: Mapping[str, s
         """Returns the value of a place: the case's, otherwise the text after the place's equals sign."""
         value = values.get(found[1], found[2])
         if value is None:
-            raise WrongArguments(f"the case has no --{found[1]}, and the place {found[0]} has nothing for that")
+            raise WrongArguments(f"the case has no --{found[1]}, and the place {found[0]} has no default")
         return value
 
     whole: list[str] = []

@@ -78,10 +78,10 @@ def find(search: Search, wanted: Wanted) -> tuple[Cell, list[str]]:
         if number == wanted.rank or pn is not None and pn == wanted.pn:
             return cell, lines
     count = len(search.told)
-    heard = f"{count} cell was heard" if count == 1 else f"{count} cells were heard"
+    heard = f"{count} cell was found" if count == 1 else f"{count} cells were found"
     if wanted.pn is None:
-        raise Refused(f"{heard}, and no cell {wanted.rank}")
-    raise Refused(f"{heard}, and none of PILOT_PN {wanted.pn}: {', '.join(names)}")
+        raise Refused(f"{heard}: there is no cell {wanted.rank}")
+    raise Refused(f"{heard}, none of them with PILOT_PN {wanted.pn}: {', '.join(names)}")
 
 
 def take(

@@ -21,7 +21,7 @@ from cdma_tools.radio.air import CHIP_RATE
 from cdma_tools.results import Result
 
 LEAST_RHO, MOST_UNUSED_DB, MOST_NANOSECONDS, MOST_RADIANS, MOST_MILLIONTHS = 0.912, -27.0, 50.0, 0.05, 0.05
-NO_FREQUENCY = "the recording's frequency isn't known: a .sigmf-meta tells it, or --frequency"
+NO_FREQUENCY = "the recording's frequency isn't known: give --frequency, or a .sigmf-meta that has it"
 
 
 class Sense(enum.Enum):

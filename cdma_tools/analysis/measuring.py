@@ -73,7 +73,7 @@ class Analysis:
 def phase_of(file: SampleFile) -> int:
     """Returns the code phase of a sample file's first chip; refuses a file in which no pilot stands out."""
     if file.count < 4 * STRETCH:
-        raise Refused(f"{file.path}: {file.count} chips are too few: a pilot is looked for in {4 * STRETCH}")
+        raise Refused(f"{file.path}: {file.count} chips are too few: the search for a pilot needs {4 * STRETCH}")
     bins = numpy.zeros(1, numpy.int64)
     best = strongest(lambda number: numpy.repeat(file.read(number * STRETCH, STRETCH), 2), bins, 1)
     if best.excess <= 1:
@@ -103,7 +103,7 @@ def domain_of_file(
     finally:
         file.close()
     if domain is None:
-        raise Refused(f"{path}: too few chips for a code domain, which takes a power control group of 1.25 ms")
+        raise Refused(f"{path}: too few chips for a code domain, which needs a power control group of 1.25 ms")
     return domain
 
 

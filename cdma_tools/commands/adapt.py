@@ -44,7 +44,7 @@ def place_of(text: str) -> tuple[str, int]:
     """A host and a port, as localhost:5000 or [::1]:5000."""
     host, _, port = text.rpartition(":")
     if not host or not port.isdecimal() or not 0 < int(port[:6]) <= MOST_PORT:
-        raise wrong(f"no HOST:PORT with a port from 1 to {MOST_PORT:,}", text)
+        raise wrong(f"not HOST:PORT with a port from 1 to {MOST_PORT:,}", text)
     return host.removeprefix("[").removesuffix("]"), int(port)
 
 

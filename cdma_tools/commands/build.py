@@ -63,7 +63,7 @@ def crates_in(root: str, name: str) -> dict[str, Crate]:
     if name not in crates:
         raise WrongArguments(f"crates.txt has no crate {name}")
     if not shutil.which("rt"):
-        raise WrongArguments("no rt on the path: it is the command of Rattle's kit (see README.md)")
+        raise WrongArguments("rt is not on the path: it is the command of Rattle's kit (see README.md)")
     return crates
 
 

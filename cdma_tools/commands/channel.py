@@ -221,7 +221,7 @@ def add_noise(options: argparse.Namespace, link: Link) -> None:
     """Adds the noise that the arguments ask for."""
     first = link.cells[0].file.path
     if not link.pilot > 0:
-        raise Refused(f"{first}: no cell: its samples have no power")
+        raise Refused(f"{first}: not a cell: its samples have no power")
     if options.ec_io is not None:
         link.set_ec_io(options.ec_io)
     elif options.eb_nt is not None:

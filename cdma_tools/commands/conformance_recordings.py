@@ -60,7 +60,7 @@ class RecordedCase:
         if missing or not self.scripts or not self.lines:
             raise Refused(f"the case {name} has no {', '.join(sorted(missing)) or 'script or lines'}")
         if len(self.fields["cells"].split()) != len(self.scripts):
-            raise Refused(f"the case {name} has {len(self.scripts)} scripts, and levels of another number of cells")
+            raise Refused(f"the case {name} has {len(self.scripts)} scripts, but levels of another number of cells")
 
     def take(self, line: str, block: list[str] | None) -> list[str] | None:
         """Takes a line, and returns the block to which the next one may belong."""
@@ -74,7 +74,7 @@ class RecordedCase:
             return self.lines
         key, separator, value = line.partition(":")
         if not separator:
-            raise Refused(f"the case {self.name} has a wrong line: {line[:60]!r}")
+            raise Refused(f"the case {self.name} has an invalid line: {line[:60]!r}")
         self.fields[key] = value.strip()
         return None
 

@@ -34,7 +34,7 @@ def wants(case: Draft) -> dict[str, Item]:
     answers = [answer_of(case, words, data) for words in case.runs]
     answer = answers[0]
     if any(other[:3] != answer[:3] for other in answers):
-        raise Refused(f"the runs of the case {case.name} don't end alike")
+        raise Refused(f"the runs of the case {case.name} end differently")
     found = {"status": Item("status", f"status: {answer.status}", [])}
     if case.input == "samples" and case.scripts or case.has("sha256"):
         found["sha256"] = Item("sha256", f"sha256: {hashlib.sha256(data).hexdigest()}", [])

@@ -127,7 +127,7 @@ def path_of(text: str) -> tuple[int, complex]:
         separator = ""
     if not separator or not 0 < found[0] <= MOST_DELAY or not is_factor(found[1]):
         most = f"a delay of 1 to {MOST_DELAY}, and a factor that isn't 0, of parts up to {MOST_FACTOR}"
-        raise wrong(f"no path DELAY:FACTOR, as 7:0.5-1j, with {most}", text)
+        raise wrong(f"not a path DELAY:FACTOR, such as 7:0.5-1j, with {most}", text)
     return found
 
 

@@ -124,9 +124,9 @@ def check_arguments(words: Parser, options: argparse.Namespace) -> None:
     """Ends with status 2 if options don't go together."""
     if is_described(options.recording):
         if options.type:
-            words.error("--type can't be given with a .sigmf-meta, a .sigmf or a .wav, which tells it")
+            words.error("--type can't be given with a .sigmf-meta, a .sigmf or a .wav, which has its own")
     elif is_recording(options) and (options.type is None or options.rate is None):
-        words.error("--type and --rate needed, unless it is a .sigmf-meta or a sample file")
+        words.error("--type and --rate are needed, unless it is a .sigmf-meta or a sample file")
     if not is_recording(options) and (given := [name for name in RECORDING_ONLY if getattr(options, name) is not None]):
         words.error(f"--{given[0]} goes with a recording: a .sigmf-meta, or --type and --rate")
     if fault := frequency_fault(options):

@@ -51,7 +51,7 @@ def strengths_of(lines: Iterable[str]) -> list[tuple[int, int, int]]:
     """The pilot, the delta and the energy of each line of a survey."""
     found = [(read["pn"], read["delta"], read["energy"]) for _, read in read_lines(lines, ("survey",), "survey")]
     if not found:
-        raise Refused("no line of survey")
+        raise Refused("it has no line of survey")
     return found
 
 
@@ -59,7 +59,7 @@ def run_of(lines: Iterable[str]) -> Run:
     """Returns the run that lines of follow describe."""
     run = Run(read_lines(lines, FOLLOWED, "follow"))
     if run.is_empty:
-        raise Refused("no line of follow with an event after the pilot")
+        raise Refused("it has no line of follow with an event after the pilot")
     return run
 
 

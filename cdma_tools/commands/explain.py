@@ -105,7 +105,7 @@ def checked(given: list[str] | None) -> argparse.Namespace:
     if options.traffic and not re.fullmatch("[0-9a-fA-F]{8}", options.traffic[0]):
         words.error("ESN is eight hex digits")
     if options.traffic and not (re.fullmatch("[0-9]{1,2}", options.traffic[1]) and int(options.traffic[1]) in ROWS):
-        words.error("ROW is 1 to 63, and not 32, which is the sync channel's")
+        words.error("ROW must be 1 to 63, but not 32, which is the sync channel's")
     if options.picture == STANDARD:
         words.error("--picture needs a file: standard output has the steps")
     return options

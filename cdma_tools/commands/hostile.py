@@ -180,7 +180,7 @@ class Hostile:
         except AssertionError as why:
             return str(why)
         except subprocess.TimeoutExpired:
-            return f"{name}: no end within a minute"
+            return f"{name}: it didn't end within a minute"
         return None
 
 
@@ -236,7 +236,7 @@ def main(arguments: list[str] | None = None) -> int:
     words = parser()
     options = words.parse_args(arguments)
     if options.seconds and (options.count or not options.tools):
-        words.error("--seconds goes with --tools, in place of --count")
+        words.error("--seconds goes with --tools, instead of --count")
     if options.tools:
         faults, statuses = runs_of_tools(options.count or 1_000, options.seconds, options.seed)
         count, kind = statuses.total(), f"runs of tools, seed {options.seed}"

@@ -229,7 +229,7 @@ def check_words(words: Parser, options: argparse.Namespace) -> None:
         words.error("FILE and the table of --json can't both go to standard output")
     if options.reflag:
         words.error(
-            "--reflag goes with one sample file, --complement-30, --complement-16, --checks and --program alone"
+            "--reflag goes only with one sample file, --complement-30, --complement-16, --checks and --program"
         )
     if options.file != "-" and os.path.isdir(options.file):
         words.error(f"{options.file} is a folder")
@@ -243,11 +243,11 @@ def check_words(words: Parser, options: argparse.Namespace) -> None:
         words.error("--meta goes with a .sigmf-meta or a file of raw samples")
     if is_described(options.recording):
         if options.type:
-            words.error("--type can't be given with a .sigmf-meta, a .sigmf or a .wav, which tells it")
+            words.error("--type can't be given with a .sigmf-meta, a .sigmf or a .wav, which has its own")
         return
     missing = [name for name, value in (("--type", options.type), ("--rate", options.rate)) if value is None]
     if missing:
-        words.error(f"{' and '.join(missing)} needed, unless RECORDING is a .sigmf-meta")
+        words.error(f"give {' and '.join(missing)}, unless RECORDING is a .sigmf-meta")
 
 
 def flags_of(options: argparse.Namespace) -> int:

@@ -137,7 +137,7 @@ def add_source(words: argparse.ArgumentParser) -> None:
     words.add_argument("source", type=InputFile, metavar="SOURCE", help=source)
     kinds = "how the samples are kept; not with a .sigmf-meta, a .sigmf or a .wav"
     words.add_argument("--type", type=type_named, choices=TYPES, metavar="TYPE", help=f"{kinds}: {', '.join(TYPES)}")
-    rates = "samples a second, as 2400000 or 2.4M; with a .sigmf-meta only where it tells none"
+    rates = "samples a second, as 2400000 or 2.4M; with a .sigmf-meta only if that has no rate"
     words.add_argument("--rate", type=Within(rational, CHIP_RATE, MOST_RATE), metavar="N", help=rates)
     add_program_option(words)
     add_capture_option(words)
@@ -187,7 +187,7 @@ def check_live(words: argparse.ArgumentParser, options: argparse.Namespace, sche
     if scheme in FIXED_TYPES and options.type not in (None, kind):
         words.error(f"the samples of {scheme} are {kind}")
     if options.rate is None or scheme == RTL_TCP and options.rate.denominator != 1:
-        words.error("--rate is needed with a live source" + (", and whole" if scheme == RTL_TCP else ""))
+        words.error("--rate is needed with a live source" + (", as a whole number" if scheme == RTL_TCP else ""))
     if options.type is None and kind is None:
         words.error(f"--type is needed with {scheme}://")
 
@@ -199,7 +199,7 @@ def check_source(words: argparse.ArgumentParser, options: argparse.Namespace) ->
         check_live(words, options, scheme)
     elif is_described(options.source):
         if options.type:
-            words.error("--type can't be given with a .sigmf-meta, a .sigmf or a .wav, which tells it")
+            words.error("--type can't be given with a .sigmf-meta, a .sigmf or a .wav, which has its own")
     elif options.type is None or options.rate is None:
         words.error("--type and --rate are needed, unless SOURCE is a .sigmf-meta, a .sigmf or a .wav")
     given = [name for name in (*FREQUENCY_OPTIONS, "gain", "ppm", "bias_tee", "agc") if getattr(options, name)]
@@ -305,9 +305,9 @@ def source_of(options: argparse.Namespace) -> Stream | Recording:
 def check_output(options: argparse.Namespace, is_recording: bool, output: Output) -> None:
     """Refuses an output with lines that can't be gone on with."""
     if is_recording and options.append:
-        raise WrongArguments("--append goes with a stream; a listening to a file of samples goes on by itself")
+        raise WrongArguments("--append goes with a stream; listening to a file of samples continues without it")
     if is_recording and output.already.has_origin:
-        raise Refused(f"{options.out}: it has lines of streams, and those of a file of samples can't follow them")
+        raise Refused(f"{options.out}: it has lines of streams, so those of a file of samples can't be added")
     if not is_recording and output.already.lines and not options.append:
         raise Refused(
             f"{options.out}: it has lines: give --append to add those of another stream, or name another file"

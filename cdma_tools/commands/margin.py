@@ -107,7 +107,7 @@ def options_of(command: list[str]) -> dict[str, str]:
     while words:
         option, sign, value = words.pop(0).partition("=")
         if not option.startswith("--") or not (sign or words):
-            raise Refused(f"{option!r} is no option with a value")
+            raise Refused(f"{option!r} is not an option with a value")
         found[option[2:]] = value if sign else words.pop(0)
     return found
 
@@ -179,11 +179,11 @@ def script_text(path: str, name: str) -> str:
         with open(path, "rb") as file:
             data = file.read(MOST_BYTES + 1)
     if len(data) > MOST_BYTES:
-        raise Refused(f"{name}: more than {MOST_BYTES:,} bytes: no script")
+        raise Refused(f"{name}: not a script: it has more than {MOST_BYTES:,} bytes")
     try:
         return data.decode("ascii")
     except UnicodeDecodeError:
-        raise Refused(f"{name}: no ASCII text: no script") from None
+        raise Refused(f"{name}: not a script: it isn't ASCII text") from None
 
 
 def cell_of(text: str, name: str) -> Cell:
@@ -224,7 +224,7 @@ def signs_in(path: str, cell: Cell, name: str, heard: Heard, names: dict[int, st
     `name` is that of the cell's script.
     """
     if heard.fingers != 1:
-        raise Refused(f"the law is about one finger, and the command has --fingers {heard.fingers}")
+        raise Refused(f"the law is about one finger, but the command has --fingers {heard.fingers}")
     capture = read_whole(path, heard.span)
     try:
         return signs(capture, cell, heard.span, names)

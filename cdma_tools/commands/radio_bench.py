@@ -81,7 +81,7 @@ def main(arguments: list[str] | None = None) -> int:
     known = [case.name for case in CELLS_CASES] if options.cells else [case.name for case in CASES]
     unknown = [name for name in options.only if name not in known]
     if unknown:
-        words.error(f"no link {unknown[0]}: they are {', '.join(known)}")
+        words.error(f"no link {unknown[0]}, only {', '.join(known)}")
     if options.keep and not os.path.isdir(options.keep):
         words.error(f"no folder {options.keep}")
     try:

@@ -168,9 +168,9 @@ def check_words(words: argparse.ArgumentParser, options: argparse.Namespace) -> 
     """Ends with status 2 if options don't go together."""
     if is_described(options.recording):
         if options.type:
-            words.error("--type can't be given with a .sigmf-meta, a .sigmf or a .wav, which tells it")
+            words.error("--type can't be given with a .sigmf-meta, a .sigmf or a .wav, which has its own")
     elif options.type is None or options.rate is None:
-        words.error("--type and --rate needed, unless RECORDING is a .sigmf-meta")
+        words.error("--type and --rate are needed, unless RECORDING is a .sigmf-meta")
 
 
 def policy_round(options: argparse.Namespace) -> SearchPolicy:
@@ -192,7 +192,7 @@ def centres_of(options: argparse.Namespace, rate: float, policy: SearchPolicy) -
     carriers = max(len(bins_within(step.span, step.beyond)) * len(step.spectra) for step in policy.steps_apart())
     if carriers * len(centres) > MOST_CARRIERS:
         advice = "--step in place of --all" if options.all else "a lesser --search, or a greater --step"
-        raise Refused(f"more than {MOST_CARRIERS:,} carriers round {len(centres):,} centre frequencies: give {advice}")
+        raise Refused(f"more than {MOST_CARRIERS:,} carriers around {len(centres):,} centre frequencies: give {advice}")
     return centres
 
 

@@ -214,7 +214,7 @@ def run_new(options: argparse.Namespace) -> int:
     text = "".join(line + "\n" for line, _ in lines)
     found = check(text.encode(), options.bits)
     if found:
-        raise Refused(f"these options make no script: {found[0].reason}")
+        raise Refused(f"these options don't make a script: {found[0].reason}")
     with write_out(options.out) as file:
         file.write(text.encode())
     if not options.quiet:

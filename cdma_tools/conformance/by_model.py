@@ -116,7 +116,7 @@ def near_differences(case: cases.Case, data: bytes, near: int) -> list[tuple[lis
     found = []
     apart = farthest(data, clean)
     if apart > near:
-        found.append((case.words, [f"a part of a sample is {apart} from the cell's, more than near: {near}"]))
+        found.append((case.words, [f"an I or Q value is {apart} from the cell's, more than near: {near}"]))
     for words in case.runs:
         if less := what_bears_less(cell, words, near):
             found.append((words, less))
@@ -155,7 +155,7 @@ def differences(case: cases.Case) -> list[tuple[list[str], list[str]]]:
     """The arguments of each run that differs, and what differs."""
     data = input_of(case)
     if case.fields.get("sha256", "") not in ("", hashlib.sha256(data).hexdigest()):
-        return [(case.words, ["the samples that the model makes aren't the case's: their checksum is another"])]
+        return [(case.words, ["the samples that the model makes don't have the case's checksum"])]
     found = [(words, cases.differences(case, answer_of(case, words, data))) for words in case.runs]
     near = near_differences(case, data, case.near) if case.near is not None else []
     return [(words, said) for words, said in found if said] + near

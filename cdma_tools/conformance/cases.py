@@ -121,11 +121,11 @@ class Case:
             return block
         key, separator, value = line.partition(":")
         if not separator or (value and not value.startswith(" ")):
-            raise self.refuse(f"has a line that is none: {line[:60]!r}")
+            raise self.refuse(f"has an invalid line: {line[:60]!r}")
         if key in ("script", "file", "text") and not value:
             return self.begin(key)
         if key not in KEYS or (not value and key not in MAYBE_EMPTY):
-            raise self.refuse(f"has a line that is none: {line[:60]!r}")
+            raise self.refuse(f"has an invalid line: {line[:60]!r}")
         if key in self.fields and key != "words":
             raise self.refuse(f"has two lines {key}:")
         self.fields[key] = value[1:]
@@ -133,7 +133,7 @@ class Case:
             try:
                 self.runs.append(shlex.split(value))
             except ValueError as why:
-                raise self.refuse(f"has arguments that can't be read: {why}") from None
+                raise self.refuse(f"has invalid arguments: {why}") from None
         return None
 
     def begin(self, key: str) -> list[str]:
@@ -169,12 +169,13 @@ class Case:
         """Returns where the output is lost, if it is, and the length and checksum of an output that isn't text."""
         value = self.fields.get("output")
         if (value is None) == (self.text is None):
-            raise self.refuse("has not just one of text: and output:")
+            raise self.refuse("must have exactly one of text: and output:")
         if value is None or value in SINKS:
             return value, None
         words = value.split()
         if len(words) != 2 or not words[0].isdecimal() or len(words[1]) != 64:
-            raise self.refuse(f"has output: {value[:60]}, which is none of {', '.join(SINKS)}, and no number with a checksum")
+            wanted = f"{' or '.join(SINKS)}, or a length with a checksum"
+            raise self.refuse(f"has output: {value[:60]}, which is not {wanted}")
         return None, (int(words[0]), words[1])
 
     def take_changes(self) -> None:
@@ -186,26 +187,26 @@ class Case:
             self.cut = int(self.fields["cut"]) if "cut" in self.fields else None
             self.add = spelled(self.fields.get("add", ""))
         except ValueError as why:
-            raise self.refuse(f"has bytes or a place that are none: {why}") from None
+            raise self.refuse(f"has invalid bytes, or an invalid place: {why}") from None
 
     def check_input(self) -> None:
         """Refuses a case whose input isn't one."""
         self.input = self.fields.get("input", "samples")
         if self.input not in INPUTS:
-            raise self.refuse(f"has input: {self.input}, which is none of {', '.join(INPUTS)}")
+            raise self.refuse(f"has input: {self.input}, which is not one of {', '.join(INPUTS)}")
         blocks = len(self.scripts) + (self.file is not None)
         if self.input not in ("samples", "script") and blocks:
-            raise self.refuse(f"has input: {self.input}, and a script or a file")
+            raise self.refuse(f"has input: {self.input}, which takes no script or file")
         if self.input == "samples" and (blocks == 0 or (self.scripts and self.file is not None)):
-            raise self.refuse("has no script" if blocks == 0 else "has scripts and a file")
+            raise self.refuse("has no script or file" if blocks == 0 else "has both scripts and a file")
         if self.input == "script" and (len(self.scripts) != 1 or self.file is not None):
-            raise self.refuse("has input: script, and not just one script")
+            raise self.refuse("has input: script, but not exactly one script")
         if len(self.places) != max(0, len(self.scripts) - 1):
-            raise self.refuse(f"has {len(self.scripts)} scripts and {len(self.places)} places")
+            raise self.refuse(f"has {len(self.scripts)} scripts, but {len(self.places)} places")
         if self.scripts and self.input == "samples" and self.bits not in (8, 16):
-            raise self.refuse("has bits: neither 8 nor 16")
+            raise self.refuse(f"has bits: {self.bits}, which is neither 8 nor 16")
         if self.near is not None and (not self.scripts or self.text is None):
-            raise self.refuse("has near: and no script, or no text")
+            raise self.refuse("has near: without a script or without a text")
         if self.against and not 0 < self.against[0] <= MOST_ROW:
             raise self.refuse(f"has against: {self.fields['against']}, whose first number isn't a row from 1 to {MOST_ROW}")
 
@@ -465,7 +466,7 @@ def tried(
     data = input_of(case, lambda: samples_of(case, maker, minutes))
     wanted = case.fields.get("sha256")
     if wanted and hashlib.sha256(data).hexdigest() != wanted:
-        return [(case.words, [f"the samples that {maker} makes aren't the case's: their checksum is another"])]
+        return [(case.words, [f"the samples that {maker} makes don't have the case's checksum"])]
     if keep and data:
         with open(os.path.join(keep, case.name + (".script" if case.input == "script" else ".is95")), "wb") as kept:
             kept.write(data)

@@ -39,7 +39,7 @@ LINE = re.compile(r"step (sync|paging|traffic) frame=([0-9]{1,6})((?: [a-z]+=[0-
 NUMBERS = re.compile(r"-?[0-9]{1,18}(?:,-?[0-9]{1,18})*")
 # The steps in their order, with the number and the name that `explain` has.
 NAMES = {
-    "heard": "step 1, the symbols as the fingers hear them, turned by the pilot and added up",
+    "heard": "step 1, the symbols of the fingers, turned by the pilot and added up",
     "scrambling": "step 2, the scrambling bits",
     "softs": "step 3, the soft values in the order in which they are sent, unscrambled",
     "symbols": "step 4, the soft values of the code symbols in the encoder's order",
@@ -67,7 +67,7 @@ def told_of(line: str) -> Told:
     """Returns the values of a line of steps; raises NoStep if it is no such line."""
     found = LINE.fullmatch(line)
     if not found:
-        raise NoStep(f"a line of steps has another form than docs/FORMATS.md: {line[:80]}")
+        raise NoStep(f"a line of steps doesn't have the form of docs/FORMATS.md: {line[:80]}")
     values = dict(pair.split("=") for pair in found[3].split())
     unknown = sorted(set(values) - set(NAMES))
     if unknown:
@@ -93,7 +93,7 @@ def signs_of(text: str) -> NDArray[numpy.int64]:
     if ":" in text:
         return 1 - 2 * numpy.array(bits_in(text), dtype=numpy.int64)
     if not NUMBERS.fullmatch(text):
-        raise NoStep(f"neither whole numbers between commas nor bits as N:HEX: {text[:60]}")
+        raise NoStep(f"neither whole numbers separated by commas nor bits in the form N:HEX: {text[:60]}")
     return numpy.sign(numpy.array([int(number) for number in text.split(",")], dtype=numpy.int64))
 
 
@@ -101,7 +101,7 @@ def bits_in(text: str) -> list[int]:
     """The bits of a text N:HEX."""
     bits = bits_of_text(text)
     if bits is None:
-        raise NoStep(f"no bits as N:HEX: {text[:60]}")
+        raise NoStep(f"not bits in the form N:HEX: {text[:60]}")
     return list(bits)
 
 
@@ -110,7 +110,7 @@ def soft_difference(text: str, right: NDArray[Any], erased: Sequence[int] | NDAr
     none."""
     signs = signs_of(text)
     if len(signs) != len(right):
-        return f"{len(signs)} values, and {len(right)} are right"
+        return f"{len(signs)} values instead of {len(right)}"
     is_sure = numpy.abs(right) >= numpy.abs(right).mean() / 2
     is_sure[numpy.asarray(erased, dtype=int)] = False
     wrong = numpy.flatnonzero(is_sure & (signs != numpy.sign(right)))
@@ -124,9 +124,9 @@ def bit_difference(text: str, right: Sequence[int]) -> str:
     """Returns the difference of bits from the right ones, empty if there is none."""
     bits = bits_in(text)
     if len(bits) != len(right):
-        return f"{len(bits)} bits, and {len(right)} are right"
+        return f"{len(bits)} bits instead of {len(right)}"
     wrong = [place for place, (bit, other) in enumerate(zip(bits, right)) if bit != other]
-    return f"{len(wrong)} of {len(right)} bits are others, the first is number {wrong[0]}" if wrong else ""
+    return f"{len(wrong)} of {len(right)} bits differ, the first is number {wrong[0]}" if wrong else ""
 
 
 def reading_with(steps: Steps, count: int) -> Reading:
@@ -191,9 +191,9 @@ def explained(case: Case, words: Sequence[str], data: bytes, written: Sequence[s
     """Returns the report on the lines of steps before the first line that differs."""
     place = first_difference(case.text or [], written)
     if not lines:
-        return [f"no step is told before line {place + 1}, the first that differs"]
+        return [f"no step was reported before line {place + 1}, the first that differs"]
     if case.input != "samples":
-        return ["steps are explained of sample files alone"]
+        return ["only steps of sample files are explained"]
     try:
         explainer = Explainer(words, data)
         for line in lines[-MOST_FRAMES:]:
@@ -207,7 +207,7 @@ def explained(case: Case, words: Sequence[str], data: bytes, written: Sequence[s
     except (BadFile, ValueError) as why:
         return [f"the frame can't be explained: {why}"]
     last = [name for name in NAMES if any(f" {name}=" in line for line in lines)][-1]
-    return [f"no step that is told differs: look after {NAMES[last]}, at {LAST}, or at a step that isn't told"]
+    return [f"no reported step differs: look after {NAMES[last]}, at {LAST}, or at a step that wasn't reported"]
 
 
 def compared_with_steps(

@@ -39,7 +39,7 @@ def checked(parser: Parser, arguments: list[str] | None, names: list[str]) -> tu
     options = parser.parse_args(arguments)
     chosen = [fnmatch.filter(names, pattern) for pattern in options.only or []]
     if [] in chosen:
-        parser.error(f"no case {options.only[chosen.index([])]}: --list has them all")
+        parser.error(f"no case {options.only[chosen.index([])]}: --list prints them all")
     if options.keep and not os.path.isdir(options.keep):
         parser.error(f"no folder {options.keep}")
     if not options.list and not getattr(options, "rules", False):

@@ -20,13 +20,13 @@ REPLACED = 32
 def reason(case: Case) -> str:
     """Returns why the standard doesn't fix the results of a case, empty if it fixes some of them."""
     if case.status > 1 or case.input != "samples" or not case.scripts or case.text is None:
-        return "what it wants is a matter of this project's formats"
+        return "what it expects is set by this project's formats"
     if any(words[:1] != ["follow"] for words in case.runs):
         return "its command is this project's own"
     if changed(case) or case.near is None and (case.places or case.noise or case.against or case.divide > 1):
-        return "the standard doesn't say what is to be heard of samples that aren't one cell's alone"
+        return "the standard doesn't say what is received of samples that aren't one cell's only"
     if not any("checks=0" in line for line in case.scripts[0]):
-        return "its messages' checks are complemented, as a flag tells that is this project's own"
+        return "its messages' checks are complemented, by a flag that is this project's own"
     if any(re.match(r"traffic at=\d+ .*handoff ", line) for line in case.text):
         return "it rests on this project's layouts of traffic messages and on its rules of handoff"
     if not any(part for kind in KINDS for part in fixed(case.text, kind, sent_by(case))):

@@ -76,11 +76,11 @@ def versions_of(antenna: Antenna | None) -> str:
 def check_machine(setup: Setup) -> None:
     """Refuses a machine on which the same seeds might give other counts."""
     if (here := versions_of(setup.antenna)) != setup.numpy_version:
-        raise Refused(f"numpy is {here} here, and {setup.numpy_version} where the run began")
+        raise Refused(f"numpy is {here} here, but {setup.numpy_version} where the run began")
     programs = {(setup.maker, setup.maker_checksum), *((curve.program, curve.checksum) for curve in setup.curves)}
     for program, checksum in sorted(programs):
         if digest(program) != checksum:
-            raise Refused(f"{program} isn't the program here that it is where the run began")
+            raise Refused(f"{program} is another program here than where the run began")
 
 
 def on_air(setup: Setup, parts: NDArray[numpy.int16]) -> NDArray[numpy.int16]:
@@ -97,7 +97,7 @@ def on_air(setup: Setup, parts: NDArray[numpy.int16]) -> NDArray[numpy.int16]:
         sums[:length] += other[: 2 * length].astype(numpy.float32).view(numpy.complex64)
     rounded = numpy.rint(sums.view(numpy.float32))
     if rounded.min() < LEAST or rounded.max() > GREATEST:
-        raise Refused("the paths and cells together leave the range of samples: give the scripts lesser gains")
+        raise Refused("the paths and cells together exceed the range of samples: give the scripts lower gains")
     return rounded.astype(numpy.int16)
 
 
@@ -199,4 +199,4 @@ def check_lock(setup: Setup, antenna: Antenna, ready: Prepared) -> None:
     head = sample_file(ready.flags, ready.parts[:count])
     got = caught(antenna, [head, *others], 0.0, setup.seed, ready.flags, {1})[1]
     if isinstance(got, Refused):
-        raise Refused(f"--channel: without noise no pilot is locked to: {got}")
+        raise Refused(f"--channel: there is no lock even without noise: {got}")

@@ -60,7 +60,7 @@ def hand_out(client: Any, setup: Setup, ledger: Ledger, sigmas: dict[int, float]
             hands.fill()
             hands.step(sink)
     except (OSError, concurrent.futures.CancelledError, asyncio.CancelledError):
-        raise Refused("the scheduler is gone, or gave up the run") from None
+        raise Refused("the scheduler ended, or cancelled the run") from None
     finally:
         with contextlib.suppress(Exception):
             client.cancel(list(hands.under_way), force=True)

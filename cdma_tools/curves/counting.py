@@ -83,7 +83,7 @@ def frames_in(lines: Iterable[str], name: str) -> Iterator[Heard]:
         try:
             read = read_line(line)
         except NoLine as why:
-            raise Refused(f"{name}: line {number} is none of docs/FORMATS.md: {why}") from None
+            raise Refused(f"{name}: line {number} is not one of docs/FORMATS.md: {why}") from None
         if read["line"] in FRAME_KINDS:
             yield Heard(read["line"], read["at"], read["rate"], read["good"] == 1, read["bits"])
 
@@ -112,10 +112,10 @@ def expected(script: Script, traffic: Traffic, clean: list[str], name: str) -> E
     """Returns the expected content, by the lines that the maker writes of the samples without noise."""
     begin = min((frame.at for frame in frames_in(clean, name)), default=None)
     if begin is None:
-        raise Refused(f"{name} hears no frame of the script's samples without noise")
+        raise Refused(f"{name} decodes no frame of the script's samples, even without noise")
     found = {end: frame for end, frame in frames_sent(script, traffic).items() if end >= begin - NEAR}
     if not found:
-        raise Refused(f"no frame lies whole in the script's {script.samples} samples after the first sync message")
+        raise Refused(f"the script's {script.samples} samples have no complete frame after the first sync message")
     return Expected(found, messages_in(clean))
 
 

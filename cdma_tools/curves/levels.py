@@ -75,7 +75,7 @@ class Air:
         """Returns the level of noise at which the channel has an Eb/Nt in dB; raises Refused if there is none."""
         most = self.decibels(channel, LEAST_SIGMA)
         if not self.decibels(channel, GREATEST_SIGMA) < decibels < most:
-            raise Refused(f"no level of noise gives {decibels:g} dB: with next to none the channel has {most:.2f} dB")
+            raise Refused(f"no noise level gives {decibels:g} dB: with almost no noise the channel has {most:.2f} dB")
 
         def above(log_sigma: float) -> float:
             return self.decibels(channel, math.exp(log_sigma)) - decibels

@@ -32,14 +32,14 @@ class Limit:
 def limit_of(fields: dict[str, str]) -> Limit:
     """Returns the limit in a line's fields; raises ValueError if they have another form."""
     if None in fields or None in fields.values():
-        raise ValueError("another number of fields than the first line")
+        raise ValueError("it has another number of fields than the first line")
     try:
         point, share = Decimal(fields["point_db"]) * 1_000, float(fields["share"])
         thousandths = int(point)
     except (InvalidOperation, OverflowError, ValueError):
-        raise ValueError("its point or its share is no number") from None
+        raise ValueError("its point or its share is not a number") from None
     if thousandths != point:
-        raise ValueError("its point has more than three places after the decimal point")
+        raise ValueError("its point has more than three decimal places")
     if not 0 < share <= 1:
         raise ValueError("its share isn't above 0 and at most 1")
     return Limit(thousandths, fields.get("channel", "").strip(), share)
@@ -52,7 +52,8 @@ def read_limits(path: str, points: Collection[int]) -> list[Limit]:
         with open(path, newline="", encoding="ascii") as file:
             table = csv.DictReader(file)
             if table.fieldnames not in FORMS:
-                raise Refused(f"{path}: no limits: the first line is neither {' nor '.join(map(','.join, FORMS))}")
+                forms = " nor ".join(map(",".join, FORMS))
+                raise Refused(f"{path}: not a table of limits: the first line is neither {forms}")
             for fields in table:
                 limit = limit_of(fields)
                 check_limit(limit, len(limits), points)
@@ -60,27 +61,27 @@ def read_limits(path: str, points: Collection[int]) -> list[Limit]:
     except OSError as why:
         raise Refused(f"{path}: {why.strerror}") from None
     except UnicodeDecodeError:
-        raise Refused(f"{path}: no limits: it isn't ASCII text") from None
+        raise Refused(f"{path}: not a table of limits: it isn't ASCII text") from None
     except (ValueError, csv.Error) as why:
         raise Refused(f"{path}: limit {len(limits) + 1}: {why}") from None
     if not limits:
-        raise Refused(f"{path}: it has no limit")
+        raise Refused(f"{path}: it has no limits")
     return limits
 
 
 def check_limit(limit: Limit, before: int, points: Collection[int]) -> None:
     """Refuses a limit at a point that isn't measured, and too many limits; `before` come before it."""
     if before >= MOST_LIMITS:
-        raise ValueError(f"at most {MOST_LIMITS:,} may stand here")
+        raise ValueError(f"there may be at most {MOST_LIMITS:,}")
     if limit.point not in points:
-        raise ValueError(f"{limit.point / 1_000:g} dB is no point of --from, --to and --step")
+        raise ValueError(f"{limit.point / 1_000:g} dB is not a point of --from, --to and --step")
 
 
 def check_channels(limits: Iterable[Limit], channels: Collection[str], path: str) -> None:
     """Refuses a limit of a channel that isn't counted."""
     for limit in limits:
         if limit.channel and limit.channel not in channels:
-            raise Refused(f"{path}: no channel {limit.channel!r} is counted: there is {', '.join(channels)}")
+            raise Refused(f"{path}: channel {limit.channel!r} is not counted, only {', '.join(channels)}")
 
 
 def failure_of(row: Row, limit: Limit) -> str:

@@ -35,8 +35,8 @@ def check_room(greatest: int, sigma: float) -> None:
     """Refuses a level of noise that the range of samples would cut, over parts of at most `greatest`."""
     if greatest + MARGIN * sigma > GREATEST:
         raise Refused(
-            f"noise of level {sigma:.0f} on parts up to {greatest} leaves the range of samples, {LEAST} to {GREATEST}:"
-            f" give the script lesser gains"
+            f"noise of level {sigma:.0f} on values up to {greatest} exceeds the range of samples, {LEAST} to"
+            f" {GREATEST}: give the script lower gains"
         )
 
 

@@ -19,15 +19,15 @@ def points_of(begin: Decimal, end: Decimal, step: Decimal) -> list[int]:
     """The points from one Eb/Nt to another by a step, in thousandths of a decibel."""
     thousandths = [value * 1_000 for value in (begin, end, step)]
     if any(value != value.to_integral_value() for value in thousandths):
-        raise Refused("--from, --to and --step have at most three places after the point")
+        raise Refused("--from, --to and --step may have at most three decimal places")
     first, last, width = (int(value) for value in thousandths)
     if width <= 0:
-        raise Refused("--step is above 0")
+        raise Refused("--step must be above 0")
     if last < first:
         raise Refused("--to is below --from")
     found = list(range(first, last + 1, width))
     if len(found) > MOST_POINTS:
-        raise Refused(f"{len(found)} points: at most {MOST_POINTS}")
+        raise Refused(f"{len(found)} points, more than {MOST_POINTS}")
     return found
 
 

@@ -50,7 +50,7 @@ def made(maker: str, script: str, name: str, minutes: float) -> tuple[int, NDArr
     except Refused:
         raise Refused(f"{name}: {maker} make wrote no sample file") from None
     if told.version != VERSION or len(wrote) != told.file_bytes:
-        raise Refused(f"{name}: {maker} make wrote no whole sample file of version {VERSION}")
+        raise Refused(f"{name}: {maker} make didn't write a complete sample file of version {VERSION}")
     return told.flags, numpy.frombuffer(wrote, dtype=">i2", offset=HEADER.size).astype(numpy.int16)
 
 
@@ -67,7 +67,7 @@ def words_of(given: str, traffic: Traffic) -> str:
     except ValueError as why:
         raise Refused(f"--words {given!r}: {why}") from None
     if not words or words[0] not in COMMANDS[kind]:
-        raise Refused(f"--words {given!r}: a script of {kind} lines is heard by {' or '.join(COMMANDS[kind])}")
+        raise Refused(f"--words {given!r}: a script with {kind} lines needs {' or '.join(COMMANDS[kind])}")
     for name, value in (("--esn", traffic.esn), ("--row", traffic.row), ("--offset", traffic.offset)):
         if not any(word == name or word.startswith(name + "=") for word in words):
             words += [name, str(value)]
@@ -82,8 +82,8 @@ def heard(program: str, words: str, data: bytes, minutes: float) -> list[str]:
         how = f"ended with {status}" if status >= 0 else f"was {ended_text(status)}"
         raise Refused(f"{program} {words} {how}" + (f": {said}" if said else ""))
     if status == 0 and not wrote:
-        raise Refused(f"{program} {words} ended with 0 and wrote no lines")
+        raise Refused(f"{program} {words} ended with 0, but wrote no lines")
     try:
         return wrote.decode("ascii").splitlines()
     except UnicodeDecodeError:
-        raise Refused(f"{program} {words} wrote what is no ASCII text") from None
+        raise Refused(f"{program} {words} wrote text that isn't ASCII") from None

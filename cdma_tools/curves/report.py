@@ -128,14 +128,14 @@ def read_csv(path: str) -> list[Row]:
     try:
         table = csv.DictReader(io.StringIO(read_within(path, MOST_BYTES).decode("ascii"), newline=""))
         if tuple(table.fieldnames or ()) not in (FIELDS, OLD_FIELDS):
-            raise Refused(f"{path}: no CSV of this tool: its first line isn't {','.join(FIELDS)}")
+            raise Refused(f"{path}: not a CSV file of this tool: its first line isn't {','.join(FIELDS)}")
         read: list[dict[str, Any]] = [
             {name: None if value == "" else kinds.get(name, float)(value) for name, value in fields.items()}
             for fields in table
         ]
         return [Row(**{**OF_OLD, **values}) for values in read]
     except (ValueError, TypeError, AttributeError, csv.Error) as why:
-        raise Refused(f"{path}: no CSV of this tool: {why}") from None
+        raise Refused(f"{path}: not a CSV file of this tool: {why}") from None
 
 
 def differences(kept: Sequence[Row], rows: Sequence[Row]) -> list[str]:

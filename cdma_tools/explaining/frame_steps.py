@@ -225,9 +225,9 @@ def ended(channel: str, capsule: Bits, complemented: bool) -> str:
     """Returns the description of a capsule that ends here."""
     body = body_of(capsule, complemented, CHECKS[channel])
     if body is None:
-        return f"a capsule of {len(capsule) // 8} octets ends here, and its check is wrong: it is no message"
+        return f"a capsule of {len(capsule) // 8} octets ends here, but its check is wrong: it is not a message"
     if READERS[channel](body) is None:
-        return f"a capsule of {len(capsule) // 8} octets ends here; its check is right, and its body is no message"
+        return f"a capsule of {len(capsule) // 8} octets ends here; its check is right, but its body is not a message"
     return f"a capsule of {len(capsule) // 8} octets ends here, and its check is right: a message"
 
 
@@ -237,7 +237,7 @@ def ended(channel: str, capsule: Bits, complemented: bool) -> str:
 def stream_steps(capture: Capture, stream: Stream, index: int, what: str) -> Steps:
     """The steps of a frame of a channel whose encoder goes on, without its fields."""
     if not stream.is_inside(capture.count, index):
-        raise NoFrame(f"frame {index} of the {what} doesn't lie in the file")
+        raise NoFrame(f"the file doesn't contain frame {index} of the {what}")
     start = stream.start(index)
     heard = soft_values(capture, stream.fingers, stream.form, start)
     scrambling = stream.turning(index) if stream.turning else None
@@ -290,7 +290,7 @@ def fill_piece(steps: Steps, channel: str, held: Bits | None, piece: Bits, compl
     bits = before + piece[1:]
     length = stated_length(bits) if len(bits) >= LENGTH else None
     if length is None:
-        steps.parts.append(Part("body", piece[1:], remark="MSG_LENGTH is none"))
+        steps.parts.append(Part("body", piece[1:], remark="MSG_LENGTH is invalid"))
         return
     steps.parts += capsule_parts(channel, bits[:length], len(before))
     _, capsule = take_piece(held, piece)
@@ -303,7 +303,7 @@ def fill_piece(steps: Steps, channel: str, held: Bits | None, piece: Bits, compl
 def paging_steps(capture: Capture, found: Found, mark: Mark, channel: int, index: int) -> Steps:
     """The steps of a frame of a paging channel."""
     if mark.prat > 1:
-        raise NoFrame(f"the sync message has PRAT {mark.prat}, which tells no rate of a paging channel")
+        raise NoFrame(f"the sync message has PRAT {mark.prat}, which is not a rate of a paging channel")
     stream = paging_stream(found, mark, channel)
     steps = stream_steps(capture, stream, index, f"paging channel {channel}")
     held: Bits | None = None
@@ -360,7 +360,7 @@ def traffic_fingers(
     for event in hear_traffic(capture, found, mark, assigned, pages, capture.count):
         if event.message.get("index") == index:
             return event.message["fingers"]
-    raise NoFrame(f"frame {index} of the traffic channel doesn't lie in the file")
+    raise NoFrame(f"the file doesn't contain frame {index} of the traffic channel")
 
 
 def traffic_steps(capture: Capture, found: Found, mark: Mark, assigned: Assigned, index: int, rate_set: int) -> Steps:
@@ -372,7 +372,7 @@ def traffic_steps(capture: Capture, found: Found, mark: Mark, assigned: Assigned
     fingers = [finger for own in subchannels.values() for finger in own]
     clock = frame_clock(mark, assigned, index)
     if not is_inside(capture.count, fingers, DATA_FORM, clock.start):
-        raise NoFrame(f"frame {index} of the traffic channel doesn't lie in the file")
+        raise NoFrame(f"the file doesn't contain frame {index} of the traffic channel")
     softs = [soft_values(capture, own, DATA_FORM, clock.start) for own in subchannels.values()]
     heard = np.sum(softs, axis=0)
     turned = without(np.where(clock.scrambling, -heard, heard), clock.places)
@@ -466,5 +466,5 @@ def mark_of(capture: Capture, found: Found) -> Mark:
     """Returns the mark that a file's sync channel sets; raises `NoFrame` if it sets none."""
     _, mark = hear_sync(capture, found, capture.count)
     if mark is None:
-        raise NoFrame("no sync message tells the time, so there is no mark: look at --sync")
+        raise NoFrame("no sync message gives the time, so there is no mark: look at --sync")
     return mark

@@ -63,7 +63,7 @@ class Handed:
             some_ended(self.client, [future])
             heard: PartHeard = result_of(future, "part")
         except (OSError, concurrent.futures.CancelledError, asyncio.CancelledError):
-            raise Refused("the scheduler is gone, or gave up the run") from None
+            raise Refused("the scheduler ended, or cancelled the run") from None
         return heard
 
     def cancel(self) -> None:

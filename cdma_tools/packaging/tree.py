@@ -56,7 +56,7 @@ class Entry(NamedTuple):
 def check_program(path: str) -> None:
     """Refuses a file that isn't the program or doesn't run here: without arguments the program ends with status 2."""
     if not os.path.isfile(path) or not os.access(path, os.X_OK):
-        raise Refused(f"no program at {path}: build it first, as by rt ci at the top of the repository")
+        raise Refused(f"no program at {path}: build it first, for instance with rt ci at the top of the repository")
     try:
         ran = subprocess.run([path], stdin=subprocess.DEVNULL, capture_output=True, timeout=60)
     except OSError as why:
@@ -156,9 +156,9 @@ def listed(prefix: str) -> list[str]:
     except OSError as why:
         raise Refused(f"{path}: {why.strerror}: nothing is installed there") from None
     except ValueError:
-        raise Refused(f"{path}: no list of files") from None
+        raise Refused(f"{path}: not a list of files") from None
     if any(os.path.isabs(place) or ".." in place.split("/") for place in places):
-        raise Refused(f"{path}: no list of files below the prefix")
+        raise Refused(f"{path}: not a list of files below the prefix")
     return places
 
 

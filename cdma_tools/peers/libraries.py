@@ -61,7 +61,7 @@ def ran(command: Sequence[str], data: bytes, what: str) -> bytes:
     try:
         done = subprocess.run(command, input=data, capture_output=True, timeout=LONGEST)
     except subprocess.TimeoutExpired:
-        raise Refused(f"{what}: no end within {LONGEST} s") from None
+        raise Refused(f"{what} did not end within {LONGEST} s") from None
     except OSError as why:
         raise Refused(f"{what}: {why.strerror}") from None
     if done.returncode:

@@ -56,7 +56,7 @@ def checked(library: Library, program: str, data: bytes, wanted: str) -> Timed:
         """A run's processor seconds of a turn."""
         seconds, result = turn_of(program, TURNS, data)
         if result != wanted:
-            raise Refused(f"{library.name} finds another result: {result[:60]} in place of {wanted[:60]}")
+            raise Refused(f"{library.name} finds another result: {result[:60]} instead of {wanted[:60]}")
         return seconds
 
     return work
@@ -139,7 +139,7 @@ def print_resamplers(folder: str, rounds: int) -> None:
     path = os.path.join(folder, "recording")
     numpy.asarray(recording()).tofile(path)
     works: dict[str, Timed] = {"ours": lambda: front_seconds(path)}
-    lacks = {GNU_RADIO: "one ratio and no carrier: neither a clock that moves nor instants of one's own choice"}
+    lacks = {GNU_RADIO: "one ratio, no carrier, no drifting clock, no choice of instants"}
     try:
         works[GNU_RADIO] = gnu_radio_work(folder, path)
     except Missing as why:

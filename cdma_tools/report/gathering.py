@@ -89,7 +89,7 @@ def lines_of(text: bytes, kinds: tuple[str, ...]) -> list[Line]:
 def sample_bytes(path: str) -> int:
     """Returns the bytes of a sample, by the file's version, by default 4; refuses what can't be read several times."""
     if os.path.exists(path) and not os.path.isfile(path):
-        raise Refused(f"{path}: no plain file")
+        raise Refused(f"{path}: not a regular file")
     with open(path, "rb") as file:
         head = file.read(HEADER.size)
     return SAMPLE_BYTES.get(int.from_bytes(head[4:6], "big"), 4)
@@ -156,7 +156,7 @@ def gather_runs(program: str, path: str, words: dict[str, str]) -> tuple[Ran, Ra
     with bar(total=3 * samples, text="follow", unit="chips") as shown:
         follow = run_program(program, ["follow", *whole], path, FOLLOWED, shown)
         if follow.status == BAD_WORDS:
-            raise WrongArguments(f"no arguments of follow: {' '.join(whole)}")
+            raise WrongArguments(f"not arguments of follow: {' '.join(whole)}")
         find = run_program(program, ["find", *search], path, ("pilot",), shown)
         base = base_of(find, follow)
         survey = run_program(

@@ -151,7 +151,7 @@ def objects(path: str) -> Iterator[tuple[str, dict[str, Any]]]:
                     text = spell_line(json.loads(text))
                 yield text, read_line(text)
             except (NoLine, ValueError, AttributeError) as why:
-                raise Refused(f"{path}: line {number} is none: {why}") from None
+                raise Refused(f"{path}: line {number} is invalid: {why}") from None
 
 
 def heard_lines(path: str) -> HeardLines:

@@ -64,7 +64,7 @@ def chains(below: Mapping[str, Sequence[str]]) -> dict[str, list[str]]:
 
     def chain_to(name: str, above: tuple[str, ...]) -> list[str]:
         if name in above:
-            raise NoList(f"crates.txt has a circle: {' '.join((*above[above.index(name) :], name))}")
+            raise NoList(f"crates.txt has a cycle: {' '.join((*above[above.index(name) :], name))}")
         if name not in found:
             found[name] = max((chain_to(it, (*above, name)) for it in below[name]), key=len, default=[]) + [name]
         return found[name]

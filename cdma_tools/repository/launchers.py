@@ -50,13 +50,12 @@ def programs_in(folder: str, top: str) -> list[str]:
 def differences(top: str = TOP) -> list[str]:
     """Reports what differs from the table."""
     wanted = [launcher for _, launcher, _ in COMMANDS]
-    found = [
-        f"{place}: no copy of cdma_tools/launching.py" for place in wanted if not is_launcher(os.path.join(top, place))
-    ]
+    missing = [place for place in wanted if not is_launcher(os.path.join(top, place))]
+    found = [f"{place}: not a copy of cdma_tools/launching.py" for place in missing]
     there = [place for folder in FOLDERS for place in programs_in(folder, top)]
     found += [f"{place}: not in the table of commands" for place in there if place not in wanted]
     if wanted_scripts() not in read(os.path.join(top, PROJECT)).decode():
-        found.append(f"{PROJECT}: other commands than the table has")
+        found.append(f"{PROJECT}: its commands are not those of the table")
     return found
 
 

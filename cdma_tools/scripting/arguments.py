@@ -34,7 +34,7 @@ def faults(words: list[str]) -> list[str]:
     if not words:
         return [f"a command is missing: {', '.join(COMMANDS)}"]
     if words[0] not in COMMANDS:
-        return [f"{quoted(words[0])} is no command{meant(words[0], COMMANDS)} ({', '.join(COMMANDS)})"]
+        return [f"{quoted(words[0])} is not a command{meant(words[0], COMMANDS)} ({', '.join(COMMANDS)})"]
     found, given = option_faults(words[1:], words[0])
     return found + group_faults(words[0], given)
 
@@ -42,7 +42,7 @@ def faults(words: list[str]) -> list[str]:
 def meant(word: str, names: object) -> str:
     """Asks whether a similar name is meant."""
     near = difflib.get_close_matches(word.lower()[:32], list(names), 1)  # type: ignore[call-overload]
-    return f"; is {near[0]} meant?" if near else ""
+    return f"; did you mean {near[0]}?" if near else ""
 
 
 def option_faults(words: list[str], command: str) -> tuple[list[str], dict[str, int | None]]:
@@ -80,7 +80,7 @@ def why_no_option(word: str, name: str, command: str) -> str:
     if name in ("-h", "--help", "--version"):
         return f"the program has no {name}; man cdma_replay describes it"
     if not name.startswith("--") or name == "--":
-        return f"{quoted(word)} is no option: options are --name N or --name=N"
+        return f"{quoted(word)} is not an option: options are --name N or --name=N"
     others = [one for one, table in COMMANDS.items() if name[2:] in table]
     if others:
         return f"{command} has no {name}, which is an option of {', '.join(others)}"

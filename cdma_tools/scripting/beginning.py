@@ -86,7 +86,7 @@ def gains_of(plan: Plan) -> Callable[[float], int]:
     pilot = min(PILOT_GAIN, int(USED * LOUDEST[plan.width] / sum(ratios)))
     if min(ratios) * pilot < 1:
         raise Refused(
-            f"a level of {min(levels):g} dB is too low: the channel's gain would be 0 beside a pilot of {pilot}"
+            f"a level of {min(levels):g} dB is too low: the channel's gain would be 0 with a pilot gain of {pilot}"
         )
     return lambda level: max(1, round(pilot * 10 ** (level / 20)))
 

@@ -182,7 +182,7 @@ class Checker:
             self.add(len(line), "", "delete the blanks at the end of the line")
         inner = re.search(r"(?<=[^ \t])(?:[ \t]{2,}|\t)(?=[^ \t])", line)
         if inner:
-            self.add(inner.start() + 1, "", "exactly one space stands between two words")
+            self.add(inner.start() + 1, "", "put exactly one space between two words")
         odd = re.search(r"[^ -~\t]", line)
         if odd:
             self.add(odd.start() + 1, odd[0], "only printable ASCII characters are allowed")
@@ -193,7 +193,7 @@ class Checker:
         if word.text not in allowed:
             needed = " or ".join(allowed)
             after = f"after {self.before}" if self.before else "at the beginning"
-            self.add(word.column, word.text, f"{word.text} can't stand here: {after} comes {needed}")
+            self.add(word.column, word.text, f"{word.text} can't come here: {after} comes {needed}")
 
     # ---- statements
 
@@ -282,7 +282,7 @@ class Checker:
         size = sizes.get(rate.text)
 
         def why_not(count: int) -> str | None:
-            return f"a frame of {rate.text} has {size} bits, here are {count}" if size and count != size else None
+            return f"a frame of {rate.text} has {size} bits, not {count}" if size and count != size else None
 
         self.value(bits.text, bits.column, BitText(why_not))
         self.value(commands.text, commands.column, Commands())
@@ -295,7 +295,7 @@ class Checker:
             return True
         column = words[count].column if len(words) > count else 1
         self.add(
-            column, "", f"{name} has {count} words after its name, here are {len(words)}: {statements.FORMS[name]}"
+            column, "", f"{name} has {count} words after its name, not {len(words)}: {statements.FORMS[name]}"
         )
         return False
 
@@ -315,7 +315,7 @@ class Checker:
             if not equals or name not in readers:
                 self.add(word.column, word.text, why_no_key(word.text, name, equals, readers))
             elif name in found.columns:
-                self.add(word.column, word.text, f"{name} stands twice")
+                self.add(word.column, word.text, f"{name} appears twice")
             else:
                 found.columns[name] = word.column + len(name) + 1
                 found.values[name] = self.value(text, found.columns[name], readers[name], name)
@@ -379,8 +379,8 @@ class Checker:
 def why_no_statement(name: str) -> str:
     """Says which statement may be meant."""
     near = difflib.get_close_matches(name.lower()[:LONGEST_NAME], statements.FORMS, 1)
-    meant = f"; is {near[0]} meant?" if near else ""
-    return f"{quoted(name)} is no statement of a script{meant} ({', '.join(statements.FORMS)})"
+    meant = f"; did you mean {near[0]}?" if near else ""
+    return f"{quoted(name)} is not a statement of a script{meant} ({', '.join(statements.FORMS)})"
 
 
 LONGEST_NAME = 32
@@ -391,5 +391,5 @@ def why_no_key(word: str, name: str, equals: str, readers: dict[str, Reader]) ->
     if not equals:
         return f"{quoted(word)} isn't of the form name=value ({', '.join(readers)})"
     near = difflib.get_close_matches(name.lower()[:LONGEST_NAME], readers, 1)
-    meant = f"; is {near[0]}= meant?" if near else ""
+    meant = f"; did you mean {near[0]}=?" if near else ""
     return f"{quoted(name)} isn't a value of this statement{meant} ({', '.join(readers)})"

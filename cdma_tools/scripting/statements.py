@@ -100,7 +100,7 @@ def why_no_message(body: str) -> str | None:
     """Says why a body of lawful length isn't a message of the paging channel."""
     kind, left = int(body[:8], 2), len(body) - 8
     if kind == 1 and left < 214:
-        return f"a System Parameters Message (type 1) has 222 bits or more, here are {len(body)}"
+        return f"a System Parameters Message (type 1) has 222 bits or more, not {len(body)}"
     if kind == 3 and (left < 19 or (left - 19) % 12 > 7):
         return "a Neighbor List Message (type 3) has 27 bits, 12 a neighbor, and at most 7 more"
     if kind == 4 and (left < 15 or (left - 15) % 11 > 7):

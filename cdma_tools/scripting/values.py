@@ -127,10 +127,10 @@ class BitText:
             raise Wrong(f"{digits[good]!r} isn't a hex digit", place + good)
         needed = -(-count // 8) * 2
         if len(digits) != needed:
-            raise Wrong(f"{count} bits are written in {needed} hex digits, here are {len(digits)}", place)
+            raise Wrong(f"{count} bits are written in {needed} hex digits, not {len(digits)}", place)
         bits = f"{int(digits, 16):0{4 * needed}b}" if digits else ""
         if "1" in bits[count:]:
-            raise Wrong(f"the last {len(bits) - count} bits pad the last octet and have to be 0", place + needed - 2)
+            raise Wrong(f"the last {len(bits) - count} bits pad the last octet and must be 0", place + needed - 2)
         why = self.why_not(count)
         if why:
             raise Wrong(why)
@@ -151,7 +151,7 @@ class Commands:
         if good < len(text):
             raise Wrong(f"{text[good]!r} where a power control bit is needed ({self.wanted()})", good)
         if len(text) != 16:
-            raise Wrong(f"{len(text)} power control bits, a frame has sixteen")
+            raise Wrong(f"{len(text)} power control bits, but a frame has sixteen")
         return text
 
 

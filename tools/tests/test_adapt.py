@@ -45,11 +45,11 @@ class Places(unittest.TestCase):
 
     def test_what_is_refused(self) -> None:
         for line, why in (
-            ("rx {row", "a place that is none: '{row'"),
-            ("rx {Row}", "a place that is none"),
+            ("rx {row", "a place that isn't {NAME} or {NAME=DEFAULT}: '{row'"),
+            ("rx {Row}", "a place that isn't"),
             ("rx 'a", "No closing quotation"),
             ("", "names no program"),
-            ("rx -a{arguments}", "must stand by itself"),
+            ("rx -a{arguments}", "must be an argument of its own"),
             ("rx {row}", "has no --row"),
         ):
             with self.subTest(line), self.assertRaisesRegex(WrongArguments, why):
@@ -85,9 +85,9 @@ class CommandLines(unittest.TestCase):
         self.assertEqual(adapted("--json", "--command", self.shell(f"echo '{told}'")), (0, LINE.encode() + b"\n", ""))
         for text, why in (
             ("echo '{}'", "adapt: the receiver's line 1: "),
-            (f"echo '{told}'; echo '{LINE}'", "adapt: the receiver's line 2: no JSON: "),
-            (f"printf '%s' '{told}'", "adapt: the receiver's line 1: no line feed at its end"),
-            ("printf '\\377\\n'", "adapt: the receiver's line 1: 'ascii' codec"),
+            (f"echo '{told}'; echo '{LINE}'", "adapt: the receiver's line 2: not JSON: "),
+            (f"printf '%s' '{told}'", "adapt: the receiver's line 1: it has no line feed"),
+            ("printf '\\377\\n'", "adapt: the receiver's line 1: it isn't ASCII text"),
         ):
             with self.subTest(text):
                 status, _, said = adapted("--json", "--command", self.shell(text))
@@ -145,12 +145,12 @@ class Ports(unittest.TestCase):
 
     def test_what_is_no_answer(self) -> None:
         for answer, why, words in (
-            (b"status 1\nmore\n", "line 2: a line after the status", ()),
-            (b"status x\n", "line 1: no status from 0 to 255: 'x'", ()),
-            (b"status 256\n", "line 1: no status from 0 to 255: '256'", ()),
-            (b"status\n", "line 1: no status from 0 to 255: ''", ()),
-            (b"status 1\n", "line 1: no JSON", ("--json",)),
-            (b'{"status": 1, "line": "pilot"}\n', "line 1: status and error stand by themselves", ("--json",)),
+            (b"status 1\nmore\n", "line 2: it comes after the status", ()),
+            (b"status x\n", "line 1: not a status from 0 to 255: 'x'", ()),
+            (b"status 256\n", "line 1: not a status from 0 to 255: '256'", ()),
+            (b"status\n", "line 1: not a status from 0 to 255: ''", ()),
+            (b"status 1\n", "line 1: not JSON", ("--json",)),
+            (b'{"status": 1, "line": "pilot"}\n', "line 1: an object with status may only have error", ("--json",)),
         ):
             with self.subTest(answer):
                 status, _, said = self.served(answer, *words)

@@ -269,13 +269,13 @@ class Ends(Checkout):
 
     def test_refusals(self) -> None:
         self.refused("build: crates.txt has no crate none", "none")
-        self.refused("build: no rt on the path", "top", PATH="/usr/bin:/bin")
+        self.refused("build: rt is not on the path", "top", PATH="/usr/bin:/bin")
         self.refused("is not a checkout with crates: .*crates.txt: No such file", "--root", self.room)
         self.refused("--jobs: not 1 to 64: '0'", "--jobs", "0")
         self.refused("--memory: not above 0", "--memory", "0")
         self.refused("unrecognized arguments", "top", "core")
         self.write("it/crates.txt", "core: top\ntop: core\n")
-        self.refused("has a circle: core top core", "top")
+        self.refused("has a cycle: core top core", "top")
         self.write("it/crates.txt", CRATES + "new:\n")
         self.refused("no folder .*crates/new", "top")
 

@@ -105,7 +105,7 @@ class Check(Folder):
         for old, new, said in (
             ("phase=32512", "phase=32513", "line 1 wanted: pilot phase=32513"),
             ("status: 0", "status: 1", "status 0, wanted 1"),
-            ("gain=100\n", "gain=101\n", "their checksum is another"),
+            ("gain=100\n", "gain=101\n", "don't have the case's checksum"),
         ):
             good = self.got()
             self.put(good.replace(old, new))

@@ -129,7 +129,7 @@ class Cells(Recordings):
         link = ("--paths", "0,25:-4", "--carrier", 300, "--seconds", 0.36)
         first, second, _ = self.files
         path = self.recorded(*link, "--ec-io", self.share(-8), cells=(first,))
-        self.refused("1 cell was heard, and no cell 2", path, "--cell", 2)
+        self.refused("1 cell was found: there is no cell 2", path, "--cell", 2)
         path = self.recorded(*link, "--ec-io", self.share(-8, -8), cells=(first, f"{second}:-8:40"))
         alone = self.alone(OTHER_PHASE, 0, *link)
         found = self.taken(path, "--cell", 2)
@@ -193,7 +193,7 @@ class Heard(Recordings):
             missed = len(sent) - sum(line in sent for line in got)
             self.assertLessEqual(missed, 2)
             self.assertGreater(len(sent), 8)
-        self.refused("2 cells were heard, and none of PILOT_PN 9: 300, 168", path, "--pn", 9)
+        self.refused("2 cells were found, none of them with PILOT_PN 9: 300, 168", path, "--pn", 9)
 
 
 if __name__ == "__main__":

@@ -213,15 +213,15 @@ class Recorded(Recordings):
         before = set(os.listdir(self.folder))
         for status, why, words in (
             (1, "No such file", (self.at("none.is95"),)),
-            (1, "no number: 'x'", (f"{self.cell}:x",)),
+            (1, "not a number: 'x'", (f"{self.cell}:x",)),
             (1, "even without noise it is -3.6 dB", ("--ec-io", -3, self.cell)),
-            (1, "no sample file", (os.path.abspath(__file__),)),
+            (1, "not a sample file", (os.path.abspath(__file__),)),
             (1, "too few for a recording", ("--seconds", 1e-5, self.cell)),
             (2, "not 1 to 4 numbers", ("--paths", "1:2:3:4:5", self.cell)),
             (2, "not 0 to 100,000: '-4'", ("--paths", "1:2:3:-4", self.cell)),
             (2, "not 0 to 63: '64'", ("--eb-nt", "7:64:9600", self.cell)),
             (2, "not allowed with", ("--eb-nt", "7:3:9600", "--ec-io", -9, self.cell)),
-            (2, "no whole number", ("--lose", "1:x", self.cell)),
+            (2, "not a whole number", ("--lose", "1:x", self.cell)),
         ):
             with self.subTest(why):
                 ended, wrote, said = run_main("channel", *words, self.at("none.raw"))

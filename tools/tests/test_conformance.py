@@ -208,7 +208,7 @@ class AsksOfSamples(Asks):
 
     def test_samples_that_are_others(self) -> None:
         self.case(sample_file(SAMPLES))
-        self.refuses("exit 0", f"the samples that {self.maker} makes aren't the case's: their checksum is another")
+        self.refuses("exit 0", f"the samples that {self.maker} makes don't have the case's checksum")
 
     def test_sums_and_noise(self) -> None:
         """The second script's samples from the first sample on, and noise by hand."""
@@ -412,37 +412,37 @@ class AsksOfBytes(Asks):
         end = ("file:", "  00", "text:")
         for lines, why in (
             (("purpose: no words",), "has no bits, sha256, status, words"),
-            ((*head, *end[:2]), "has not just one of text: and output:"),
+            ((*head, *end[:2]), "must have exactly one of text: and output:"),
             ((*head, "text:"), "has no bits, sha256"),
-            ((*head, "input: nothing", *end), "has input: nothing, and a script or a file"),
-            ((*head, "input: script", *end), "has input: script, and not just one script"),
-            ((*head, "input: air", "text:"), "has input: air, which is none of samples, script, nothing, directory, dropped"),
+            ((*head, "input: nothing", *end), "has input: nothing, which takes no script or file"),
+            ((*head, "input: script", *end), "has input: script, but not exactly one script"),
+            ((*head, "input: air", "text:"), "has input: air, which is not one of samples, script, nothing, direct"),
             ((*made, "text:"), "has no script"),
-            ((*head, "bits: 12", "sha256: 00", "script:", "text:"), "has bits: neither 8 nor 16"),
-            ((*made, "script:", "script:", "text:"), "has 2 scripts and 0 places"),
+            ((*head, "bits: 12", "sha256: 00", "script:", "text:"), "has bits: 12, which is neither 8 nor 16"),
+            ((*made, "script:", "script:", "text:"), "has 2 scripts, but 0 places"),
             ((*made, "places: 1 2", "script:", "script:", "text:"), "has places: 1 2, which isn't 1 numbers"),
             ((*made, "noise: 1", "script:", "text:"), "has noise: 1, which isn't 2 numbers"),
             ((*made, "against: 0 5", "script:", "text:"), "has against: 0 5, whose first number isn't a row from 1 to 63"),
             ((*made, "divide: -1", "script:", "text:"), "has divide: -1, which isn't 1 numbers"),
-            ((*made, "near: 3", "script:", "output: closed"), "has near: and no script, or no text"),
-            ((*made, "script:", *end), "has scripts and a file"),
+            ((*made, "near: 3", "script:", "output: closed"), "has near: without a script or without a text"),
+            ((*made, "script:", *end), "has both scripts and a file"),
             ((head[0], head[1], "status: 9", *end), "has status: 9, which isn't 1 numbers from 0 to 8"),
             ((head[0], head[1], "status: x", *end), "has status: x, which isn't"),
             ((*head, "read: -1", *end), "has read: -1, which isn't"),
             ((*head, "status: 0", *end), "has two lines status:"),
             ((*head, *end, "text:"), "has two blocks text:"),
-            ((*head, "output: closed", *end), "has not just one of text: and output:"),
-            ((*head, "output: 5", "file:", "  00"), "has output: 5, which is none of closed, full"),
-            ((*head, "change: x 00", *end), "has bytes or a place that are none"),
-            ((*head, "cut: x", *end), "has bytes or a place that are none"),
-            ((*head, "add: 0", *end), "has bytes or a place that are none"),
-            ((*head, "add: 300000000 * 00", *end), "has bytes or a place that are none: more than 268435456 bytes"),
-            ((*head, "file:", "  0g", "text:"), "has bytes or a place that are none"),
-            ((head[0], "words: 'find", head[2], *end), "has arguments that can't be read"),
-            ((*head, "colour: red", *end), "has a line that is none: 'colour: red'"),
-            ((*head, "bits:", *end), "has a line that is none: 'bits:'"),
-            ((*head, "text:x", *end), "has a line that is none: 'text:x'"),
-            ((*head, "a line", *end), "has a line that is none: 'a line'"),
+            ((*head, "output: closed", *end), "must have exactly one of text: and output:"),
+            ((*head, "output: 5", "file:", "  00"), "has output: 5, which is not closed or full, or a length"),
+            ((*head, "change: x 00", *end), "has invalid bytes, or an invalid place"),
+            ((*head, "cut: x", *end), "has invalid bytes, or an invalid place"),
+            ((*head, "add: 0", *end), "has invalid bytes, or an invalid place"),
+            ((*head, "add: 300000000 * 00", *end), "has invalid bytes, or an invalid place: more than 268435456 bytes"),
+            ((*head, "file:", "  0g", "text:"), "has invalid bytes, or an invalid place"),
+            ((head[0], "words: 'find", head[2], *end), "has invalid arguments"),
+            ((*head, "colour: red", *end), "has an invalid line: 'colour: red'"),
+            ((*head, "bits:", *end), "has an invalid line: 'bits:'"),
+            ((*head, "text:x", *end), "has an invalid line: 'text:x'"),
+            ((*head, "a line", *end), "has an invalid line: 'a line'"),
             ((*head, "\u00e9", *end), "isn't ASCII text"),
         ):
             with self.subTest(why, lines=lines):

@@ -55,7 +55,7 @@ class Layers(unittest.TestCase):
         self.assertEqual(right_below(BELOW, "program"), ["base_modulator", "tuned_listener"])
 
     def test_a_circle_has_no_layers(self) -> None:
-        with self.assertRaisesRegex(NoList, "^crates.txt has a circle: one other one$"):
+        with self.assertRaisesRegex(NoList, "^crates.txt has a cycle: one other one$"):
             chains({"one": ["other"], "other": ["one"]})
 
 

@@ -110,8 +110,8 @@ class Faults(unittest.TestCase):
         for words, data, status, wrote, why in (
             (("--csv", "none"), b"", 2, b"", "invalid choice"),
             (("--csv", "pilot", "--back"), b"", 2, b"", "not allowed with"),
-            (("--csv", "pilot"), b"frame\n", 1, b"phase,energy\r\n", "standard input: line 1: .* at="),
-            (("--csv", "pilot"), FRAME[:-1].encode(), 1, b"phase,energy\r\n", "line 1: no line feed after it"),
+            (("--csv", "pilot"), b"frame\n", 1, b"phase,energy\r\n", "standard input: line 1: at= is expected"),
+            (("--csv", "pilot"), FRAME[:-1].encode(), 1, b"phase,energy\r\n", "line 1: it has no line feed"),
         ):
             with self.subTest(words):
                 ended, text, said = run_inside("lines", *words, data=data)

@@ -220,7 +220,7 @@ class Counts(Curves):
         told = json.loads("\n".join(said))
         self.assertEqual((code, told["failed"], told["cases"][-1]["name"]), (0, 0, "against"))
         self.assertEqual([case["errors"] for case in told["cases"] if case.get("channel") == "frame 9600"], errors)
-        self.refused("3 dB is no point", self.words("--limits", self.keep("far.csv", "point_db,share\n3,1\n")))
+        self.refused("3 dB is not a point", self.words("--limits", self.keep("far.csv", "point_db,share\n3,1\n")))
         self.refused("no channel 'x'", self.words("--limits", self.keep("x.csv", "point_db,channel,share\n1,x,1\n")))
 
     def test_another_receiver_stands_beside_ours(self) -> None:
@@ -304,7 +304,7 @@ class Cluster(Curves):
         child = self.begun(words)
         scheduler.send_signal(signal.SIGKILL)
         _, said = child.communicate(timeout=SECONDS)
-        self.assertEqual((child.returncode, said), (1, "curve: the scheduler is gone, or gave up the run\n"))
+        self.assertEqual((child.returncode, said), (1, "curve: the scheduler ended, or cancelled the run\n"))
         self.assertGreater(self.batches(), 0)
 
 
@@ -312,8 +312,8 @@ class Faults(Curves):
     def test_receivers_that_fail(self) -> None:
         for fault, said in (
             ("status 5", "curve: .*/bad follow --esn 0000abcd --row 10 --offset 0 ended with 5"),
-            ("silent", "ended with 0 and wrote no lines"),
-            ("garbage", "line 1 is none of docs/FORMATS.md: at: 'x' is no number"),
+            ("silent", "ended with 0, but wrote no lines"),
+            ("garbage", "line 1 is not one of docs/FORMATS.md: at: 'x' is not a number"),
         ):
             with self.subTest(fault):
                 bad = self.program("bad", fault)
@@ -321,7 +321,7 @@ class Faults(Curves):
 
     def test_a_receiver_that_does_not_end(self) -> None:
         bad = self.program("bad", "hang")
-        self.refused("no end within 3 seconds", self.words("--receiver", bad, "--minutes", "0.05"))
+        self.refused("it didn't end within 3 seconds", self.words("--receiver", bad, "--minutes", "0.05"))
 
     def test_a_receiver_that_hears_no_sync_message_loses_all(self) -> None:
         bad = self.program("bad", "status 1")
@@ -353,7 +353,7 @@ class Faults(Curves):
     def test_levels_that_samples_cannot_hold(self) -> None:
         with open(self.script, encoding="ascii") as file:
             self.script = self.keep("loud.script", file.read().replace("gain=34", "gain=3000"))
-        self.refused("leaves the range of samples", self.words())
+        self.refused("exceeds the range of samples", self.words())
 
     def test_wrong_words(self) -> None:
         for more in (
@@ -363,7 +363,7 @@ class Faults(Curves):
             with self.subTest(more):
                 self.refused("curve: ", self.words(*more), status=2)
         self.refused("--to is below --from", self.words("--from", "3"))
-        self.refused("is heard by follow or list", self.words("--words", "rate2"))
+        self.refused("needs follow or list", self.words("--words", "rate2"))
 
 
 @unittest.skipUnless(PROGRAM, NO_PROGRAM)

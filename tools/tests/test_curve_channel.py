@@ -212,7 +212,7 @@ class Fading(unittest.TestCase):
         self.assertEqual((row.lost, row.unlocked, row.air, row.bound), (1, 0, "white", None))
         with open(path, "w", encoding="ascii") as file:
             file.write(",".join(report.FIELDS) + "\nit,sync,1.0,2.0,3.0,7,9,1,1,0,0,0,0,0,0.1,0.0,0.5,,grey\n")
-        with self.assertRaisesRegex(Refused, "no CSV of this tool: 'grey'"):
+        with self.assertRaisesRegex(Refused, "not a CSV file of this tool: 'grey'"):
             report.read_csv(path)
 
 
@@ -234,7 +234,7 @@ class Runs(unittest.TestCase):
     def test_options_that_are_none(self) -> None:
         script = os.path.join(EXAMPLES, "frames_9600.script")
         for options, why in (
-            ("--paths 1:x", "argument --paths: no number: 'x'"),
+            ("--paths 1:x", "argument --paths: not a number: 'x'"),
             ("--seed 3", "unrecognized arguments: --seed 3"),
             ("--rate 1000000", "a lock needs 1,228,800 samples a second or more"),
             ("'", "wrong options: No closing quotation"),
@@ -289,7 +289,7 @@ class Runs(unittest.TestCase):
     @unittest.skipUnless(PROGRAM, NO_PROGRAM)
     def test_a_link_on_which_there_is_no_lock_is_refused(self) -> None:
         status, _, said = self.in_process([Refused("no pilot stands out")])
-        wanted = "curve: --channel: without noise no pilot is locked to: no pilot stands out\n"
+        wanted = "curve: --channel: there is no lock even without noise: no pilot stands out\n"
         self.assertEqual((status, said), (1, wanted))
 
     @unittest.skipUnless(PROGRAM, NO_PROGRAM)

@@ -56,10 +56,10 @@ class Scripts(unittest.TestCase):
 
     def test_what_is_no_script_is_refused(self) -> None:
         for text, said in (
-            ("hello world\n", "line 1 is no line of a script"),
-            ("cell pn=1\nlink re=x im=0 start=0 samples=9\n", "line 2 is no line"),
+            ("hello world\n", "line 1 is not a line of a script"),
+            ("cell pn=1\nlink re=x im=0 start=0 samples=9\n", "line 2 is not a line"),
             ("", "no link line"),
-            ("frame 9600 172:00 0\n", "line 1 is no line"),
+            ("frame 9600 172:00 0\n", "line 1 is not a line"),
         ):
             with self.subTest(text), self.assertRaisesRegex(Refused, said):
                 read_script(text, "it")
@@ -102,7 +102,7 @@ class Levels(unittest.TestCase):
 
     def test_what_no_level_gives_is_refused(self) -> None:
         air = levels.air_of(cell(), (1j,), 0.0)
-        with self.assertRaisesRegex(Refused, "no level of noise gives 30 dB"):
+        with self.assertRaisesRegex(Refused, "no noise level gives 30 dB"):
             air.sigma(levels.Channel("frame", 40, 9_600, 1.0), 30)
 
     def test_the_fastest_frames_come_first_then_messages(self) -> None:
@@ -148,7 +148,7 @@ class Noise(unittest.TestCase):
 
     def test_noise_that_would_be_cut_is_refused(self) -> None:
         noise.check_room(767, 8_000.0)
-        with self.assertRaisesRegex(Refused, "leaves the range of samples"):
+        with self.assertRaisesRegex(Refused, "exceeds the range of samples"):
             noise.check_room(768, 8_000.0)
 
 
@@ -283,12 +283,12 @@ class Counting(unittest.TestCase):
         self.assertEqual(min(wanted.frames), 4_608 + 3 * 24_576)
         self.assertEqual(len(wanted.frames), 5)
         self.assertEqual(wanted.messages, {("sync", sync): [20_000]})
-        with self.assertRaisesRegex(Refused, "hears no frame"):
+        with self.assertRaisesRegex(Refused, "decodes no frame"):
             counting.expected(cell(), TRAFFIC, clean[:1], "it")
 
     def test_lines_that_the_formats_do_not_have_are_refused(self) -> None:
         for line in ("frame at=1 rate=9600 good=2 bits=8:00 commands=" + 16 * "0", "hello", "", "frame at=x"):
-            with self.subTest(line), self.assertRaisesRegex(Refused, "it: line 2 is none of docs/FORMATS.md"):
+            with self.subTest(line), self.assertRaisesRegex(Refused, "it: line 2 is not one of docs/FORMATS.md"):
                 counting.counted(counting.Expected({9: FRAMES[0]}, {}), ["pilot phase=1 energy=2", line], "it")
 
 
@@ -349,7 +349,7 @@ class OnAir(unittest.TestCase):
 
     def test_paths_that_leave_the_range_are_refused(self) -> None:
         setup = dataclasses.replace(setup_for(), paths=((1, 1j),))
-        with self.assertRaisesRegex(Refused, "leave the range of samples"):
+        with self.assertRaisesRegex(Refused, "exceed the range of samples"):
             on_air(setup, numpy.array([32_000, 0, 0, 1_000], dtype=numpy.int16))
 
 
@@ -491,7 +491,7 @@ class Reports(unittest.TestCase):
             for text in ("hello\n", "", ",".join(report.FIELDS) + "\na,b\n"):
                 with open(path, "w", encoding="ascii") as file:
                     file.write(text)
-                with self.subTest(text), self.assertRaisesRegex(Refused, "no CSV of this tool"):
+                with self.subTest(text), self.assertRaisesRegex(Refused, "not a CSV file of this tool"):
                     report.read_csv(path)
 
     def test_differences_are_told(self) -> None:

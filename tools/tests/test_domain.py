@@ -337,7 +337,7 @@ class Recorded(Recordings):
         for row, gain in other.items():
             self.assertAlmostEqual(rows[row] - rows[0], decibels(gain**2 / other[0] ** 2), delta=0.2)
         status, _, said = run_main("domain", path, "--cell", 3)
-        self.assertEqual((status, said), (1, "domain: 2 cells were heard, and no cell 3\n"))
+        self.assertEqual((status, said), (1, "domain: 2 cells were found: there is no cell 3\n"))
 
     def test_the_radios_branches(self) -> None:
         path = self.recorded("--dc", 0.1, "--iq", "0.5:3", "--ec-io", -9, "--seconds", 0.5)
@@ -428,9 +428,9 @@ class Recorded(Recordings):
             (1, "no pilot stands out", (quiet,)),
             (1, "8000 chips are too few", (short,)),
             (1, "No such file", (self.at("none.is95"),)),
-            (1, "no sample file", (os.path.abspath(__file__),)),
+            (1, "not a sample file", (os.path.abspath(__file__),)),
             (1, "no program at /none", (few, "--program", "/none")),
-            (2, "--type and --rate needed", (quiet, "--type", "cu8")),
+            (2, "--type and --rate are needed", (quiet, "--type", "cu8")),
             (2, "can't both go to standard output", (quiet, "--plot", "-", "--json", "-")),
             (2, "--skip goes with a recording", (quiet, "--skip", "9")),
             (2, "--tap needs --limits", (quiet, "--tap")),

@@ -168,7 +168,7 @@ class EachStep(OfOneCase):
 
     def test_the_fields_alone(self) -> None:
         told = values(self.explainer.steps("traffic", 1))
-        wanted = f"no step that is told differs: look after {explained.NAMES['quality']}, at {explained.LAST}"
+        wanted = f"no reported step differs: look after {explained.NAMES['quality']}, at {explained.LAST}"
         self.differs("frame at=737280", self.told("traffic", 1, told), wanted=wanted)
 
     def test_power_control_bits_that_are_taken_for_symbols(self) -> None:
@@ -183,13 +183,13 @@ class EachStep(OfOneCase):
         steps = self.explainer.steps("traffic", 1)
         slow = next(reading for reading in steps.readings if reading.name == "1200")
         told = {"symbols": numbers(slow.softs), "word": text_of_bits(slow.codewords[0][1])}
-        wanted = "step 5, the best codeword, differs in frame 1 of the traffic channel: 24 bits, and 192 are right"
+        wanted = "step 5, the best codeword, differs in frame 1 of the traffic channel: 24 bits instead of 192"
         self.differs("frame at=737280", self.told("traffic", 1, told), wanted=wanted)
 
     def test_hard_symbols(self) -> None:
         steps = self.explainer.steps("traffic", 1)
         right = self.told("traffic", 1, {"heard": hard(steps.heard), "softs": hard(steps.turned)})
-        self.differs("frame at=737280", right, wanted="no step that is told differs: look after step 3")
+        self.differs("frame at=737280", right, wanted="no reported step differs: look after step 3")
         wrong = self.told("traffic", 1, {"heard": hard(steps.heard), "softs": hard(-steps.turned)})
         self.differs("frame at=737280", wrong, wanted="step 3, the soft values in the order in which they are sent")
 
@@ -205,14 +205,14 @@ class Lines(OfOneCase):
 
     def test_what_is_no_step(self) -> None:
         for line, wanted in (
-            ("step traffic", "a line of steps has another form than docs/FORMATS.md: step traffic"),
-            ("step traffic frame=1 word=x", "another form"),
+            ("step traffic", "a line of steps doesn't have the form of docs/FORMATS.md: step traffic"),
+            ("step traffic frame=1 word=x", "doesn't have the form"),
             ("step traffic frame=1 best=1:80", "a line of steps has the unknown step best"),
-            ("step traffic frame=1 word=7", "no bits as N:HEX: 7"),
-            ("step traffic frame=1 heard=1,,2", "neither whole numbers between commas nor bits as N:HEX: 1,,2"),
-            ("step traffic frame=1 heard=1,2", "2 values, and 384 are right"),
-            ("step traffic frame=99 word=1:80", "frame 99 of the traffic channel doesn't lie in the file"),
-            ("step sync frame=0 scrambling=8:aa", "8 bits, and 0 are right"),
+            ("step traffic frame=1 word=7", "not bits in the form N:HEX: 7"),
+            ("step traffic frame=1 heard=1,,2", "neither whole numbers separated by commas nor bits in the form N:HEX"),
+            ("step traffic frame=1 heard=1,2", "2 values instead of 384"),
+            ("step traffic frame=99 word=1:80", "the file doesn't contain frame 99 of the traffic channel"),
+            ("step sync frame=0 scrambling=8:aa", "8 bits instead of 0"),
         ):
             with self.subTest(line):
                 self.differs("frame at=737280", line, wanted=wanted)
@@ -220,9 +220,9 @@ class Lines(OfOneCase):
     def test_steps_that_stand_elsewhere(self) -> None:
         """Of another frame than the first that differs nothing is said, and none may be told at all."""
         wrong = self.wrong("frame at=737280")
-        self.assertIn("no step is told before line 7, the first that differs", self.said(wrong, "--explain")[1])
+        self.assertIn("no step was reported before line 7, the first that differs", self.said(wrong, "--explain")[1])
         elsewhere = ["step sync frame=1 word=1:80", *wrong]
-        self.assertIn("no step is told before line 7", self.said(elsewhere, "--explain")[1])
+        self.assertIn("no step was reported before line 7", self.said(elsewhere, "--explain")[1])
 
     def test_a_line_that_is_missing(self) -> None:
         """Steps of a frame whose line isn't written stand before the next line."""

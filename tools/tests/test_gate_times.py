@@ -135,7 +135,7 @@ class GateTimes(unittest.TestCase):
                 self.assertIn(f"gate_times: {why}", faults)
         for text, why in (
             ("core", "names no crate"),
-            ("core: top\ntop: core\n", "has a circle: core top core"),
+            ("core: top\ntop: core\n", "has a cycle: core top core"),
             ("core:\nnew:\n", "no folder"),
         ):
             with self.subTest(why):

@@ -95,12 +95,12 @@ class Flags(Recordings):
     def test_words(self) -> None:
         for status, why, words in (
             (1, "No such file", ("--reflag", self.at("none.is95"))),
-            (1, "no sample file", ("--reflag", os.path.abspath(__file__))),
+            (1, "not a sample file", ("--reflag", os.path.abspath(__file__))),
             (2, "unrecognized arguments: .*two.is95", ("--reflag", self.cell, self.at("two.is95"))),
             (2, "unrecognized arguments: --count", ("--reflag", "--count", 3, self.cell)),
             (2, "unrecognized arguments: --lock", ("--reflag", "--lock", self.cell)),
             (2, "can't be given together", ("--reflag", "--checks", "auto", "--complement-30", self.cell)),
-            (2, "--reflag goes with one sample file", ("--refl", self.cell, self.at("two.is95"))),
+            (2, "--reflag goes only with one sample file", ("--refl", self.cell, self.at("two.is95"))),
             (2, "can't be given together", ("--checks", "auto", "--complement-30", self.cell, self.at("two.is95"))),
             (2, "required: FILE", ("--type", "cu8", "--rate", "2e6", self.cell)),
             (1, "no program at /none", ("--reflag", "--checks", "auto", "--program", "/none", self.cell)),
@@ -113,7 +113,8 @@ class Flags(Recordings):
     def test_what_is_told(self) -> None:
         self.assertEqual([checks.Heard(0, 4).flag, checks.Heard(3, 1).flag, checks.Heard(0, 0).flag], [1, 0, 0])
         self.assertIn("no message passes its check, plain or complemented", checks.Heard(0, 0).told())
-        self.assertIn("taken to be complemented: 4 messages pass so, and 1 the other way", checks.Heard(1, 4).told())
+        told = checks.Heard(1, 4).told()
+        self.assertIn("assumed to be complemented: 4 messages pass that way, and 1 the other way", told)
 
     @unittest.skipUnless(PROGRAM, NO_PROGRAM)
     def test_checks_are_tried(self) -> None:
@@ -126,7 +127,7 @@ class Flags(Recordings):
             self.assertEqual(read_file(self.at("out.is95"))[1], sent)
             way = "complemented" if sent else "plain"
             self.assertRegex(
-                self.said, rf"30-bit checks are taken to be {way}: \d+ messages pass so, and 0 the other way"
+                self.said, rf"30-bit checks are assumed to be {way}: \d+ messages pass that way, and 0 the other way"
             )
             run_main("import_capture", "--reflag", self.at("out.is95"), "--complement-16")
             self.assertEqual(

@@ -282,17 +282,17 @@ class SigMF(Imports):
         self.keep("radio.sigmf-data", recorded(EIGHT, "ci8"))
         good: dict[str, object] = {"core:datatype": "ci8", "core:sample_rate": CHIP_RATE}
         wrong: tuple[tuple[str, dict[str, object], Sequence[dict[str, object]]], ...] = (
-            ("core:datatype is 'ri8', and none of ci16_le", {**good, "core:datatype": "ri8"}, ()),
+            ("core:datatype is 'ri8', not one of ci16_le", {**good, "core:datatype": "ri8"}, ()),
             ("core:datatype is None", {"core:sample_rate": CHIP_RATE}, ()),
             ("2 channels", {**good, "core:num_channels": 2}, ()),
             ("no core:sample_rate; give --rate", {"core:datatype": "ci8"}, ()),
             ("core:sample_rate is 'fast'", {**good, "core:sample_rate": "fast"}, ()),
             ("core:sample_rate is 0", {**good, "core:sample_rate": 0}, ()),
             ("2 captures of several frequencies: give --capture N", good, SEVERAL),
-            ("no samples in what is taken", good, [{"core:header_bytes": 16}]),
-            ("no samples in what is taken", {**good, "core:trailing_bytes": 16}, ()),
+            ("no samples in the part taken", good, [{"core:header_bytes": 16}]),
+            ("no samples in the part taken", {**good, "core:trailing_bytes": 16}, ()),
             ("without samples", {**good, "core:metadata_only": True}, ()),
-            ("core:dataset is no file's name", {**good, "core:dataset": "../kept.bin"}, ()),
+            ("core:dataset is not a file's name", {**good, "core:dataset": "../kept.bin"}, ()),
             ("its checksum isn't core:sha512", {**good, "core:sha512": "00"}, ()),
             ("lost.bin: No such file", {**good, "core:dataset": "lost.bin"}, ()),
         )
@@ -302,9 +302,10 @@ class SigMF(Imports):
         path = self.meta(good)
         self.refused("--rate can't be given too", "--rate", CHIP_RATE, path, self.out)
         self.refused("--type can't be given with a .sigmf-meta", "--type", "ci8", path, self.out, status=2)
-        self.refused("no JSON", self.keep("bad.sigmf-meta", b"{"), self.out)
+        self.refused("not JSON", self.keep("bad.sigmf-meta", b"{"), self.out)
         self.refused("no object 'global'", self.keep("bad.sigmf-meta", b"[]"), self.out)
-        self.refused("'captures' is no list", self.keep("bad.sigmf-meta", b'{"global": {}, "captures": 1}'), self.out)
+        bad = self.keep("bad.sigmf-meta", b'{"global": {}, "captures": 1}')
+        self.refused("'captures' is not a list", bad, self.out)
         self.refused("No such file", self.at("none.sigmf-meta"), self.out)
 
 
@@ -315,7 +316,7 @@ class Refusals(Imports):
         for why, words in (
             ("fewer than the chip rate", ["--type", "ci16_le", "--rate", CHIP_RATE - 1, path]),
             ("not a ratio of small numbers", ["--type", "ci16_le", "--rate", CHIP_RATE + 1, path]),
-            ("20 bytes are no whole number of samples of 8 bytes", ["--type", "cf32_le", "--rate", CHIP_RATE, path]),
+            ("20 bytes are not a whole number of samples of 8 bytes", ["--type", "cf32_le", "--rate", CHIP_RATE, path]),
             ("no samples left", [*chip_rate, self.keep("empty.raw", b"")]),
             ("no samples left after --skip 5: it has 5", [*chip_rate, "--skip", 5, path]),
             ("--offset and --sum have no effect at the chip rate", [*chip_rate, "--sum", path]),
@@ -324,7 +325,7 @@ class Refusals(Imports):
             ("--offset is 2, but a chip has 2 samples: 0 to 1", ["--type", "ci8", "--rate", 2_457_600, "--offset", 2, path]),
             ("too few samples for one chip", ["--type", "ci16_le", "--rate", 8 * CHIP_RATE, "--sum", path]),
             ("No such file", [*chip_rate, self.at("none.raw")]),
-            ("Is a directory|no whole number of samples", [*chip_rate, self.folder]),
+            ("Is a directory|not a whole number of samples", [*chip_rate, self.folder]),
             (r"chip 1 would be \(-1, 255\), but version 2 holds -128 to 127", [*chip_rate, "--format", 2, path]),
         ):
             with self.subTest(why):
@@ -340,14 +341,14 @@ class Refusals(Imports):
     def test_words(self) -> None:
         path = self.keep("in.raw", recorded(SIXTEEN, "ci16_le"))
         wrong: tuple[tuple[str, list[object]], ...] = (
-            ("--type and --rate needed", [path]),
-            ("--rate needed", ["--type", "ci8", path]),
+            ("give --type and --rate", [path]),
+            ("give --rate, unless", ["--type", "ci8", path]),
             ("invalid choice", ["--type", "cf16_le", "--rate", CHIP_RATE, path]),
             ("--rate: not 1 to 10,000,000,000", ["--type", "ci8", "--rate", "0", path]),
-            ("no number", ["--type", "ci8", "--rate", "1/0", path]),
-            ("no number", ["--type", "ci8", "--rate", CHIP_RATE, "--shift", "far", path]),
+            ("not a number", ["--type", "ci8", "--rate", "1/0", path]),
+            ("not a number", ["--type", "ci8", "--rate", CHIP_RATE, "--shift", "far", path]),
             ("--scale: not 1e-12 to 1,000,000,000,000", ["--type", "ci8", "--rate", CHIP_RATE, "--scale", "0", path]),
-            ("--scale: no number: 'big'", ["--type", "ci8", "--rate", CHIP_RATE, "--scale", "big", path]),
+            ("--scale: not a number: 'big'", ["--type", "ci8", "--rate", CHIP_RATE, "--scale", "big", path]),
             ("--skip: not 0 to 1,000,000,000,000,000", ["--type", "ci8", "--rate", CHIP_RATE, "--skip=-1", path]),
             ("--count: not 1 to", ["--type", "ci8", "--rate", CHIP_RATE, "--count", "0", path]),
             ("--format: invalid choice: 3", ["--type", "ci8", "--rate", CHIP_RATE, "--format", "3", path]),

@@ -93,7 +93,7 @@ class Installs(unittest.TestCase):
             os.makedirs(os.path.join(self.prefix, "share", "cdma-replay"), exist_ok=True)
             with open(os.path.join(self.prefix, "share", "cdma-replay", "files"), "w") as file:
                 file.write(place + "\n")
-            self.refused_as("no list of files below the prefix", "--remove", self.prefix)
+            self.refused_as("not a list of files below the prefix", "--remove", self.prefix)
             self.assertTrue(os.path.exists(kept))
 
     def refused_as(self, why: str, *words: str) -> None:

@@ -85,30 +85,30 @@ EXAMPLES = {
     "raw at=3 paging 8:04": {"line": "raw", "at": 3, "channel": "paging", "bits": "8:04"},
 }
 REFUSED = {
-    "": "begins no line",
-    "pilots phase=1 energy=2": "begins no line",
-    "pilot phase=01 energy=2": "phase: '01' is no number",
-    "pilot phase=32768 energy=2": "phase: 32768 isn't 0 to 32,?767",
-    "pilot phase=1": "stands where energy= should",
-    "pilot phase=1 energy=2 ": "a space too many",
-    "pilot  phase=1 energy=2": "stands where phase= should",
+    "": "is not a kind of line",
+    "pilots phase=1 energy=2": "is not a kind of line",
+    "pilot phase=01 energy=2": "phase: '01' is not a number",
+    "pilot phase=32768 energy=2": "phase: 32768 is out of range .0 to 32767.",
+    "pilot phase=1": "energy= is expected, not ''",
+    "pilot phase=1 energy=2 ": "an extra space at the end",
+    "pilot  phase=1 energy=2": "phase= is expected, not ''",
     "pilot phase=1 energy=2 more": "'more' follows",
-    "pilot energy=2 phase=1": "'energy=2' stands where phase=",
+    "pilot energy=2 phase=1": "phase= is expected, not 'energy=2'",
     "pilot phase=1 energy=18446744073709551616": "energy: ",
-    "pilot phase=-0 energy=2": "phase: '-0' is no number",
-    "survey pn=1 delta=-32 energy=2": "delta: -32 isn't -31 to 31",
-    "paging at=1 others type=5 bits=0:": "'others' names no kind of paging",
-    "paging at=1": "'' names no kind of paging",
-    "raw at=1 sync 8:0": "isn't bits",
-    "raw at=1 sync 7:01": "zeros after its bits",
-    "raw at=1 sync 8:0A": "isn't bits",
-    "raw at=1 sync 9:ff": "hasn't just its digits",
-    "raw at=1 sync 0:00": "hasn't just its digits",
-    "frame at=1 rate=9601 good=1 bits=0: commands=0000000000000000": "rate: 9601 is none of",
-    "frame at=1 rate=9600 good=2 bits=0: commands=0000000000000000": "good: 2 isn't",
+    "pilot phase=-0 energy=2": "phase: '-0' is not a number",
+    "survey pn=1 delta=-32 energy=2": "delta: -32 is out of range .-31 to 31.",
+    "paging at=1 others type=5 bits=0:": "'others' is not a kind of paging",
+    "paging at=1": "'' is not a kind of paging",
+    "raw at=1 sync 8:0": "isn't of the form N:HEX",
+    "raw at=1 sync 7:01": "zeros after its last bit",
+    "raw at=1 sync 8:0A": "isn't of the form N:HEX",
+    "raw at=1 sync 9:ff": "must have two hex digits per octet",
+    "raw at=1 sync 0:00": "must have two hex digits per octet",
+    "frame at=1 rate=9601 good=1 bits=0: commands=0000000000000000": "rate: 9601 is not one of",
+    "frame at=1 rate=9600 good=2 bits=0: commands=0000000000000000": "good: 2 is out of range .0 to 1.",
     "frame at=1 rate=9600 good=1 bits=0: commands=000000000000000": "commands: .* isn't 16 digits",
-    "sets at=1 time=1 active=1/2 candidate= report=0": "active: '1/2' hasn't 3 numbers",
-    "sets at=1 time=1 active= candidate=1, report=0": "candidate: '' is no number",
+    "sets at=1 time=1 active=1/2 candidate= report=0": "active: '1/2' doesn't have 3 numbers",
+    "sets at=1 time=1 active= candidate=1, report=0": "candidate: '' is not a number",
 }
 
 
@@ -195,18 +195,18 @@ class Turning(unittest.TestCase):
     def test_objects_that_are_none(self) -> None:
         pilot: dict[str, object] = {"line": "pilot", "phase": 1, "energy": 2}
         wrong: tuple[tuple[dict[str, object], str], ...] = (
-            ({"phase": None}, "no phase"),
-            ({"phase": True}, "phase: True is no whole number"),
-            ({"phase": "1"}, "phase: '1' is no whole number"),
-            ({"phase": 1.5}, "phase: 1.5 is no whole number"),
-            ({"energy": 2.0**53}, "energy: .* is no whole number"),
-            ({"energy": float("nan")}, "energy: nan is no whole number"),
-            ({"energy": 2**64}, "energy: .* isn't 0 to"),
-            ({"energy": -1}, "energy: -1 isn't 0 to"),
-            ({"more": 1}, "has no 'more'"),
-            ({"message": "system"}, "has no 'message'"),
-            ({"line": ["pilot"]}, "begins no line"),
-            ({"line": "paging"}, "message: None names no kind of paging"),
+            ({"phase": None}, "phase is missing"),
+            ({"phase": True}, "phase: True is not a whole number"),
+            ({"phase": "1"}, "phase: '1' is not a whole number"),
+            ({"phase": 1.5}, "phase: 1.5 is not a whole number"),
+            ({"energy": 2.0**53}, "energy: .* is not a whole number"),
+            ({"energy": float("nan")}, "energy: nan is not a whole number"),
+            ({"energy": 2**64}, "energy: .* is out of range .0 to"),
+            ({"energy": -1}, "energy: -1 is out of range .0 to"),
+            ({"more": 1}, "has no field 'more'"),
+            ({"message": "system"}, "has no field 'message'"),
+            ({"line": ["pilot"]}, "is not a kind of line"),
+            ({"line": "paging"}, "message: None is not a kind of paging"),
         )
         for change, why in wrong:
             with self.subTest(change), self.assertRaisesRegex(NoLine, why):
@@ -261,7 +261,8 @@ class Program(unittest.TestCase):
     def test_a_rounded_number_is_refused(self) -> None:
         """A table with empty cells rounds numbers from 2^53 on: they are never taken for those of a line."""
         for energy in (b"9007199254740992.0", b"4611404547745644544.0", b"1.8446744073709552e19"):
-            self.refused("energy: .* is no whole number", "--back", data=b'{"line":"pilot","phase":0,"energy":%b}\n' % energy)
+            data = b'{"line":"pilot","phase":0,"energy":%b}\n' % energy
+            self.refused("energy: .* is not a whole number", "--back", data=data)
         exact = b'{"line":"pilot","phase":0,"energy":4611404547745644544}\n'
         self.assertEqual(run_inside("lines", "--back", data=exact), (0, b"pilot phase=0 energy=4611404547745644544\n", ""))
 
@@ -274,18 +275,18 @@ class Program(unittest.TestCase):
     def test_refusals(self) -> None:
         line, told = b"pilot phase=1 energy=2\n", b'{"line":"pilot","phase":1,"energy":2}\n'
         self.refused("standard input: line 2: 'survey' begins|line 2: .*pn=", data=line + b"survey\n", wrote=told)
-        self.refused("line 1: no line feed after it", data=line[:-1])
+        self.refused("line 1: it has no line feed", data=line[:-1])
         self.refused("line 1: it isn't ASCII", data=b"pilot phase=\xb2 energy=2\n")
         self.refused("line 1: it is too long", data=b"a" * 3_000_000 + b"\n")
         self.refused("No such file", "none.txt")
         self.refused("unrecognized arguments", "--forth", status=2)
         for text, why in (
-            (b"[1]\n", "no object"),
-            (b"{\n", "no JSON"),
-            (b"\n", "no JSON"),
-            (b"[" * 100_000 + b"\n", "no JSON"),
-            (b'{"line":"pilot","phase":1,"phase":1,"energy":2}\n', "a name stands twice"),
-            (b'{"line":"pilot","phase":1,"energy":1e999}\n', "energy: inf is no whole number"),
+            (b"[1]\n", "not an object"),
+            (b"{\n", "not JSON"),
+            (b"\n", "not JSON"),
+            (b"[" * 100_000 + b"\n", "not JSON"),
+            (b'{"line":"pilot","phase":1,"phase":1,"energy":2}\n', "a name appears twice"),
+            (b'{"line":"pilot","phase":1,"energy":1e999}\n', "energy: inf is not a whole number"),
         ):
             self.refused("standard input: line 2: " + why, "--back", data=told + text, wrote=line)
 

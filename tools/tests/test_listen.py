@@ -428,7 +428,7 @@ class NoServerTest(unittest.TestCase):
             (short.address, "the server closed the connection before its header"),
             (f"rtl_tcp://127.0.0.1:{port}", "Connection refused"),
             ("rtl_tcp://127.0.0.1:99999", "Port out of range"),
-            ("rtl_tcp://", "no address"),
+            ("rtl_tcp://", "not an address of the form"),
         ):
             status, wrote, said = listen("--rate", RATE, address)
             self.assertEqual((status, wrote, len(said.splitlines())), (1, b"", 1), said)
@@ -447,9 +447,9 @@ class RefusedTest(unittest.TestCase):
             (["--type", "cu8", "--rate", "1228799", "-"], "not 1,228,800 to 100,000,000"),
             (["--type", "cu8", "--rate", "2e9", "-"], "not 1,228,800 to 100,000,000"),
             (["--type", "cu9", "--rate", "2400000", "-"], "invalid choice"),
-            (["--type", "cu8", "x.sigmf-meta"], "which tells it"),
+            (["--type", "cu8", "x.sigmf-meta"], "which has its own"),
             (["--type", "ci8", "--rate", "2400000", "rtl_tcp://here"], "the samples of rtl_tcp are cu8"),
-            (["--rate", "2400000.5", "rtl_tcp://here"], "and whole"),
+            (["--rate", "2400000.5", "rtl_tcp://here"], "as a whole number"),
             ([*STREAM, "-", "--esn", "8badf00d"], "need each other"),
             ([*STREAM, "-", "--esn", "8BADF00D", "--row", "3"], "not eight lower-case hex digits"),
             ([*STREAM, "-", "--esn", "8badf00d", "--row", "32"], "is the row of the sync channel"),
@@ -474,7 +474,7 @@ class RefusedTest(unittest.TestCase):
             file.write(b"frame at=5 rate=1200 good=1 bits=0: commands=0000000000000011\nno line\n")
         for words, why in (
             ([os.path.join(folder, "none.cu8")], "No such file"),
-            ([odd], "no whole number of samples"),
+            ([odd], "not a whole number of samples"),
             ([odd, "--program", "/nowhere"], "whole number|/nowhere"),
             (["-", "--out", os.path.join(folder, "no", "file")], "No such file"),
             (["-", "--out", lines], "line 2 is not one that listen writes as text"),

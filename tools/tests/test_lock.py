@@ -309,7 +309,7 @@ class Refusals(Recordings):
         self.assertIn("--fingers needs --lock", said)
 
     def test_a_meta_elsewhere(self) -> None:
-        self.refused("it must stand in the folder of the samples", self.recorded(), "--meta", "/tmp/elsewhere.sigmf-meta")
+        self.refused("it must be in the folder of the samples", self.recorded(), "--meta", "/tmp/elsewhere.sigmf-meta")
 
     def test_a_broken_file_stays_as_it_was(self) -> None:
         with open(self.at("kept.is95"), "w", encoding="ascii") as file:

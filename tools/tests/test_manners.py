@@ -189,10 +189,10 @@ class WrongInput(Folder):
     def test_numbers_out_of_bounds(self) -> None:
         raw, out = ("--type", "ci8", self.raw), self.at("out")
         for tool, why, *words in (
-            ("import_capture", "--rate: no number: '1e400'", "--rate", "1e400", *raw, out),
-            ("import_capture", "--rate: no number: '1e999999999'", "--rate", "1e999999999", *raw, out),
-            ("import_capture", "--rate: no number", "--rate", "9" * 500, *raw, out),
-            ("import_capture", "--rate: no number: '1/0'", "--rate", "1/0", *raw, out),
+            ("import_capture", "--rate: not a number: '1e400'", "--rate", "1e400", *raw, out),
+            ("import_capture", "--rate: not a number: '1e999999999'", "--rate", "1e999999999", *raw, out),
+            ("import_capture", "--rate: not a number", "--rate", "9" * 500, *raw, out),
+            ("import_capture", "--rate: not a number: '1/0'", "--rate", "1/0", *raw, out),
             ("import_capture", "--shift: not -10,000,000,000 to", "--rate", "2457600", "--shift", "1e30", *raw, out),
             (
                 "import_capture",
@@ -216,12 +216,12 @@ class WrongInput(Folder):
             ("curve", "--from: not -100 to 100: 'nan'", *"--to 1 --step 1 --frames 1 --from nan".split(), self.cell),
             (
                 "curve",
-                "--path: no path",
+                "--path: not a path",
                 *"--to 1 --step 1 --frames 1 --from 1 --path 7:1e308+1e308j".split(),
                 self.cell,
             ),
             ("explain", "not 32, which is the sync channel's", "--traffic", "00c0ffee", "32", self.cell),
-            ("explain", "--frame: no whole number", "--sync", "--frame", "9" * 5_000, self.cell),
+            ("explain", "--frame: not a whole number", "--sync", "--frame", "9" * 5_000, self.cell),
             ("make_capture", "--count: not 1 to", "--count", "0", out),
             ("agree", "--jobs: not 1 to 64", "--jobs", "65", "--seed", "1", "--count", "1"),
             ("hostile", "--count: not 1 to", "--count", "0"),
@@ -232,9 +232,9 @@ class WrongInput(Folder):
         curve = ["curve", *"--from 1 --to 1 --step 1 --frames 1".split(), os.path.join(EXAMPLES, "frames_9600.script")]
         for title in ("$x^$", "$\\nothing$", "a\nb", "x" * 201, "\udcff"):
             self.refused(
-                2, "--title: no (mathematics|line)", "draw", "survey", self.at("a.png"), self.lines, "--title", title
+                2, "--title: (matplotlib can't read the mathematics|not a line)", "draw", "survey", self.at("a.png"), self.lines, "--title", title
             )
-            self.refused(2, "--title: no (mathematics|line)", *curve, "--title", title)
+            self.refused(2, "--title: (matplotlib can't read the mathematics|not a line)", *curve, "--title", title)
         for title in ("5 $", "$\\alpha^2$", "a $5 cell"):
             status, _, said = run_main("draw", "survey", self.at("a.png"), self.lines, "--title", title)
             self.assertEqual((status, said), (0, ""), title)
@@ -248,9 +248,9 @@ class WrongInput(Folder):
             ("core:sample_rate is True", {"core:sample_rate": True}),
             ("core:sample_rate is 1000", {"core:sample_rate": 10**400}),
             ("core:sample_rate is inf", {"core:sample_rate": float("inf")}),
-            ("core:dataset is no file's name: 3", {"core:dataset": 3}),
-            ("core:dataset is no file's name", {"core:dataset": "\ud800"}),
-            ("core:dataset is no file's name", {"core:dataset": "a\0b"}),
+            ("core:dataset is not a file's name: 3", {"core:dataset": 3}),
+            ("core:dataset is not a file's name", {"core:dataset": "\ud800"}),
+            ("core:dataset is not a file's name", {"core:dataset": "a\0b"}),
             ("'2' channels", {"core:num_channels": "2"}),
         )
         for why, told in wrong:
@@ -264,8 +264,8 @@ class WrongInput(Folder):
     def test_files(self) -> None:
         out, none = self.at("out"), self.at("none")
         wrong: tuple[tuple[Any, ...], ...] = (
-            (1, "zeros.is95: no cell: its samples have no power", "channel", self.zeros, out),
-            (1, "zeros.is95: no cell", "channel", "--ec-io", -9, self.zeros, out),
+            (1, "zeros.is95: not a cell: its samples have no power", "channel", self.zeros, out),
+            (1, "zeros.is95: not a cell", "channel", "--ec-io", -9, self.zeros, out),
             (1, "none: No such file", "channel", none, out),
             (1, "none/ideal: No such file", "channel", "--ideal", self.at("none/ideal"), self.cell, self.at("out.raw")),
             (1, "none: No such file", "scan", "--type", "ci8", "--rate", "2457600", none),
@@ -280,7 +280,7 @@ class WrongInput(Folder):
             (1, "no program at .*none", "bench", "--program", none),
             (1, "no program at .*radio.ci8", "curve", "--program", self.raw, *self.curve_words()),
             (9, "no program at .*none", "report", "--program", none, "--out", out, self.cell),
-            (2, "--type needed", "report", "--program", "/bin/true", "--rate", "2457600", "--out", out, self.raw),
+            (2, "give --type, unless", "report", "--program", "/bin/true", "--rate", "2457600", "--out", out, self.raw),
         )
         for status, why, tool, *words in wrong:
             self.refused(status, why, tool, *words)
@@ -294,7 +294,7 @@ class WrongInput(Folder):
         for why, *words in (
             ("^curve: /dev/full: more than 16,777,216 bytes$", "curve", "--against", "/dev/full", *curve),
             ("^curve: /dev/zero: more than 1,048,576 bytes$", "curve", "--other", "/dev/zero", *curve),
-            ("^curve: .*long.csv: no CSV of this tool: ", "curve", "--against", long, *curve),
+            ("^curve: .*long.csv: not a CSV file of this tool: ", "curve", "--against", long, *curve),
             ("in.sigmf-meta: more than 67,108,864 bytes$", "scan", meta),
             ("^draw: /dev/zero: more than 268,435,456 bytes$", *survey, "/dev/zero"),
             ("^explain: /dev/zero: bad file: magic at 0$", "explain", "--sync", "/dev/zero"),
@@ -305,7 +305,7 @@ class WrongInput(Folder):
         wide = ("scan", "--type", "ci8", "--rate", "1e8", self.raw)
         for why, *words in (
             ("more than 100000 centre frequencies", "--all", "--search", "1"),
-            ("more than 2,000,000 carriers round 98,771 centre frequencies", "--step", "1000", "--search", "614400"),
+            ("more than 2,000,000 carriers around 98,771 centre frequencies", "--step", "1000", "--search", "614400"),
             (".*: give --step in place of --all", "--rate", "9e8", "--all", "--search", "9e3", "--conjugate", "try"),
         ):
             self.refused(1, why, *wide, *words)

@@ -215,16 +215,16 @@ class Tool(unittest.TestCase):
             (2, "needs --row", ("-", "list"), example(SECOND)),
             (2, "sync bears no noise: its margin is 0", ("-",), weak),
             (2, "search over 2,048 samples bears no noise: the root of the energy is", ("-",), unfound),
-            (2, "the cell sends 2,047 samples, and the search needs 2,048", ("-",), short),
+            (2, "the cell sends 2,047 samples, but the search needs 2,048", ("-",), short),
             (2, "--span is 64 to 32,768, not '63'", ("-", "follow", "--span", "63"), example(SECOND)),
             (2, "bad script: line 2", ("-",), example(SECOND).replace(b"im=-3", b"im=-03")),
             (2, "isn't one of", ("-", "find"), example(SECOND)),
-            (2, "no option with a value", ("-", "follow", "--paging"), example(SECOND)),
+            (2, "not an option with a value", ("-", "follow", "--paging"), example(SECOND)),
             (2, "--paging is 1 to 7", ("-", "follow", "--paging", "8"), example(SECOND)),
-            (2, "no script", ("-",), b""),
-            (2, "line 1 is no line of a script", ("-",), b"hello\n"),
-            (2, "no ASCII text", ("-",), b"\xff\n"),
-            (2, "no script", ("-",), b"#" * 2_000_000),
+            (2, "not a script: it has no link line", ("-",), b""),
+            (2, "line 1 is not a line of a script", ("-",), b"hello\n"),
+            (2, "not a script: it isn't ASCII text", ("-",), b"\xff\n"),
+            (2, "not a script: it has more than", ("-",), b"#" * 2_000_000),
             (1, "No such file", ("/nowhere/at/all",), b""),
         ]
         for status, said, arguments, data in cases:
@@ -361,9 +361,9 @@ class File(unittest.TestCase):
         clean = self.made()
         later = self.made(change=(b"start=0", b"start=64"))
         for total, flags, said in (
-            (clean[:-1], 0, f"the file has {self.samples - 1:,} samples, and the script's cell sends {self.samples:,}"),
-            (clean, 3, "the file's flags are 3, and the script has checks=0"),
-            (later, 0, "the search finds phase 128 in the file, and the script's cell has 64"),
+            (clean[:-1], 0, f"the file has {self.samples - 1:,} samples, but the script's cell sends {self.samples:,}"),
+            (clean, 3, "the file's flags are 3, but the script has checks=0"),
+            (later, 0, "the search finds phase 128 in the file, but the script's cell has 64"),
         ):
             with self.subTest(said):
                 status, wrote, told = self.wrote(total, "--json", flags=flags)

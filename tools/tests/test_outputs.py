@@ -420,7 +420,7 @@ class SpecialOutputTest(Folder):
                 ("listen", [*RAW.split(), "--program", "/bin/true", self.raw, "--out", self.fifo]),
             ):
                 with self.subTest(" ".join(words)):
-                    self.refused(tool, words, self.fifo, "nobody has read this FIFO")
+                    self.refused(tool, words, self.fifo, "nothing has read this FIFO")
 
     def test_a_reader_that_goes_away(self) -> None:
         """It ends the tool as a closed pipe does: quietly, with status 1."""

@@ -73,7 +73,7 @@ class Raw(unittest.TestCase):
         self.assertEqual(recording.read(0, 2).tolist(), [3 - 4j, 5 - 6j])
 
     def test_faults(self) -> None:
-        with self.assertRaisesRegex(Refused, "3 bytes are no whole number of samples of 2 bytes"):
+        with self.assertRaisesRegex(Refused, "3 bytes are not a whole number of samples of 2 bytes"):
             self.kept(bytes(3), "ci8")
         with self.assertRaisesRegex(Refused, "no samples left after --skip 4"):
             self.kept(bytes(8), "ci8", skip=4)

@@ -374,7 +374,7 @@ class BadInput(Folder):
     def test_refusals(self) -> None:
         wrong: tuple[tuple[Any, ...], ...] = (
             ("No such file", 9, self.at("none.is95"), "--out", self.out),
-            ("no plain file", 9, self.folder, "--out", self.out),
+            ("not a regular file", 9, self.folder, "--out", self.out),
             ("page.html: No such file", 9, self.file, "--out", self.at("none/page.html")),
             ("no program at /none", 9, self.file, "--out", self.out, "--program", "/none"),
             ("required: --out", 2, self.file),
@@ -390,7 +390,7 @@ class BadInput(Folder):
         self.fake.tell("follow", [], status=2, said="bad words\n")
         ended, said = self.ran(self.file, "--out", self.out, "--program", self.fake.path, "--row", "77")
         self.assertEqual(ended, 2)
-        self.assertIn("no arguments of follow: --row=77", said)
+        self.assertIn("not arguments of follow: --row=77", said)
         self.assertFalse(os.path.exists(self.out))
         self.assertEqual([name for name in os.listdir(self.folder) if name.startswith(".part-")], [])
 
@@ -482,9 +482,9 @@ class Recordings(Folder):
         """The import's own command line judges them, and there is no page."""
         raw = self.keep("radio.bin", b"raw")
         for why, *words in (
-            ("--type needed", "--rate", "2400000"),
-            ("--rate needed", "--type", "cu8"),
-            ("argument --rate: no number: 'x'", "--type", "cu8", "--rate", "x"),
+            ("give --type, unless", "--rate", "2400000"),
+            ("give --rate, unless", "--type", "cu8"),
+            ("argument --rate: not a number: 'x'", "--type", "cu8", "--rate", "x"),
             ("argument --type: invalid choice: 'cu9'", "--type", "cu9", "--rate", "2400000"),
             ("unrecognized arguments: --none", "--type", "cu8", "--rate", "2400000", "--import=--none"),
             ("--help makes no page", "--type", "cu8", "--rate", "2400000", "--import=--help"),

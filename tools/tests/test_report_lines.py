@@ -95,7 +95,7 @@ class ReportLinesTest(unittest.TestCase):
             path = self.keep("bad.txt", ["pilot phase=5 energy=6", text])
             status, _, said = run_main("report", path, "--out", self.page)
             self.assertEqual(status, 9)
-            self.assertRegex(said, r"^report: .*bad.txt: line 2 is none: .*\n$")
+            self.assertRegex(said, r"^report: .*bad.txt: line 2 is invalid: .*\n$")
             self.assertFalse(os.path.exists(self.page))
 
     def test_which_files_have_lines(self) -> None:

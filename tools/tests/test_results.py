@@ -95,7 +95,7 @@ class Forms(unittest.TestCase):
         self.assertEqual(skipped.get("message"), "no maker")
 
     def test_refusals(self) -> None:
-        for place, why in (("-", "needs a file"), ("/none/at/all.xml", "no folder for it")):
+        for place, why in (("-", "needs a file"), ("/none/at/all.xml", "its folder doesn't exist")):
             with self.assertRaisesRegex(WrongArguments, why):
                 Results("suite", options("--junit", place), 0)
         with contextlib.redirect_stderr(io.StringIO()), self.assertRaises(SystemExit) as end:
@@ -116,22 +116,22 @@ class Runs(unittest.TestCase):
     def test_one_that_hangs_leaves_nothing(self) -> None:
         began = time.monotonic()
         ran = self.ran("echo $$; sleep 50 & sleep 50", seconds=0.5)
-        self.assertEqual(ran.fault, "no end within 0.5 seconds")
+        self.assertEqual(ran.fault, "it didn't end within 0.5 seconds")
         self.assertLess(time.monotonic() - began, 10)
         self.assertTrue(is_gone(int(ran.wrote)), "a process is left")
 
     def test_one_whose_output_is_held(self) -> None:
         ran = self.ran("sleep 50 & echo $$", seconds=0.5)
-        self.assertEqual(ran.fault, "it ended, and a process that it began held its output longer than 0.5 seconds")
+        self.assertEqual(ran.fault, "it ended, but a process that it began held its output longer than 0.5 seconds")
         self.assertTrue(is_gone(int(ran.wrote)), "a process is left")
 
     def test_one_that_closes_its_outputs_and_hangs(self) -> None:
-        self.assertEqual(self.ran("exec >&- 2>&-; sleep 50", seconds=0.5).fault, "no end within 0.5 seconds")
+        self.assertEqual(self.ran("exec >&- 2>&-; sleep 50", seconds=0.5).fault, "it didn't end within 0.5 seconds")
 
     def test_one_that_writes_without_end(self) -> None:
-        self.assertEqual(self.ran("yes").fault, "it wrote more than 1,000 bytes on standard output, and was ended")
+        self.assertEqual(self.ran("yes").fault, "it wrote more than 1,000 bytes on standard output, and was stopped")
         self.assertEqual(
-            self.ran("yes >&2").fault, "it wrote more than 1,048,576 bytes on standard error, and was ended"
+            self.ran("yes >&2").fault, "it wrote more than 1,048,576 bytes on standard error, and was stopped"
         )
         self.assertEqual(self.ran("head -c 1000 /dev/zero").fault, "")
 
@@ -188,7 +188,7 @@ class BadReceivers(unittest.TestCase):
             "ended by SIGKILL, wanted 0",
             "byte 5, on line 2, is 0xff, which isn't ASCII text",
             "line 2 written: \\xff\\x1b[2J",
-            f"it wrote more than {(1 << 26) + 5:,} bytes on standard output, and was ended",
+            f"it wrote more than {(1 << 26) + 5:,} bytes on standard output, and was stopped",
             ".. and 2999998 more",
             f"ended by signal {signal.SIGRTMIN + 3}, wanted 0",
         ):
@@ -241,23 +241,23 @@ class Limits(unittest.TestCase):
         for text, why in (
             ("", "the first line is neither"),
             ("ebnt,share\n2,0.5\n", "the first line is neither point_db,share nor point_db,channel,share"),
-            (head, "it has no limit"),
-            (head + "2\n", "limit 1: another number of fields"),
-            (head + "2,0.1,3\n", "limit 1: another number of fields"),
-            (head + "x,0.1\n", "limit 1: its point or its share is no number"),
-            (head + "inf,0.1\n", "limit 1: its point or its share is no number"),
+            (head, "it has no limits"),
+            (head + "2\n", "limit 1: it has another number of fields"),
+            (head + "2,0.1,3\n", "limit 1: it has another number of fields"),
+            (head + "x,0.1\n", "limit 1: its point or its share is not a number"),
+            (head + "inf,0.1\n", "limit 1: its point or its share is not a number"),
             (head + "2,0.1\n2,nan\n", "limit 2: its share isn't above 0"),
             (head + "2,0\n", "limit 1: its share isn't above 0"),
             (head + "2,1.01\n", "limit 1: its share isn't above 0"),
-            (head + "2.0001,0.1\n", "limit 1: its point has more than three places"),
-            (head + "3,0.1\n", "limit 1: 3 dB is no point of --from, --to and --step"),
+            (head + "2.0001,0.1\n", "limit 1: its point has more than three decimal places"),
+            (head + "3,0.1\n", "limit 1: 3 dB is not a point of --from, --to and --step"),
             (head + "\u00e9,0.1\n", "isn't ASCII text"),
         ):
             with self.subTest(why, text=text), self.assertRaisesRegex(Refused, why):
                 self.read(text)
         with self.assertRaisesRegex(Refused, "No such file"):
             limits.read_limits(self.path + ".none", [])
-        with self.assertRaisesRegex(Refused, "no channel 'frame 4800' is counted: there is frame 9600"):
+        with self.assertRaisesRegex(Refused, "channel 'frame 4800' is not counted, only frame 9600"):
             limits.check_channels([limits.Limit(0, "frame 4800", 1.0)], ["frame 9600"], self.path)
 
 

@@ -157,8 +157,8 @@ class Reasons(unittest.TestCase):
         (3, "pilot gain=100\r", 15, "carriage return"),
         (3, "# the pilot", 1, "no comments"),
         (3, "sync gain=30 prev=3 min=1 sid=1 nid=2 lp=13 ltm=0 daylt=0 prat=0 rest=3:00", 1, "after link comes pilot"),
-        (6, "page half 34:04ff80", 14, "34 bits are written in 10 hex digits, here are 6"),
-        (8, "frame 4800 81:0000000000000000000000 0101010101010101", 12, "a frame of 4800 has 80 bits, here are 81"),
+        (6, "page half 34:04ff80", 14, "34 bits are written in 10 hex digits, not 6"),
+        (8, "frame 4800 81:0000000000000000000000 0101010101010101", 12, "a frame of 4800 has 80 bits, not 81"),
         (7, "traffic row=1 esn=00000009 offset=0 gain=40", 13, "Walsh row 1 is taken by the channel in line 5"),
         (3, "pilot gain=20000", 1, "more than 32,767"),
     ]
@@ -222,7 +222,7 @@ class Arguments(unittest.TestCase):
 
     def test_reasons(self) -> None:
         self.assertIn("64 to 32,768", argument_faults(["find", "--span", "7"])[0])
-        self.assertIn("is --fingers meant?", argument_faults(["follow", "--finger", "2"])[0])
+        self.assertIn("did you mean --fingers?", argument_faults(["follow", "--finger", "2"])[0])
         self.assertIn("--esn needs --row", argument_faults(["follow", "--esn", "0000abcd"])[0])
         self.assertIn("option of idle", argument_faults(["follow", "--key", "00000000"])[0])
 

@@ -101,7 +101,7 @@ class Stored(unittest.TestCase):
     def test_wave_files_that_are_refused(self) -> None:
         data = PARTS.astype("<i2").tobytes()
         for content, why in (
-            (b"RIFF", "no WAV file"),
+            (b"RIFF", "not a WAV file"),
             (wave(fields_of(1, 16, 1), data), "1 channels"),
             (wave(fields_of(1, 24), data), "format 1 of 24 bits"),
             (wave(b"", data), "'fmt ' chunk before"),
@@ -136,11 +136,11 @@ class Stored(unittest.TestCase):
             ({"x.sigmf-data": data}, "0 recordings in the archive"),
             ({"x.sigmf-meta": text}, "no x.sigmf-data in the archive"),
             ({"x.sigmf-meta": text, "y.sigmf-meta": text, "x.sigmf-data": data}, "2 recordings"),
-            ({"x.sigmf-meta": b"{", "x.sigmf-data": data}, "no JSON"),
+            ({"x.sigmf-meta": b"{", "x.sigmf-data": data}, "not JSON"),
         ):
             with self.assertRaisesRegex(Refused, why):
                 sources.stored_of(self.archive(names), None)
-        with self.assertRaisesRegex(Refused, "no SigMF archive"):
+        with self.assertRaisesRegex(Refused, "not a SigMF archive"):
             sources.stored_of(self.kept("y.sigmf", b"x" * 2_000), None)
 
     def test_captures(self) -> None:
@@ -193,7 +193,7 @@ class Tools(Recordings):
         status, wrote, said = self.run_tool(*words, data=data + b"\1")  # it ends within a sample
         self.assertEqual((status, wrote == wanted), (0, True), said)
         status, wrote, said = self.run_tool(*words, data=b"\1")
-        self.assertEqual((status, wrote, said), (1, b"", "import_capture: standard input: no samples came\n"))
+        self.assertEqual((status, wrote, said), (1, b"", "import_capture: standard input: no samples arrived\n"))
 
 
 class Live(unittest.TestCase):

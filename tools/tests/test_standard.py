@@ -145,8 +145,8 @@ class Compared(unittest.TestCase):
         self.assertEqual(standard.reason(self.case()), "")
         self.assertEqual(standard.reason(self.case("noise: 1 5", "near: 5")), "")
         for case, why in (
-            (lambda: self.case("noise: 1 5"), "aren't one cell's alone"),
-            (lambda: self.case("cut: 100"), "aren't one cell's alone"),
+            (lambda: self.case("noise: 1 5"), "aren't one cell's only"),
+            (lambda: self.case("cut: 100"), "aren't one cell's only"),
             (lambda: self.case(words="idle --key 00000000"), "its command is this project's own"),
             (lambda: self.case(checks=3), "checks are complemented"),
             (lambda: self.case(text=["traffic at=5 seq=1 handoff 1", *self.lines]), "handoff"),
