@@ -17,10 +17,10 @@ from model.run import run
 
 
 class Receiver(socketserver.StreamRequestHandler):
-    """One run: a line with the arguments, then the input to its end; the answer is lines, and the status last."""
+    """One run: a line with the arguments, then the input up to its end. It replies with lines, the status last."""
 
     def handle(self) -> None:
-        """Hears what one connection brings."""
+        """Serves one connection."""
         arguments = shlex.split(self.rfile.readline().decode())
         outcome = run(arguments, self.rfile.read)
         for line in b"".join(outcome.written).decode("ascii").splitlines():

@@ -22,7 +22,7 @@ SEED = 1995
 
 
 def through(samples: numpy.ndarray, noise: float, taps: list[complex]) -> numpy.ndarray:
-    """What the flowgraph makes of samples, in as many samples."""
+    """Returns the samples that the flowgraph makes of `samples`, as many as those."""
     flow = gr.top_block()
     source, sink = blocks.vector_source_c(samples.tolist()), blocks.vector_sink_c()
     # The model's noise is complex, and its voltage that of both branches together.
@@ -34,7 +34,7 @@ def through(samples: numpy.ndarray, noise: float, taps: list[complex]) -> numpy.
 
 
 def main() -> int:
-    """Reads a sample file, and asks the receiver about what the flowgraph makes of it."""
+    """Reads a sample file and passes what the flowgraph makes of it to the receiver."""
     data = sys.stdin.buffer.read()
     head, form = data[:HEADER_BYTES], WIDTHS[data[5]]
     parts = numpy.frombuffer(data, form, offset=HEADER_BYTES).astype(numpy.float32)

@@ -1,7 +1,7 @@
-"""`python3 -m tools.tests` runs all tests of the tools, and says at its end which were skipped, and why.
+"""`python3 -m tools.tests` runs all tests of the tools, and lists the skipped tests at its end, with the reasons.
 
-Classes of tests run at once, one a processor; those that keep time run after the others, half as many at once. Where
---skipped names a file, the lines on skipped tests are written into it too, so that a gate can say them last.
+Classes of tests run at once, one per processor. Those that measure time run after the others, half as many at once. If
+--skipped names a file, the lines on skipped tests are also written to it, so that a gate can print them last.
 """
 
 import argparse
@@ -23,12 +23,12 @@ TOP = os.path.dirname(os.path.dirname(HERE))
 
 
 def all_tests() -> unittest.TestSuite:
-    """The tests of all modules in this folder."""
+    """Returns the tests of all modules in this folder."""
     return unittest.defaultTestLoader.discover(HERE, top_level_dir=TOP)
 
 
 def skipped_lines(found: list[Outcome]) -> list[str]:
-    """A line for each test or module that was skipped, with its reason, and one that counts them."""
+    """Returns a line for each test or module that was skipped, with its reason, and one that counts them."""
     lines = sorted(f"skipped: {name}: {why}" for it in found for name, why in it.skipped)
     return [*lines, f"{sum(it.ran for it in found)} tests of the tools ran, {len(lines)} skipped"]
 
@@ -41,7 +41,7 @@ def compiled(folder: str) -> None:
 
 
 def run_all(jobs: int) -> list[Outcome]:
-    """Runs all tests; those that fail are told as their class ends, and a dot stands for each class that passed."""
+    """Runs all tests; failures are printed as their class ends, and a dot for each class that passed."""
     found = []
     with tempfile.TemporaryDirectory(prefix="cdma-tests-") as folder:
         code, shared = os.path.join(folder, "code"), os.path.join(folder, "shared")

@@ -16,7 +16,7 @@ SECONDS = 240
 
 
 def wait_for(condition: Callable[[], Any], ended: subprocess.Popen[Any]) -> None:
-    """Waits until a condition holds; it must before a process ends."""
+    """Waits until a condition holds, which must happen before a process ends."""
     until = time.monotonic() + SECONDS
     while not condition():
         assert ended.poll() is None, "a process ended too soon"
@@ -25,7 +25,7 @@ def wait_for(condition: Callable[[], Any], ended: subprocess.Popen[Any]) -> None
 
 
 def started(words: list[str], clean: Callable[..., object]) -> subprocess.Popen[bytes]:
-    """A process at the top of the repository that says nothing, and ends with a test: clean is its addCleanup."""
+    """Starts a silent process at the top of the repository, which ends with a test: `clean` is its addCleanup."""
     child = subprocess.Popen(words, stdout=subprocess.DEVNULL, stderr=subprocess.DEVNULL, cwd=ROOT)
 
     def end() -> None:
@@ -37,7 +37,7 @@ def started(words: list[str], clean: Callable[..., object]) -> subprocess.Popen[
 
 
 def address_in(path: str) -> str | None:
-    """The address that a scheduler wrote to a file; None as long as it didn't."""
+    """Returns the address that a scheduler wrote to a file; None as long as there is none."""
     try:
         with open(path, encoding="ascii") as file:
             return str(json.load(file)["address"])
@@ -46,7 +46,7 @@ def address_in(path: str) -> str | None:
 
 
 def started_scheduler(folder: str, clean: Callable[..., object]) -> tuple[subprocess.Popen[bytes], str]:
-    """A scheduler, which writes to a folder, and its address."""
+    """Starts a scheduler, which writes to a folder; returns it and its address."""
     path = os.path.join(folder, "scheduler.json")
     child = started(
         [*SERVER, "distributed.cli.dask_scheduler", "--host", "127.0.0.1", "--port", "0", "--no-dashboard",
@@ -57,7 +57,7 @@ def started_scheduler(folder: str, clean: Callable[..., object]) -> tuple[subpro
 
 
 def started_worker(address: str, folder: str, clean: Callable[..., object]) -> subprocess.Popen[bytes]:
-    """A worker of the scheduler at an address, which may write to a folder."""
+    """Starts a worker of the scheduler at an address; it may write to a folder."""
     return started(
         [*SERVER, "distributed.cli.dask_worker", address, "--nthreads", "1", "--no-nanny", "--no-dashboard",
          "--local-directory", folder], clean

@@ -1,4 +1,4 @@
-"""Cells that are drawn with a seed, with messages whose fields are known: scripts for `make` (docs/FORMATS.md)."""
+"""Cells drawn from a seed, with messages whose fields are known: scripts for `make` (docs/FORMATS.md)."""
 
 from __future__ import annotations
 
@@ -38,7 +38,7 @@ class DrawnCell:
         return self.pilot**2 + self.sync**2 + self.paging**2 + self.traffic**2
 
     def script(self, samples: int) -> str:
-        """Its script for `samples` samples, with pages that repeat."""
+        """Returns its script for `samples` samples, with pages that repeat."""
         draws = random.Random(self.seed)
         count = samples // 24_576 + 2
         frames = [f"frame 9600 172:{draws.randrange(1 << 171) << 4:044x} {'01' * 8}" for _ in range(count)]
@@ -55,7 +55,7 @@ class DrawnCell:
         ])  # fmt: skip
 
     def system(self) -> str:
-        """The bits of its System Parameters Message; fields that aren't drawn are 0."""
+        """Returns the bits of its System Parameters Message; fields that are not drawn are 0."""
         bits = [*f"{SYSTEM_TYPE:08b}", *"0" * (SYSTEM_BITS - 8)]
         windows = int("".join(f"{value:04b}" for value in WINDOWS), 2)
         values = {"pn": self.pn, "sid": self.sid, "nid": self.nid, "base": self.base, "windows": windows}
@@ -64,13 +64,13 @@ class DrawnCell:
         return "".join(bits)
 
     def named(self) -> str:
-        """The bits of its Neighbor List Message (7.7.2.3.2.3)."""
+        """Returns the bits of its Neighbor List Message (7.7.2.3.2.3)."""
         head = f"{NEIGHBORS_TYPE:08b}{self.pn:09b}{0:06b}{PILOT_INC:04b}"
         bits = head + "".join(f"{0:03b}{pn:09b}" for pn in self.neighbors)
         return bits + "0" * ((2 - len(bits)) % 8)  # a body has 8 L - 38 bits (7.7.2.1)
 
     def write(self, path: str, samples: int) -> str:
-        """Writes its sample file by the program, and answers the path."""
+        """Writes its sample file by the program, and returns the path."""
         with open(path, "wb") as file:
             script = self.script(samples).encode("ascii")
             subprocess.run([str(PROGRAM), "make"], input=script, stdout=file, check=True)
@@ -78,13 +78,13 @@ class DrawnCell:
 
 
 def hexadecimal(bits: str) -> str:
-    """Bits as hex digits, with zeros up to a whole byte."""
+    """Returns bits as hex digits, padded with zeros to a whole byte."""
     padded = bits + "0" * (-len(bits) % 8)
     return f"{int(padded, 2):0{len(padded) // 4}x}"
 
 
 def drawn_cell(draws: random.Random, pn: int, neighbors: tuple[int, ...]) -> DrawnCell:
-    """A cell of an offset, whose identity and gains are drawn; its pilot has -1.5 to -5 dB of its power."""
+    """Returns a cell with an offset and a drawn identity and gains; its pilot has -1.5 to -5 dB of its power."""
     return DrawnCell(
         pn=pn, sid=draws.randrange(1, 1 << 15), nid=draws.randrange(1, 1 << 16), base=draws.randrange(1, 1 << 16),
         pilot=100, sync=draws.randrange(28, 45), paging=draws.randrange(45, 90), traffic=draws.randrange(30, 90),

@@ -1,9 +1,9 @@
-"""A stand-in for the program, for the tests of `tools/curve`: it makes samples of one number, and "hears" the frames of
-a script by the noise on them, so that only the noise decides what is lost.
+"""A stand-in for the program, for the tests of `tools/curve`.
 
-`make` writes the script's samples, all (LEVEL, LEVEL). `follow` writes a sync line, and a frame line for each frame
-of the script named by FAKE_SCRIPT that ends in the file; the sum of the frame's samples, less LEVEL, says how it is
-told. FAKE_FAULT names a fault: `status 5`, `silent`, `garbage`, `slow`, `hang`.
+It makes samples of one number, and "decodes" the frames of a script by the noise on them, so that only the noise
+decides what is lost. `make` writes the script's samples, all (LEVEL, LEVEL). `follow` writes a sync line, and a frame
+line for each frame of the script named by FAKE_SCRIPT that ends in the file; the sum of the frame's samples, less
+LEVEL, decides how it is reported. FAKE_FAULT names a fault: `status 5`, `silent`, `garbage`, `slow`, `hang`.
 """
 
 import array
@@ -21,7 +21,7 @@ HEADER = struct.Struct(">4sHHQ")
 
 
 def frames_of(path: str) -> list[tuple[str, str]]:
-    """The rate and the bits of each frame line of a script."""
+    """Returns the rate and the bits of each frame line of a script."""
     with open(path, encoding="ascii") as file:
         words = [line.split() for line in file]
     return [(line[1], line[2]) for line in words if line[0] == "frame"]
@@ -36,7 +36,8 @@ def make(text: str) -> None:
 
 
 def told(total: int, rate: str, bits: str) -> str:
-    """A frame's line after its place, by the sum of its noise: five ways to be heard, by the sum modulo KINDS."""
+    """Returns a frame's line after its place. The sum of its noise modulo KINDS chooses one of five ways to decode it.
+    """
     kind = total % KINDS
     wrong = bits[:4] + ("0" if bits[4] != "0" else "8") + bits[5:]
     rate, good, bits = {
@@ -63,7 +64,7 @@ def follow(data: bytes) -> None:
 
 
 def main() -> int:
-    """Does what the first word says, with the fault that is asked for."""
+    """Does what the first word says, with the fault that is requested."""
     data = sys.stdin.buffer.read()
     fault = os.environ.get("FAKE_FAULT", "")
     if sys.argv[1] == "make":

@@ -1,4 +1,4 @@
-"""What the tests of the tools share: where things stand, and how a tool and the program are run."""
+"""What the tests of the tools share: the places of files, and how a tool and the program are run."""
 
 import atexit
 import contextlib
@@ -37,14 +37,15 @@ SHARED = "CDMA_TOOLS_TESTS_SHARED"
 
 
 def needs(*names: str) -> None:
-    """Lets a module of tests be skipped where a package that it needs is missing."""
+    """Skips a module of tests if a package that it needs is missing."""
     for name in names:
         if importlib.util.find_spec(name) is None:
             raise unittest.SkipTest(f"no {name}: install the package python3-{name}")
 
 
 def temporary_folder(clean: Callable[..., object]) -> str:
-    """The path of a new folder that goes with a test, or with a class of them: clean is its addCleanup or addClassCleanup."""
+    """Returns the path of a new folder, removed with a test or with a class: `clean` is its addCleanup or
+    addClassCleanup."""
     folder = tempfile.TemporaryDirectory()
     clean(folder.cleanup)
     return folder.name
@@ -52,7 +53,7 @@ def temporary_folder(clean: Callable[..., object]) -> str:
 
 @functools.cache
 def shared_folder() -> str:
-    """The folder of what the processes of a run of all tests share; where tests run otherwise, this process's own."""
+    """Returns the folder shared by the processes of a run of all tests; in any other run, this process's own."""
     named = os.environ.get(SHARED)
     if named:
         return named
@@ -62,9 +63,9 @@ def shared_folder() -> str:
 
 
 def made_once(name: str, make: Callable[[str], object]) -> str:
-    """The path of a file that the first test of a run that needs it makes, and that no test may change.
+    """Returns the path of a file that the first test that needs it makes, and that no test may change.
 
-    The name stands for all that the file depends on. Others that need the file wait until it is whole.
+    The name stands for everything that the file depends on. Other tests that need the file wait until it is complete.
     """
     path = os.path.join(shared_folder(), name)
     with open(path + ".lock", "wb") as lock:
@@ -76,21 +77,21 @@ def made_once(name: str, make: Callable[[str], object]) -> str:
 
 
 def loaded(name: str) -> ModuleType:
-    """A tool's module."""
+    """Returns a tool's module."""
     return importlib.import_module(f"cdma_tools.commands.{name}")
 
 
 def run_tool(name: str, *words: object, data: bytes = b"") -> tuple[int, bytes, str]:
-    """A tool's run: its status, what it wrote, and what it wrote on standard error."""
+    """Runs a tool; returns its status, its output and its standard error."""
     command = [PYTHON, "-B", os.path.join(TOOLS, name), *map(str, words)]
     ran = subprocess.run(command, input=data, capture_output=True, timeout=300)
     return ran.returncode, ran.stdout, ran.stderr.decode()
 
 
 def run_inside(name: str, *words: object, data: bytes = b"") -> tuple[int, bytes, str]:
-    """What `run_tool` answers, by a run within this process, which loads no package a second time.
+    """Returns what `run_tool` returns, by a run within this process, which loads no package a second time.
 
-    It is for tests of what a tool does with its input; what its process does takes a process.
+    Use it for tests of what a tool does with its input. Tests of the process itself need a process.
     """
     wrote, said = io.BytesIO(), io.BytesIO()
     streams = [io.TextIOWrapper(held, "utf-8", "backslashreplace") for held in (io.BytesIO(data), wrote, said)]
@@ -110,14 +111,14 @@ def run_inside(name: str, *words: object, data: bytes = b"") -> tuple[int, bytes
 
 
 def run_program(*words: str, data: bytes = b"") -> tuple[int, bytes]:
-    """A run of the built program: its status and what it wrote."""
+    """Runs the built program; returns its status and its output."""
     assert PROGRAM is not None
     ran = subprocess.run([PROGRAM, *words], input=data, capture_output=True, timeout=300)
     return ran.returncode, ran.stdout
 
 
 def is_gone(group: int) -> bool:
-    """Whether no process of a group is left, some seconds later at most."""
+    """Returns whether no process of a group is left after at most some seconds."""
     until = time.monotonic() + 30
     while time.monotonic() < until:
         try:
@@ -129,20 +130,20 @@ def is_gone(group: int) -> bool:
 
 
 def example(name: str) -> bytes:
-    """The bytes of an example."""
+    """Returns the bytes of an example."""
     with open(os.path.join(EXAMPLES, name), "rb") as file:
         return file.read()
 
 
 def read_file(path: str) -> tuple[int, int, list[tuple[int, int]]]:
-    """A sample file's version, flags and samples."""
+    """Returns a sample file's version, flags and samples."""
     with open(path, "rb") as file:
         data = file.read()
     return taken_apart(data)
 
 
 def taken_apart(data: bytes) -> tuple[int, int, list[tuple[int, int]]]:
-    """The version, the flags and the samples of a sample file's bytes."""
+    """Returns the version, the flags and the samples in a sample file's bytes."""
     magic, version, flags, count = HEADER.unpack(data[: HEADER.size])
     assert magic == b"IS95", magic
     form = {1: "h", 2: "b"}[version]
@@ -151,7 +152,7 @@ def taken_apart(data: bytes) -> tuple[int, int, list[tuple[int, int]]]:
 
 
 def sample_file(samples: Sequence[tuple[int, int]], version: int = 1, flags: int = 0) -> bytes:
-    """The bytes of a sample file."""
+    """Returns the bytes of a sample file."""
     form = {1: "h", 2: "b"}[version]
     parts = [part for sample in samples for part in sample]
     return HEADER.pack(b"IS95", version, flags, len(samples)) + struct.pack(f">{len(parts)}{form}", *parts)

@@ -1,10 +1,9 @@
-"""A cell of any length, made by pieces from a script, and every line that a handset must write of it.
+"""A cell of any length, made in pieces from a script, and every line that a handset must write for it.
 
-Both are computed only from the script.
-
-The cell sends the longest sync capsule (148 octets in 13 superframes), pages of 148 octets, and a run of pages that
-follow each other; a signalling message of 148 octets is spread over a second of its traffic channel's frames. The
-expected lines follow docs/FORMATS.md and docs/LINK.md; the long code's states are those of the model.
+Both are computed only from the script. The cell sends the longest sync capsule (148 octets in 13 superframes), pages of
+148 octets, and a run of pages that follow each other. A signalling message of 148 octets is spread over a second of its
+traffic channel's frames. The expected lines follow docs/FORMATS.md and docs/LINK.md; the long code's states are those
+of the model.
 """
 
 import random
@@ -45,7 +44,7 @@ def bits_of(text: str) -> str:
 
 
 def drawn(draws: random.Random, count: int, head: str = "") -> str:
-    """Returns `count` random bits, the first ones given."""
+    """Returns `count` random bits that begin with the given ones."""
     return head + "".join(draws.choice("01") for _ in range(count - len(head)))
 
 
@@ -78,7 +77,7 @@ def traffic_frames(draws: random.Random) -> list[tuple[int, str]]:
 
 
 def script_of(seed: int, prat: int, start: int, samples: int) -> str:
-    """The script of chips `start` and on of the cell."""
+    """Returns the script of the cell's chips from `start` on."""
     draws = random.Random(seed)
     time, state = draws.randrange(1 << 32), draws.randrange(1, 1 << 42)
     rest = text_of(drawn(draws, 976))
@@ -122,7 +121,7 @@ def write_cell(path: str, parts: NDArray[numpy.int8]) -> str:
 
 @dataclass(frozen=True)
 class Owed:
-    """A line without its `at`: the chip at which it is known, the one at which what it tells begins, and the mark."""
+    """A line without its `at`: the chip at which it is known, the chip at which its content begins, and the mark."""
 
     at: int
     begin: int
@@ -155,7 +154,7 @@ class Sent:
             yield Owed(begin + SYNC_FRAME * (frames + 1), begin, text, SUPERFRAME * told)
 
     def paging_lines(self, end: int) -> Iterator[Owed]:
-        """The pages, over and over."""
+        """Yields the pages, repeated without end."""
         size, place, run, pages = BODY_BITS[int(self.sync["prat"])], 0, 0, []
         for how, body in self.pages:
             if how == "half":
@@ -169,7 +168,7 @@ class Sent:
                 yield Owed(FRAME * ((cycle * halves + half) // 2 + 2), FRAME // 2 * (cycle * halves + first), text)
 
     def traffic_lines(self, end: int) -> Iterator[Owed]:
-        """The frames of the traffic channel, over and over, and the messages in them."""
+        """Yields the frames of the traffic channel, repeated without end, and the messages in them."""
         held: str | None = None
         begun = 0
         for number, at in enumerate(range(FRAME + 1_536 * OFFSET, end + 1, FRAME)):
@@ -189,12 +188,12 @@ class Sent:
                 held = None
 
     def lines(self, end: int) -> list[Owed]:
-        """All that is sent up to a chip."""
+        """Returns everything that is sent up to a chip."""
         return [*self.sync_lines(end), *self.paging_lines(end), *self.traffic_lines(end)]
 
 
 def message_text(capsule: str) -> str:
-    """The line of a message of the traffic channel, of a type that isn't read field by field."""
+    """Returns the line of a traffic channel message whose type is not read field by field."""
     body = capsule[8 : 8 * int(capsule[:8], 2) - 16]
     ack, seq, req, enc, kind = (int(body[low:high], 2) for low, high in ((8, 11), (11, 14), (14, 15), (15, 17), (0, 8)))
     return f"traffic ack={ack} seq={seq} req={req} enc={enc} other type={kind} bits={text_of(body[17:])}"
@@ -212,9 +211,9 @@ class Compared:
 
 
 def compared(sent: Sent, lines: list[str], count: int) -> Compared:
-    """Compares lines with what a cell of `chips` chips sends from the first sync message received on.
+    """Compares lines with what a cell of `chips` chips sends from the first received sync message on.
 
-    The chips of the two differ by one constant, which the first sync message tells; the expected lines end with the last
+    The chips of the two differ by a constant, given by the first sync message. The expected lines end with the last
     line.
     """
     heard = []

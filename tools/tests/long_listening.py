@@ -1,16 +1,16 @@
-"""A listening of minutes or hours, run by hand: received lines against those of the script, memory and speed.
+"""Listens for minutes or hours, run by hand: received lines against those of the script, memory and speed.
 
     CDMA_REPLAY=PROGRAM python3 -B -m tools.tests.long_listening --seconds 3495
 
 A recording is made piece by piece, of 8-bit samples at about 2.46 million a second, and goes through a pipe to
 tools/listen, so nothing of it is kept. Its carrier drifts by 1 Hz a second, the radio's clock is 4 millionths off, and
 in each 100 seconds the signal fades for 0.6 seconds and 4,000 samples are lost. Lines are kept in a file, and compared
-when the recording is over; of an hour they take 70 MB, and the comparison 1 GB of memory. The line that is printed has
-the lines that are owed, missing and too many; how many of these lie where no fade and no loss took them; the
-processor's seconds of tools/listen with all its runs of follow, and how many times faster than the air that is; and
-the most memory of tools/listen without them.
+when the recording is over; for an hour they take 70 MB, and the comparison 1 GB of memory.
 
-Exit status: 0 where all that is missing was lost or faded, 1 otherwise, 2 wrong arguments, 130 after Ctrl-C.
+The printed line has the numbers of expected, missing and extra lines; how many of these lie outside fades and losses;
+the processor's seconds of tools/listen with all its runs of follow, and how many times faster than real time that is;
+and the peak memory of tools/listen without these runs. Exit status: 0 if everything missing was lost or faded, 1
+otherwise, 2 wrong arguments, 130 after Ctrl-C.
 """
 
 import argparse
@@ -54,7 +54,7 @@ SIZE = fft.next_fast_len(AT_ONCE + BEFORE)  # chips of a transform
 
 
 def pulse() -> NDArray[numpy.float32]:
-    """The pulse at two samples a chip, a fraction of a chip late."""
+    """Returns the pulse at two samples a chip, delayed by a fraction of a chip."""
     table = pulse_table(False)
     late = PHASES - int(DELAY * PHASES)
     rows = [table[late - PHASES // 2], table[late]]
@@ -62,12 +62,12 @@ def pulse() -> NDArray[numpy.float32]:
 
 
 def is_faded(chip: int) -> bool:
-    """Whether the signal is faded at a chip."""
+    """Returns whether the signal is faded at a chip."""
     return FADE[0] <= chip / CHIP_RATE % EVERY < FADE[1]
 
 
 def is_lost(first: int, count: int) -> bool:
-    """Whether a loss begins within `count` chips, from chip `first` on."""
+    """Returns whether a loss begins within `count` chips from chip `first` on."""
     since = (first / CHIP_RATE - LOSS) % EVERY
     return since == 0 or since + count / CHIP_RATE > EVERY
 
@@ -76,7 +76,7 @@ class Radio:
     """Makes samples of chips, block by block."""
 
     def __init__(self, power: float) -> None:
-        """For a cell whose chips have a power."""
+        """Takes a cell whose chips have a power."""
         self.response = fft.fft(pulse(), 2 * SIZE)
         draws = numpy.random.default_rng(SEED)
         noise = draws.standard_normal((DRAWN + 2 * AT_ONCE, 2), dtype=numpy.float32).view(numpy.complex64)[:, 0]
@@ -88,7 +88,7 @@ class Radio:
         self.before = numpy.zeros(BEFORE, dtype=numpy.complex64)
 
     def samples(self, first: int, chips: NDArray[numpy.complex64]) -> NDArray[numpy.uint8]:
-        """The samples, i and q in turn, of chips `first` and on."""
+        """Returns the samples, i and q in turn, of chips from `first` on."""
         whole = numpy.concatenate([self.before, chips])
         self.before = whole[-BEFORE:]
         # Of two samples a chip the spectrum of chips is there twice.
@@ -106,7 +106,7 @@ class Radio:
 
 
 def pieces(program: str, seconds: int) -> Iterator[tuple[int, NDArray[numpy.complex64]]]:
-    """Chips of the cell, some at a time, each with the first one's number."""
+    """Yields the cell's chips in pieces, each with the number of its first chip."""
     count = seconds * CHIP_RATE // AT_ONCE * AT_ONCE
     for start in range(0, count, PIECE):
         parts = made_chips(program, script_of(SEED, PRAT, start, min(PIECE, count - start)))
@@ -136,7 +136,7 @@ class Ran:
 
 
 def listened(program: str, seconds: int, path: str) -> Ran:
-    """Lets tools/listen hear the recording, and writes its lines to a file."""
+    """Runs tools/listen on the recording, and writes its lines to a file."""
     words = ["--program", program, "--type", "cu8", "--rate", str(TOLD_RATE), "-", *HANDSET]
     command = [PYTHON, "-B", os.path.join(ROOT, "tools", "listen"), *words]
     environment = dict(os.environ, OMP_NUM_THREADS="1", OPENBLAS_NUM_THREADS="1")
@@ -156,14 +156,14 @@ def listened(program: str, seconds: int, path: str) -> Ran:
 
 
 def most_memory(process: int) -> float:
-    """The most MB that a process has had."""
+    """Returns the peak memory of a process in MB."""
     with open(f"/proc/{process}/status", encoding="ascii", errors="replace") as file:
         found = re.search(r"(?m)^VmHWM:\s*(\d+) kB", file.read())
     return int(found[1]) * 1_024 / 1e6 if found else 0.0
 
 
 def is_spoilt(begin: float, end: float) -> bool:
-    """Whether a fade or a loss lies within seconds, or a tenth of a second beside them."""
+    """Returns whether a fade or a loss lies within these seconds, or within a tenth of a second of them."""
     spans = [FADE, (LOSS, LOSS + AT_ONCE / CHIP_RATE)]
     first = int(begin / EVERY)
     return any(
@@ -174,7 +174,7 @@ def is_spoilt(begin: float, end: float) -> bool:
 
 
 def unexplained(result: Compared, lines: list[Owed]) -> int:
-    """How many lines are missing, or too many, that neither a fade nor a loss took."""
+    """Returns the number of missing or extra lines that no fade and no loss explains."""
     begins = {line.at: line.begin for line in lines}
     missing = {at for at, _ in result.missing}
     count = sum(
@@ -194,7 +194,7 @@ def parser() -> argparse.ArgumentParser:
 
 
 def told(ran: Ran, lines: list[str], seconds: int) -> int:
-    """Prints how a run went, and answers the exit status."""
+    """Prints how a run went, and returns the exit status."""
     if not any(line.startswith("sync ") for line in lines):
         print(f"status {ran.status}: no sync message was heard")
         return 1

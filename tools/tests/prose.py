@@ -1,4 +1,4 @@
-"""The sentences of pages, manual pages, help texts and docstrings, and the patterns that none of them may have.
+"""The sentences of pages, manual pages, help texts, docstrings and errors, and the patterns that they may not have.
 
 `python3 -m tools.tests.prose [PAGE ..]` prints the ten longest sentences of each page, with their lengths in words.
 """
@@ -48,7 +48,7 @@ STATUS_ENDS = re.compile(r"(?<=[,;]) (?=\d+ )")  # a list of statuses is no sent
 
 @dataclass(frozen=True)
 class Sentence:
-    """A sentence, and where it begins: a place in the checkout and a line there."""
+    """A sentence, with the file of the checkout and the line in which it begins."""
 
     place: str
     line: int
@@ -56,7 +56,7 @@ class Sentence:
 
     @property
     def length(self) -> int:
-        """Its number of words; a piece of code is one."""
+        """Returns its number of words; a piece of code counts as one."""
         return sum(1 for word in self.text.split() if re.search(r"\w", word))
 
 
@@ -70,7 +70,7 @@ class Pattern:
 
 @dataclass(frozen=True)
 class Allowed:
-    """A text in which a pattern is right, in one place, and why."""
+    """A text in one place where a pattern is right, and why."""
 
     place: str
     text: str
@@ -96,7 +96,7 @@ PATTERNS = (
 
 
 def sentences_of_block(place: str, line: int, text: str) -> Iterator[Sentence]:
-    """The sentences of one paragraph, item or cell, all of which are placed at its first line."""
+    """Yields the sentences of one paragraph, item or cell, all placed at its first line."""
     text = re.sub(r"`[^`]+`", CODE, " ".join(text.split()))
     text = re.sub(r"\[([^\]]*)\]\([^)]*\)", r"\1", text).replace("**", "")
     ends = STATUS_ENDS if text.startswith("Exit status:") else SENTENCE_ENDS
@@ -106,7 +106,7 @@ def sentences_of_block(place: str, line: int, text: str) -> Iterator[Sentence]:
 
 
 def page_sentences(place: str, text: str, code: str = "    ") -> Iterator[Sentence]:
-    """The sentences of a page in Markdown; lines that begin with `code`, and HTML comments, are left out."""
+    """Yields the sentences of a page in Markdown, without HTML comments and lines that begin with `code`."""
     block: list[str] = []
     first = 0
     for number, line in enumerate([*text.splitlines(), ""], 1):
@@ -148,7 +148,7 @@ def manual_sentences(place: str, text: str) -> Iterator[Sentence]:
 
 
 def docstring_sentences(place: str, text: str) -> Iterator[Sentence]:
-    """The sentences of all docstrings of a module."""
+    """Yields the sentences of all docstrings of a module."""
     module = ast.parse(text)
     for node in ast.walk(module):
         if isinstance(node, (ast.Module, ast.ClassDef, ast.FunctionDef, ast.AsyncFunctionDef)):
@@ -160,7 +160,7 @@ def docstring_sentences(place: str, text: str) -> Iterator[Sentence]:
 
 
 def help_sentences(place: str, parser: argparse.ArgumentParser) -> Iterator[Sentence]:
-    """The sentences of a command line's help: the description, what follows, and the help of each argument."""
+    """Yields the sentences of a command line's help: the description, the epilog, and the help of each argument."""
     yield from page_sentences(place, inspect.cleandoc(parser.description or "") + "\n\n" + (parser.epilog or ""))
     for action in parser._actions:
         if action.help and action.help != argparse.SUPPRESS:
@@ -171,7 +171,7 @@ def help_sentences(place: str, parser: argparse.ArgumentParser) -> Iterator[Sent
 
 
 def sentences_in(place: str) -> list[Sentence]:
-    """The sentences of a file of this checkout: a page, a manual page, or a module with its docstrings."""
+    """Returns the sentences of a file of this checkout: a page, a manual page, or a module with its docstrings."""
     with open(os.path.join(ROOT, place), encoding="utf-8") as file:
         text = file.read()
     if place.endswith(".md"):
@@ -180,7 +180,7 @@ def sentences_in(place: str) -> list[Sentence]:
 
 
 def faults(found: Iterable[Sentence], allowed: Iterable[Allowed], used: set[Allowed]) -> Iterator[str]:
-    """What is wrong with sentences, each in a line; the exceptions that one of them needs are added to `used`."""
+    """Yields a line for each fault of these sentences; the exceptions that apply are added to `used`."""
     for sentence in found:
         if sentence.length > MOST_WORDS:
             yield f"{sentence.place}:{sentence.line}: {sentence.length} words: {sentence.text}"
@@ -194,12 +194,12 @@ def faults(found: Iterable[Sentence], allowed: Iterable[Allowed], used: set[Allo
 
 
 def longest(place: str) -> list[Sentence]:
-    """The longest sentences of a page, the longest first."""
+    """Returns the longest sentences of a page, the longest first."""
     return sorted(sentences_in(place), key=lambda it: -it.length)[:SHOWN]
 
 
 def main() -> None:
-    """Prints the longest sentences of the pages that are named, or of all that are held."""
+    """Prints the longest sentences of the pages that are named, by default of all pages."""
     for place in sys.argv[1:] or PAGES:
         for it in longest(place):
             print(f"{place}:{it.line}: {it.length}: {it.text}")

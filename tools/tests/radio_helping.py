@@ -21,7 +21,7 @@ GAINS = {0: 100, 32: 40, 1: 80, 10: 70}
 
 @functools.cache
 def code() -> NDArray[numpy.complex128]:
-    """The pilot's code, by the recursions that make_capture has: nobody may change it."""
+    """Returns the pilot's code, by the recursions of make_capture. Callers must not change it."""
     made = numpy.array(signs(I_LAGS)) + 1j * numpy.array(signs(Q_LAGS))
     made.flags.writeable = False
     return made
@@ -30,7 +30,7 @@ def code() -> NDArray[numpy.complex128]:
 def cell_chips(
     count: int, seed: int = 1, phase: int = PHASE, gains: dict[int, int] = GAINS
 ) -> NDArray[numpy.complex128]:
-    """Chips of a cell whose first has a code phase: a pilot, and rows of random symbols."""
+    """Returns chips of a cell whose first chip has a code phase: a pilot, and rows of random symbols."""
     draws = numpy.random.default_rng(seed)
     chip = phase + numpy.arange(count)
     level = numpy.zeros(count)
@@ -44,7 +44,7 @@ def cell_chips(
 def whole_cell(
     count: int, seed: int = 1, phase: int = PHASE, gains: dict[int, int] = GAINS
 ) -> NDArray[numpy.complex128]:
-    """Chips of a cell whose sync channel has symbols of 256 chips, as the standard has it (7.1.3.1.4)."""
+    """Returns chips of a cell whose sync channel has symbols of 256 chips, as in the standard (7.1.3.1.4)."""
     chip = phase + numpy.arange(count)
     symbols = 1 - 2 * numpy.random.default_rng(32 + seed).integers(0, 2, chip[-1] // 256 + 1)
     signs = 1 - 2 * (chip % 64 // 32)
@@ -70,7 +70,7 @@ def read_chips(path: str) -> NDArray[numpy.complex128]:
 
 
 def signal_to_noise(received: NDArray[numpy.complex128], sent: NDArray[numpy.complex128], window: int = 1_536) -> float:
-    """How well chips are the sent ones, times a gain that is fitted over each window as a handset does it: dB."""
+    """Returns the ratio in dB of the sent chips to the deviation from them, with a gain fitted over each window."""
     count = min(len(received), len(sent)) // window * window
     got, wanted = received[:count].reshape(-1, window), sent[:count].reshape(-1, window)
     power = numpy.sum(numpy.abs(wanted) ** 2, axis=1)
@@ -80,14 +80,14 @@ def signal_to_noise(received: NDArray[numpy.complex128], sent: NDArray[numpy.com
 
 
 def figures(said: str) -> dict[str, str]:
-    """The name=value of the one line of a lock that has them."""
+    """Returns the name=value pairs of the one line of a lock."""
     lines = [line for line in said.splitlines() if line.startswith("carrier_hz=")]
     assert len(lines) == 1, said
     return dict(word.split("=", 1) for word in lines[0].split())
 
 
 def run_main(name: str, *words: Any) -> tuple[int, str, str]:
-    """A run of a tool within this process: its status, what it wrote, and what it wrote on standard error."""
+    """Runs a tool within this process; returns its status, its output and its standard error."""
     status, wrote, said = run_inside(name, *words)
     return status, wrote.decode(), said
 
@@ -112,25 +112,25 @@ class Recordings(unittest.TestCase):
         return os.path.join(cls.folder, name)
 
     def run_tool(self, name: str, *words: Any, data: bytes = b"") -> tuple[int, bytes, str]:
-        """A tool's run: its status, what it wrote, and what it wrote on standard error."""
+        """Runs a tool; returns its status, its output and its standard error."""
         command = [PYTHON, "-B", os.path.join(TOOLS, name), *map(str, words)]
         ran = subprocess.run(command, input=data, capture_output=True, timeout=300)
         return ran.returncode, ran.stdout, ran.stderr.decode()
 
     def recorded(self, *words: Any, cells: tuple[str, ...] | None = None, name: str = "in.sigmf-meta") -> str:
-        """A recording of the cell with the arguments of tools/channel."""
+        """Makes a recording of the cell with the arguments of tools/channel."""
         status, wrote, said = run_main("channel", *words, *(cells or (self.cell,)), self.at(name))
         self.assertEqual((status, wrote), (0, ""), said)
         return self.at(name)
 
     def locked(self, recording: str, *words: Any, name: str = "out.is95") -> dict[str, str]:
-        """The figures of a lock; what it said is kept."""
+        """Returns the figures of a lock, and keeps its remarks."""
         status, wrote, self.said = run_main("import_capture", "--lock", *words, recording, self.at(name))
         self.assertEqual((status, wrote), (0, ""), self.said)
         return figures(self.said)
 
     def refused(self, why: str, recording: str, *words: Any, status: int = 1) -> str:
-        """A lock that ends with words of why, and leaves no file."""
+        """Asserts that a lock is refused for this reason, and leaves no file."""
         before = set(os.listdir(self.folder))
         ended, wrote, said = run_main("import_capture", "--lock", *words, recording, self.at("none.is95"))
         self.assertEqual((ended, wrote), (status, ""), said)
@@ -140,7 +140,7 @@ class Recordings(unittest.TestCase):
         return said
 
     def aligned(self, path: str, found: dict[str, str]) -> tuple[NDArray[numpy.complex128], NDArray[numpy.complex128]]:
-        """The chips of a file, and those that the cell sent at the same places."""
+        """Returns the chips of a file, and the chips that the cell sent at the same places."""
         chips = read_chips(path)
         first = (int(found["phase"]) - PHASE) % PERIOD
         first -= PERIOD if first > PERIOD // 2 else 0

@@ -1,4 +1,4 @@
-"""What the tests of tools/report stand on: a sample file that they compute, lines to it, and a program that writes them."""
+"""What the tests of tools/report use: a sample file that they compute, its lines, and a program that writes these."""
 
 import os
 import shlex
@@ -37,12 +37,12 @@ FOLLOWED = (
 
 
 def sent_symbols(count: int) -> NDArray[Any]:
-    """The signs of `count` symbols of a sync channel, by a rule that repeats late."""
+    """Returns the signs of `count` symbols of a sync channel, by a rule with a long period."""
     return 1 - 2 * (numpy.arange(count) ** 2 // 7 % 2)
 
 
 def signal(count: int = SAMPLES, phase: int = PHASE) -> NDArray[Any]:
-    """A pilot with a sync channel whose frames begin where the pilot's code does."""
+    """Returns a pilot with a sync channel whose frames begin where the pilot's code does."""
     in_phase, quadrature = codes()
     places = (phase + numpy.arange(count)) % 32_768
     chips = phase + numpy.arange(count)
@@ -52,19 +52,19 @@ def signal(count: int = SAMPLES, phase: int = PHASE) -> NDArray[Any]:
 
 
 def file_of(samples: NDArray[Any]) -> bytes:
-    """The sample file of rounded samples."""
+    """Returns the sample file of rounded samples."""
     return sample_file([(round(one.real), round(one.imag)) for one in samples])
 
 
 def survey_lines(strong: dict[int, int]) -> list[str]:
-    """A survey's 512 lines in order: some strong pilots, and weak ones."""
+    """Returns the 512 lines of a survey in order: some strong pilots, and weak ones."""
     energies = {pilot: strong.get(pilot, 1_000_000 - pilot) for pilot in range(512)}
     ranks = sorted(energies, key=lambda pilot: (-energies[pilot], pilot))
     return [f"survey pn={pilot} delta={pilot % 5 - 2} energy={energies[pilot]}" for pilot in ranks]
 
 
 class Fake:
-    """A program in a folder that takes its input whole and writes what it is told, command by command."""
+    """A program in a folder that reads its whole input and writes what it was given for each command."""
 
     def __init__(self, folder: str) -> None:
         self.path, self.folder = os.path.join(folder, "cdma_replay"), folder
@@ -78,13 +78,13 @@ class Fake:
         self.tell("follow", list(FOLLOWED))
 
     def tell(self, command: str, lines: list[str] | bytes, status: int = 0, said: str = "") -> None:
-        """What a command writes, its status, and what it says on standard error."""
+        """Sets what a command writes, its status, and its standard error."""
         text = lines if isinstance(lines, bytes) else "".join(line + "\n" for line in lines).encode()
         for name, data in ((command, text), (f"{command}.status", str(status).encode()), (f"{command}.said", said.encode())):
             with open(f"{self.path}.{name}", "wb") as file:
                 file.write(data)
 
     def words(self) -> list[str]:
-        """The arguments of each run."""
+        """Returns the arguments of each run."""
         with open(f"{self.path}.words") as file:
             return file.read().splitlines()

@@ -1,11 +1,13 @@
 """Runs classes of tests, several at once, each in a process that runs one after another.
 
-The tests of a class come in their order, over what its `setUpClass` made. A class says of itself:
+The tests of a class run in their order, over what its `setUpClass` made. A class may set:
 
-- `seconds = N`: about how many seconds of a processor it takes, where they are many. Those that take longest begin
-  first, so that all processors are busy to the end.
-- `parted = True`: each of its tests runs for itself, in any order and process, and `seconds` are those of one.
-- `alone = True`: its tests keep time, and it runs after all others, on two processors of its own.
+- `seconds = N`: about how many seconds of a processor it takes, if these are many. The slowest classes begin first, so
+that all processors are busy to the end.
+
+- `parted = True`: each of its tests runs by itself, in any order and process, and `seconds` are those of one test.
+
+- `alone = True`: its tests measure time, and it runs after all others, on two processors of its own.
 """
 
 import io
@@ -17,7 +19,7 @@ from dataclasses import dataclass
 
 @dataclass(frozen=True)
 class Outcome:
-    """What tests came to: how many ran, what was written of those that failed, and which were skipped and why."""
+    """The result of tests: how many ran, the output of those that failed, and which were skipped and why."""
 
     ran: int
     faults: list[str]
@@ -25,7 +27,7 @@ class Outcome:
 
 
 def each_test(tests: Iterable[unittest.TestCase | unittest.TestSuite]) -> Iterator[unittest.TestCase]:
-    """Each test of a suite of suites."""
+    """Yields each test of a suite of suites."""
     for test in tests:
         if isinstance(test, unittest.TestSuite):
             yield from each_test(test)
@@ -35,7 +37,7 @@ def each_test(tests: Iterable[unittest.TestCase | unittest.TestSuite]) -> Iterat
 
 @dataclass
 class Parted:
-    """The names of classes and tests, those that run by themselves, and what stands for unloaded modules."""
+    """The names of classes and tests, those that run by themselves, and the stand-ins for modules that do not load."""
 
     together: list[str]
     alone: list[str]
@@ -43,7 +45,7 @@ class Parted:
 
 
 def parted(suite: unittest.TestSuite) -> Parted:
-    """The classes of a suite's tests, and the tests of those that are parted: what takes longest comes first."""
+    """Returns the classes of a suite's tests, and the tests of those that are parted, the slowest first."""
     found = Parted([], [], unittest.TestSuite())
     seconds: dict[str, int] = {}
     for test in each_test(suite):
@@ -62,7 +64,7 @@ def parted(suite: unittest.TestSuite) -> Parted:
 
 
 def outcome(suite: unittest.TestSuite) -> Outcome:
-    """What a suite comes to in this process."""
+    """Runs a suite in this process, and returns its outcome."""
     stream = io.StringIO()
     result = unittest.TextTestRunner(stream).run(suite)
     faults = [f"{test}\n{trace}" for test, trace in [*result.errors, *result.failures]]
@@ -71,12 +73,12 @@ def outcome(suite: unittest.TestSuite) -> Outcome:
 
 
 def outcome_of_name(name: str) -> Outcome:
-    """What the class or the test of a name comes to in this process."""
+    """Runs the class or test of a name in this process, and returns its outcome."""
     return outcome(unittest.defaultTestLoader.loadTestsFromName(name))
 
 
 def outcomes_of(names: list[str], jobs: int) -> Iterator[Outcome]:
-    """Yields the outcomes of classes and tests, as they end, by `jobs` processes; one that is killed is a fault."""
+    """Yields the outcomes of classes and tests as they end, by `jobs` processes; a killed process is a failure."""
     executor = ProcessPoolExecutor(jobs)
     try:
         under_way = {executor.submit(outcome_of_name, name): name for name in names}
@@ -90,7 +92,7 @@ def outcomes_of(names: list[str], jobs: int) -> Iterator[Outcome]:
 
 
 def outcomes(suite: unittest.TestSuite, jobs: int) -> Iterator[Outcome]:
-    """Yields the outcome of each class of a suite, or test of one that is parted, as they end, `jobs` at once."""
+    """Yields the outcome of each class of a suite, or of each test of a parted class, as they end, `jobs` at a time."""
     found = parted(suite)
     yield outcome(found.unloaded)
     yield from outcomes_of(found.together, jobs)

@@ -23,16 +23,16 @@ HAS_RADIO = not subprocess.run([PYTHON, "-c", "from gnuradio import channels"], 
 
 
 def adapted(*words: str, data: bytes = b"samples") -> tuple[int, bytes, str]:
-    """A run of tools/adapt: its status, what it wrote, and what it said."""
+    """Runs tools/adapt; returns its status, its output and its standard error."""
     ran = subprocess.run([PYTHON, "-B", ADAPT, *words], input=data, capture_output=True, timeout=SECONDS)
     return ran.returncode, ran.stdout, ran.stderr.decode()
 
 
 class Places(unittest.TestCase):
-    """What stands in the places of a command line."""
+    """The values of the places of a command line."""
 
     def filled(self, line: str, *arguments: str) -> list[str]:
-        """A command line whose places are filled."""
+        """Returns a command line whose places are filled."""
         return places.filled(places.pieces_of(line), arguments, {"input": "/in", "output": "/out"})
 
     def test_what_fills_them(self) -> None:
@@ -57,13 +57,13 @@ class Places(unittest.TestCase):
 
 
 class CommandLines(unittest.TestCase):
-    """Receivers that are lines of the shell."""
+    """Receivers that are command lines of the shell."""
 
     def setUp(self) -> None:
         self.folder = temporary_folder(self.addCleanup)
 
     def shell(self, text: str) -> str:
-        """A program of the shell; its path."""
+        """Returns the path of a shell program."""
         path = os.path.join(self.folder, "receiver")
         with open(path, "w", encoding="ascii") as file:
             file.write(f"#!/bin/sh\n{text}\n")
@@ -112,10 +112,10 @@ class CommandLines(unittest.TestCase):
 
 
 class Ports(unittest.TestCase):
-    """A receiver at a port, which is a thread of the test."""
+    """A receiver at a port, served by a thread of the test."""
 
     def served(self, answer: bytes, *words: str, data: bytes = b"samples") -> tuple[int, bytes, str]:
-        """A run that gets this answer, once it has sent all; what the receiver got is kept."""
+        """Runs against a receiver that sends this reply once it has all of the input; keeps what it received."""
         server = socket.create_server(("localhost", 0))
         self.addCleanup(server.close)
 
@@ -165,10 +165,10 @@ class Ports(unittest.TestCase):
 
 
 class Worked(unittest.TestCase):
-    """The adapters of examples/, asked by conformance/run, and by hand."""
+    """The adapters of examples/, run by conformance/run and by hand."""
 
     def receiver(self, line: str) -> str:
-        """A program that the bench is given: a script of this line."""
+        """Returns a receiver for the bench: a script of this line."""
         path = os.path.join(temporary_folder(self.addCleanup), "receiver")
         with open(path, "w", encoding="ascii") as file:
             file.write(f"#!/bin/sh\nexec {line}\n")
@@ -176,7 +176,7 @@ class Worked(unittest.TestCase):
         return path
 
     def asked(self, receiver: str, *names: str) -> tuple[int, str]:
-        """What the bench says of a receiver over these cases, whose bytes stand in them."""
+        """Returns the bench's verdict on a receiver over these cases, which are given by their bytes."""
         only = [word for name in names for word in ("--only", name)]
         ran = subprocess.run(
             [os.path.join(ROOT, "conformance", "run"), *only, receiver], capture_output=True, text=True, timeout=SECONDS
@@ -201,7 +201,7 @@ class Worked(unittest.TestCase):
     @unittest.skipUnless(HAS_RADIO, "no gnuradio: install the package gnuradio")
     @unittest.skipUnless(PROGRAM, NO_PROGRAM)
     def test_a_flowgraph(self) -> None:
-        """Through GNU Radio's channel, with and without noise, each sync message is heard that was sent."""
+        """Through GNU Radio's channel, with and without noise, every sync message that was sent is received."""
         with open(os.path.join(EXAMPLES, "second_of_sync.script"), "rb") as file:
             made = run_program("make", data=file.read().replace(b"samples=1228800", b"samples=700000"))[1]
         clean = self.messages(run_program("follow", data=made)[1])
@@ -214,7 +214,7 @@ class Worked(unittest.TestCase):
                 self.assertEqual((ran.returncode, self.messages(ran.stdout)), (0, clean), ran.stderr)
 
     def messages(self, wrote: bytes) -> list[bytes]:
-        """The sync messages of a text, without their places."""
+        """Returns the sync messages of a text, without their places."""
         return [line.split(b" ", 2)[2] for line in wrote.splitlines() if line.startswith(b"sync ")]
 
 

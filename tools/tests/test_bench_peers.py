@@ -1,4 +1,4 @@
-"""`tools/bench --peers`: each library finds what is known beforehand, and of what isn't there it is said."""
+"""`tools/bench --peers`: each library finds the known result, and a missing library is reported."""
 
 from __future__ import annotations
 
@@ -20,7 +20,7 @@ from tools.tests.radio_helping import PHASE, code  # noqa: E402
 
 
 def there(library: libraries.Library, folder: str) -> str:
-    """The program around a library; the test is skipped where it isn't there."""
+    """Returns the program around a library, or skips the test if the library is missing."""
     try:
         return libraries.built(library, folder)
     except libraries.Missing as why:
@@ -32,7 +32,7 @@ class Peers(unittest.TestCase):
         self.folder = temporary_folder(self.addCleanup)
 
     def test_the_soft_values_are_those_of_the_decoders_test(self) -> None:
-        """Each has the sign of its symbol, of the code by the polynomials' powers; the tail is zeros."""
+        """Each has the sign of its symbol, by the powers of the code's polynomials; the tail is zeros."""
         sending = inputs.sent()
         bits = [0] * 8 + sending.bits + [0] * 8
         for powers, softs in (((0, 1, 2, 3, 5, 7, 8), sending.softs[::2]), ((0, 2, 3, 4, 8), sending.softs[1::2])):
@@ -65,7 +65,7 @@ class Peers(unittest.TestCase):
             work()
 
     def test_what_is_not_there_is_told(self) -> None:
-        """A library that no linker finds, a machine without a compiler, and no GNU Radio."""
+        """A library that no linker finds, a machine without a compiler, and no GNU Radio are reported."""
         missing = dataclasses.replace(libraries.DECODERS[0], linked=("no_such_library",))
         with self.assertRaisesRegex(libraries.Missing, "can't be built: install the package libfec-dev"):
             there_not = libraries.built(missing, self.folder)
@@ -79,7 +79,7 @@ class Peers(unittest.TestCase):
                 libraries.python_of_gnu_radio()
 
     def test_the_resampler_passes_the_pulse(self) -> None:
-        """The filter's taps have the pulse's form: greatest in the middle, and alike on both sides."""
+        """The filter's taps have the pulse's form: greatest in the middle, and symmetric."""
         taps = inputs.pulse_taps()
         self.assertEqual(int(taps.argmax()), len(taps) // 2)
         self.assertLess(float(numpy.abs(taps - taps[::-1]).max()), 1e-5)

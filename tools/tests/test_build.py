@@ -1,4 +1,4 @@
-"""tools/build: which crates it begins, when and where, over a stand-in for `rt` that tells what it was asked for."""
+"""tools/build: which crates it starts, when and where, over a stand-in for `rt` that records its arguments."""
 
 from __future__ import annotations
 
@@ -47,7 +47,7 @@ echo "ended $name" >> "$EVENTS"
 
 
 class Begun:
-    """A run of the stand-in: its crate, the checkout or copy that it was begun in, its process, its arguments."""
+    """A run of the stand-in: its crate, the checkout or copy in which it began, its process and its arguments."""
 
     def __init__(self, line: str) -> None:
         _, self.name, folder, process, *self.words = line.split()
@@ -56,7 +56,7 @@ class Begun:
 
 
 class Checkout(unittest.TestCase):
-    """A checkout of six crates, of which one stands on nothing that the others need."""
+    """A checkout of six crates, one of which depends on nothing that the others need."""
 
     def setUp(self) -> None:
         self.folder = os.path.realpath(temporary_folder(self.addCleanup))
@@ -82,17 +82,18 @@ class Checkout(unittest.TestCase):
         return path
 
     def environment(self, **more: str) -> dict[str, str]:
-        """What a run is told: where the stand-in is, where copies go, and what the stand-in has to do."""
+        """Returns the environment of a run: the stand-in's path, the folder of copies, and what the stand-in must do.
+        """
         path = f"{self.commands}:/usr/bin:/bin"
         told = {"PATH": path, "TMPDIR": self.room, "EVENTS": self.events, "MEET": "", "WAITS": "", "FAILS": ""}
         return {**told, **more}
 
     def command(self, *words: str) -> list[str]:
-        """The command line of a run over the checkout."""
+        """Returns the command line of a run over the checkout."""
         return [PYTHON, "-B", os.path.join(ROOT, "tools", "build"), "--root", self.root, *words]
 
     def built(self, *words: str, status: int = 0, **more: str) -> tuple[str, str]:
-        """What a run tells on standard output and on standard error; nothing of its copies is left."""
+        """Returns what a run writes on standard output and standard error; asserts that none of its copies is left."""
         ran = subprocess.run(
             self.command(*words), env=self.environment(**more), capture_output=True, text=True, timeout=SECONDS
         )
@@ -101,17 +102,17 @@ class Checkout(unittest.TestCase):
         return ran.stdout, ran.stderr
 
     def lines(self) -> list[str]:
-        """What the stand-in told so far."""
+        """Returns what the stand-in has recorded so far."""
         with contextlib.suppress(FileNotFoundError), open(self.events, encoding="utf-8") as file:
             return file.read().splitlines()
         return []
 
     def begun(self) -> list[Begun]:
-        """The runs of the stand-in, in their order."""
+        """Returns the runs of the stand-in, in order."""
         return [Begun(line) for line in self.lines() if line.startswith("begun ")]
 
     def assert_gone(self, process: int) -> None:
-        """A process has ended, or ends within some seconds."""
+        """Asserts that a process has ended, or ends within some seconds."""
         until = time.monotonic() + 30
         while time.monotonic() < until:
             try:
@@ -123,7 +124,7 @@ class Checkout(unittest.TestCase):
 
 
 class Builds(Checkout):
-    """What is begun, when and where."""
+    """Which runs begin, when and where."""
 
     def test_all_that_a_program_needs(self) -> None:
         wrote, said = self.built("top", "--jobs", "3", "--memory", "100", MEET="wide short")
@@ -149,14 +150,14 @@ class Builds(Checkout):
         self.assertIn(": crates/apart/out/rlib/apart.rlib\n", wrote)
 
     def test_one_at_a_time_in_the_checkout(self) -> None:
-        """The longest chain of work first; and no copy is needed."""
+        """The longest chain of work comes first, and no copy is needed."""
         self.built("top", "--jobs", "1")
         self.assertEqual([run.name for run in self.begun()], ["core", "short", "long", "wide", "top"])
         self.assertEqual({run.place for run in self.begun()}, {self.root})
         self.assertEqual({run.jobs for run in self.begun()}, {1})
 
     def test_a_copy_has_the_sources_alone(self) -> None:
-        """A run in a copy that finds what was built in the checkout, or no source, would fail."""
+        """A copy has only the sources: a run that finds the checkout's build output there, or no source, fails."""
         with open(os.path.join(self.commands, "rt"), "a", encoding="utf-8") as file:
             file.write("[ -e ../../HANDLES ] && [ -e src/lib.rt ] || exit 7\n")
             file.write("case $PWD in */copies/*) [ ! -e out ] || exit 8 ;; esac\n")
@@ -165,7 +166,8 @@ class Builds(Checkout):
         self.assertTrue(any(run.place.startswith(self.room) for run in self.begun()))
 
     def most_at_once(self, weight: dict[str, float] | None = None) -> float:
-        """The most jobs at once; or with weights of crates the most of these, 0.6 more for each further job."""
+        """Returns the most jobs at once; with the crates' weights, the greatest sum of these, 0.6 more for each
+        further job."""
         now: dict[str, float] = {}
         most = 0.0
         for line in self.lines():
@@ -178,7 +180,7 @@ class Builds(Checkout):
         return most
 
     def spread(self) -> list[str]:
-        """Lets six crates stand on nothing, and one on these."""
+        """Makes six crates depend on nothing, and one on these."""
         names = [f"one{number}" for number in range(6)]
         for name in names:
             self.write(f"it/crates/{name}/src/lib.rt", "\n" * 100)
@@ -192,7 +194,7 @@ class Builds(Checkout):
         self.assertEqual(self.most_at_once(), 3)
 
     def test_never_more_than_there_is_memory_for(self) -> None:
-        """Each is planned with 1.1 GB: two fit, and of the one above them, with 1.055 GB, one with three jobs."""
+        """Each is planned with 1.1 GB: two fit. Of the one above them, with 1.055 GB, one fits with three jobs."""
         names = self.spread()
         self.built("apart", "--jobs", "4", "--memory", "2.5")
         plans = {name: 1.1 for name in names} | {"apart": 1.0 + 0.007 + 0.08 * 0.6}
@@ -207,7 +209,7 @@ class Builds(Checkout):
 
 
 class Ends(Checkout):
-    """Runs that don't come to their end."""
+    """Runs that do not end normally."""
 
     def test_a_crate_that_fails(self) -> None:
         wrote, said = self.built(
@@ -262,7 +264,7 @@ class Ends(Checkout):
             self.assert_gone(run.process)
 
     def refused(self, why: str, *words: str, **more: str) -> None:
-        """A run that ends with status 2 and one line, and begins nothing."""
+        """Asserts that a run ends with status 2 and one line, and starts nothing."""
         wrote, said = self.built(*words, status=2, **more)
         self.assertEqual((wrote, said.count("\n"), self.begun()), ("", 1, []))
         self.assertRegex(said, why)
@@ -281,10 +283,10 @@ class Ends(Checkout):
 
 
 class Planning(unittest.TestCase):
-    """Jobs and chains of work, by hand."""
+    """Jobs and chains of work, worked out by hand."""
 
     def test_jobs(self) -> None:
-        """A crate of 1,000 MB: another job takes 600 more, and each other crate that waits has a processor left."""
+        """For a crate of 1,000 MB another job takes 600 more, and each other crate that waits keeps a processor."""
         for memory, processors, others, jobs in (
             (1_000, 4, 0, 1), (1_599, 4, 0, 1), (1_600, 4, 0, 2), (2_800, 4, 0, 4), (9_000, 4, 0, 4), (9_000, 4, 1, 3),
             (9_000, 4, 2, 2), (9_000, 4, 9, 1), (90_000, 64, 0, 8), (500, 4, 0, 1),
@@ -303,13 +305,13 @@ class Planning(unittest.TestCase):
         )
 
     def test_free_memory(self) -> None:
-        """No more than the machine has, and more than this test takes."""
+        """At most what the machine has, and more than this test takes."""
         pages = os.sysconf("SC_PHYS_PAGES") * os.sysconf("SC_PAGE_SIZE") / 1e6
         self.assertTrue(10 < free_memory() <= pages)
 
 
 def hear() -> None:
-    """Lets a process hear interrupts, though the tests themselves may run under a shell that has them ignored."""
+    """Makes a process receive interrupts, even if the tests run under a shell that ignores them."""
     signal.signal(signal.SIGINT, signal.SIG_DFL)
 
 

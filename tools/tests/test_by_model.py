@@ -1,4 +1,4 @@
-"""conformance/write and conformance/check, tools/agree and tools/explain: what they write, and how they refuse."""
+"""conformance/write and conformance/check, tools/agree and tools/explain: what they write, and what they refuse."""
 
 import contextlib
 import io
@@ -30,7 +30,7 @@ WANTED = "  pilot phase=32512 energy=167772160000\n"  # start - 64 pn, and (2 ti
 
 
 class Folder(unittest.TestCase):
-    """A folder of cases of one's own."""
+    """A folder with its own cases."""
 
     def setUp(self) -> None:
         self.folder = temporary_folder(self.addCleanup)
@@ -47,7 +47,7 @@ class Folder(unittest.TestCase):
             return file.read()
 
     def said(self, tool: str, *words: str) -> tuple[int, str, str]:
-        """The status of a command, what it wrote, and what it said."""
+        """Runs a command; returns its status, its output and its standard error."""
         out, err = io.StringIO(), io.StringIO()
         with contextlib.redirect_stdout(out), contextlib.redirect_stderr(err):
             status = status_of(tool, list(words))
@@ -145,7 +145,7 @@ class Agree(unittest.TestCase):
         self.folder = temporary_folder(self.addCleanup)
 
     def program(self, behind: str = "") -> str:
-        """The model as a program, whose output may go through something."""
+        """Returns the model as a program, whose output may be piped through a filter."""
         path = os.path.join(self.folder, "program")
         with open(path, "w", encoding="ascii") as file:
             file.write(f"#!/bin/sh\ncd {ROOT}\n{PYTHON} -B -m model \"$@\"{behind}\n")
@@ -204,7 +204,7 @@ class Explain(unittest.TestCase):
             made.write(run(["make"], file.read).text())
 
     def lines(self, *words: object, way: ToolRun = run_inside) -> list[str]:
-        """What explains a frame."""
+        """Returns the lines that explain a frame."""
         status, out, err = way("explain", self.path, *words)
         self.assertEqual((status, err), (0, ""))
         lines = out.decode().splitlines()

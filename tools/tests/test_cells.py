@@ -1,4 +1,5 @@
-"""Every cell of a recording: import_capture --lock --cell and --pn, and what takes cells off in cdma_tools.analysis."""
+"""Every cell of a recording: import_capture --lock --cell and --pn, and the subtraction of cells in
+cdma_tools.analysis."""
 
 import os
 import subprocess
@@ -78,26 +79,26 @@ class Cells(Recordings):
         cls.files = [write_cell(cls.at(f"{phase}.is95"), chips) for phase, chips in cls.chips.items()]
 
     def taken(self, path: str, *words: object) -> dict[str, str]:
-        """The figures of a lock to a cell; what it said is kept."""
+        """Returns the figures of a lock to a cell, and keeps its remarks."""
         status, wrote, self.said = run_main("import_capture", "--lock", *words, path, self.at("out.is95"))
         self.assertEqual((status, wrote), (0, ""), self.said)
         return figures(self.said)
 
     def noise_of(self, found: dict[str, str], phase: int, begin: int = 0, end: int | None = None) -> float:
-        """The signal over noise of the chips that were written, against those that the cell of a phase sent."""
+        """Returns the signal-to-noise ratio of the chips written, against those sent by the cell with a phase."""
         first = (int(found["phase"]) - phase + PERIOD // 2) % PERIOD - PERIOD // 2
         got, sent = read_chips(self.at("out.is95"))[max(0, -first) :], self.chips[phase][max(0, first) :]
         return signal_to_noise(got[begin:end], sent[begin:end])
 
     def alone(self, phase: int, level: float, *words: object) -> float:
-        """The same of a recording of only that cell, with a signal of `level` dB over noise."""
+        """Returns the same for a recording of only that cell, whose signal is `level` dB above the noise."""
         pilot = 10 * numpy.log10(BUSY[0] ** 2 / sum(gain**2 for gain in BUSY.values()))
         share = pilot - 10 * numpy.log10(1 + 10 ** (-level / 10))
         path = self.recorded(*words, "--ec-io", share, cells=(self.at(f"{phase}.is95"),), name="alone.sigmf-meta")
         return self.noise_of(self.taken(path), phase)
 
     def share(self, *levels: float) -> float:
-        """The first cell's pilot over all power, where cells and noise have levels against it."""
+        """Returns the first cell's pilot over the total power, given the levels of cells and noise against it."""
         pilot = 10 * numpy.log10(BUSY[0] ** 2 / sum(gain**2 for gain in BUSY.values()))
         return float(pilot - 10 * numpy.log10(1 + sum(10 ** (level / 10) for level in levels)))
 
@@ -165,14 +166,14 @@ class Heard(Recordings):
     CHIPS = 70_000
 
     def cell_of(self, name: str, pn: int) -> str:
-        """The sample file of a cell of the bench with a pilot offset."""
+        """Returns the sample file of the bench's cell with a pilot offset."""
         script = script_of(CELLS[name], 1_600_000, pn).encode("ascii")
         with open(self.at(f"{pn}.is95"), "wb") as file:
             file.write(subprocess.run([str(PROGRAM), "make"], input=script, stdout=subprocess.PIPE, check=True).stdout)
         return self.at(f"{pn}.is95")
 
     def heard(self, path: str) -> list[str]:
-        """The lines of messages that the program hears of a file, without their places."""
+        """Returns the message lines that the program decodes from a file, without their places."""
         with open(path, "rb") as file:
             text = subprocess.run([str(PROGRAM), "follow"], stdin=file, stdout=subprocess.PIPE, check=False).stdout.decode(
                 "ascii"

@@ -1,4 +1,4 @@
-"""tools/channel: that a recording holds what its arguments say, and each refusal."""
+"""tools/channel: a recording contains what its arguments specify; each refusal."""
 
 import json
 import os
@@ -38,14 +38,14 @@ class Recorded(Recordings):
     CHIPS = 70_000
 
     def samples(self, *words: object, kind: str = "cf32_le", rate: float = RATE) -> NDArray[Any]:
-        """The samples of a recording in floating point, of a mean power of 1."""
+        """Returns the samples of a recording in floating point, with a mean power of 1."""
         path = self.recorded("--type", kind, "--rate", rate, *words, name="in.raw")
         parts = numpy.fromfile(path, dtype="<f4").astype(float)
         samples = parts[0::2] + 1j * parts[1::2]
         return samples / numpy.sqrt(numpy.mean(numpy.abs(samples) ** 2))
 
     def pilot(self, samples: NDArray[Any], late: float = 0.0, count: int = 60_000) -> complex:
-        """The mean of the pilot's chips at two samples a chip, `late` chips after the sent ones."""
+        """Returns the mean of the pilot's chips at two samples a chip, `late` chips after the sent ones."""
         at = 40 + numpy.arange(count)
         got = samples[2 * at + round(2 * late)]
         return complex(numpy.mean(got * code()[(PHASE + at) % 32_768].conj())) / 2

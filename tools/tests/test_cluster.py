@@ -1,4 +1,4 @@
-"""Processes that share work: no server of theirs is reached from the network, and nothing of them stays."""
+"""Processes that share work: none of their servers can be reached from the network, and they leave nothing."""
 
 import contextlib
 import os
@@ -36,7 +36,7 @@ if __name__ == "__main__":
 
 
 def listening_sockets(pid: int) -> set[str]:
-    """The addresses at which a process and those that it began take connections."""
+    """Returns the addresses at which a process and its children accept connections."""
     found = set()
     whole = psutil.Process(pid)
     for process in [whole, *whole.children(recursive=True)]:
@@ -48,7 +48,7 @@ def listening_sockets(pid: int) -> set[str]:
 
 
 class Clusters(unittest.TestCase):
-    """Clusters as processes of their own, with a temporary directory of their own."""
+    """Clusters as separate processes, with their own temporary directory."""
 
     parted, seconds = True, 6
 
@@ -59,7 +59,7 @@ class Clusters(unittest.TestCase):
             file.write(CLUSTER)
 
     def start(self, *words: str) -> subprocess.Popen[bytes]:
-        """Starts a process, which is ended with the test."""
+        """Starts a process, which ends with the test."""
         environment = dict(os.environ, TMPDIR=self.temporary, PYTHONPATH=ROOT, OMP_NUM_THREADS="1")
         child = subprocess.Popen(
             [PYTHON, "-B", *words], stdin=subprocess.PIPE, stdout=subprocess.PIPE, stderr=subprocess.DEVNULL,
@@ -70,7 +70,7 @@ class Clusters(unittest.TestCase):
 
     @staticmethod
     def end(child: subprocess.Popen[bytes]) -> None:
-        """Ends a process and those that it began."""
+        """Ends a process and its children."""
         with contextlib.suppress(psutil.NoSuchProcess):
             for process in [*psutil.Process(child.pid).children(recursive=True), child]:
                 with contextlib.suppress(psutil.NoSuchProcess):
@@ -78,18 +78,18 @@ class Clusters(unittest.TestCase):
         child.communicate()
 
     def ready(self, count: int) -> subprocess.Popen[bytes]:
-        """An existing cluster of `workers` workers."""
+        """Returns an existing cluster of `workers` workers."""
         child = self.start(self.script, str(count))
         assert child.stdout is not None
         self.assertEqual(child.stdout.readline(), b"ready\n")
         return child
 
     def left(self) -> list[str]:
-        """The folders of workers that are there."""
+        """Returns the workers' folders that exist."""
         return [name for name in os.listdir(self.temporary) if name.startswith(cluster.FOLDER)]
 
     def wait_for_sockets(self, child: subprocess.Popen[bytes], workers: int) -> set[str]:
-        """The sockets of a tool whose workers are there."""
+        """Returns the sockets of a tool once its workers exist."""
         until = time.monotonic() + SECONDS
         while time.monotonic() < until and child.poll() is None:
             addresses = listening_sockets(child.pid)
@@ -99,7 +99,7 @@ class Clusters(unittest.TestCase):
         raise AssertionError("no workers are there")
 
     def workers(self) -> list[str]:
-        """The folders of single workers: each makes one when its servers are there."""
+        """Returns the folders of the workers: each worker makes one once its servers run."""
         return [
             name
             for path, names, _ in os.walk(self.temporary)
@@ -154,7 +154,7 @@ class Clusters(unittest.TestCase):
 
 
 class Folders(unittest.TestCase):
-    """The folders of workers, without any."""
+    """The workers' folders, without any workers."""
 
     def setUp(self) -> None:
         self.folder = temporary_folder(self.addCleanup)

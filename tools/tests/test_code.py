@@ -1,4 +1,4 @@
-"""The code of the tools: each function has types and says what it is for, and Debian's checkers have no complaint."""
+"""The code of the tools: each function has types and a docstring, and Debian's checkers report nothing."""
 
 from __future__ import annotations
 
@@ -17,7 +17,7 @@ Function = ast.FunctionDef | ast.AsyncFunctionDef
 
 
 def modules(folder: str) -> Iterator[tuple[str, ast.Module]]:
-    """The modules below a folder of the checkout, by their places."""
+    """Returns the modules below a folder of the checkout, by their paths."""
     for path, folders, names in os.walk(os.path.join(ROOT, folder)):
         folders[:] = [name for name in folders if name != "__pycache__"]
         for name in names:
@@ -27,7 +27,8 @@ def modules(folder: str) -> Iterator[tuple[str, ast.Module]]:
 
 
 def definitions(body: list[ast.stmt]) -> Iterator[Function | ast.ClassDef]:
-    """The functions and classes of a module or a class, those of its classes too; not those within functions."""
+    """Yields the functions and classes of a module or class, those of its classes too, but not those within functions.
+    """
     for node in body:
         if isinstance(node, ast.ClassDef):
             yield node
@@ -37,14 +38,14 @@ def definitions(body: list[ast.stmt]) -> Iterator[Function | ast.ClassDef]:
 
 
 def untyped(node: Function) -> list[str]:
-    """The arguments of a function that have no type, and what it answers where that has none."""
+    """Returns the arguments of a function that have no type, and its result if that has none."""
     arguments = [*node.args.posonlyargs, *node.args.args, *node.args.kwonlyargs]
     found = [one.arg for one in arguments if one.annotation is None and one.arg not in ("self", "cls")]
     return found + ([] if node.returns else ["what it answers"])
 
 
 class Code(unittest.TestCase):
-    """What is asked of every module of the package; functions of the tests have types too."""
+    """What every module of the package must fulfil; functions of the tests need types too."""
 
     seconds = 60
 
@@ -72,7 +73,7 @@ class Code(unittest.TestCase):
                 self.assertFalse([name for name in names if name.split(".")[0] in ("cdma", "cdma_tools", "tools")], place)
 
     def test_no_tool_changes_where_python_looks_for_modules(self) -> None:
-        """Nothing in the package reaches for modules by itself: so no class is loaded twice."""
+        """No module of the package changes the search path, so no class is loaded twice."""
         for place, module in modules("cdma_tools"):
             if place.endswith("launching.py"):
                 continue  # a checkout's launcher, which is run and not imported

@@ -1,4 +1,4 @@
-"""conformance/run: its cases are whole, and it says what differs. Scripts of the shell stand for makers and receivers."""
+"""conformance/run: its cases are complete, and it reports what differs. Shell scripts act as makers and receivers."""
 
 from __future__ import annotations
 
@@ -54,7 +54,7 @@ class TheCases(unittest.TestCase):
                 self.check_case(case)
 
     def check_case(self, case: Any) -> None:
-        """That what a case wants can be met, and that its arguments are some of the receiver's."""
+        """Checks that a case can be passed, and that its arguments are among the receiver's."""
         self.assertTrue(all(len(line) < 1_024 for line in case.text or []))
         if case.input == "samples" and case.scripts:
             self.assertRegex(case.fields["sha256"], "^[0-9a-f]{64}$")
@@ -68,7 +68,7 @@ class TheCases(unittest.TestCase):
             self.assertEqual((case.text, case.written), ([], None))
 
     def check_words(self, words: list[str]) -> None:
-        """Whether a command has only options of its own, each with a value."""
+        """Returns whether a command has only its own options, each with a value."""
         options = [part for word in words[1:] for part in word.split("=", 1)]
         self.assertLessEqual({option[2:] for option in options[::2]}, WORDS[words[0]])
         self.assertEqual(len(options) % 2, 0)
@@ -96,7 +96,7 @@ class TheCases(unittest.TestCase):
         self.assertGreater(max(int(n) for n in re.findall(r"samples=(\d+)", made)), 3_000_000)
 
     def test_each_end_is_asked_for(self) -> None:
-        """Each status but out of memory, each fault of a file and of a script, a closed and a full output."""
+        """Each status except out of memory, each fault of a file and of a script, a closed and a full output."""
         whole = [cases.Case(name) for name in cases.names_of_cases()]
         errors = {case.error for case in whole}
         self.assertEqual({case.status for case in whole}, {0, 1, 2, 3, 4, 5, 8})
@@ -112,7 +112,7 @@ class TheCases(unittest.TestCase):
 
 
 class Asks(unittest.TestCase):
-    """Receivers and makers that are scripts of the shell, over cases of a folder of their own."""
+    """Receivers and makers that are shell scripts, over cases in a separate folder."""
 
     def setUp(self) -> None:
         self.folder = temporary_folder(self.addCleanup)
@@ -138,22 +138,22 @@ class Asks(unittest.TestCase):
         return self.at(name)
 
     def write(self, *lines: str, name: str = "first") -> None:
-        """A case of these lines."""
+        """Writes a case of these lines."""
         self.keep(name + ".case", "".join(line + "\n" for line in lines).encode())
 
     def case(self, samples: bytes, more: tuple[str, ...] = (), status: int = 0, words: str = "find --span 64") -> None:
-        """A case over samples that are made, whose text is of two lines."""
+        """Writes a case over samples that are made, with a text of two lines."""
         sha = f"sha256: {hashlib.sha256(samples).hexdigest()}"
         script = ["script:", "  cell pn=1", "  pilot gain=3"] * (2 if any(line.startswith("places") for line in more) else 1)
         head = ["purpose: a first one", f"words: {words}", f"status: {status}", "bits: 16", *more, sha]
         self.write(*head, *script, "text:", "  pilot phase=1", "  last")
 
     def given(self, *more: str, status: int = 0, text: tuple[str, ...] = ("text:", "  said")) -> None:
-        """A case over three bytes, whose text is `said`."""
+        """Writes a case over three bytes, whose text is `said`."""
         self.write("purpose: bytes", "words: find", f"status: {status}", *more, "file:", "  0a 0b0C", *text)
 
     def asked(self, receiver: str, *words: str) -> tuple[int, str]:
-        """The status, and what is said of a receiver that runs this text, where another program makes samples."""
+        """Returns the status and the verdict on a receiver that runs this text; another program makes the samples."""
         return self.run_with(["--maker", self.maker, *words], receiver)
 
     def run_with(self, words: list[str], receiver: str) -> tuple[int, str]:
@@ -166,7 +166,7 @@ class Asks(unittest.TestCase):
         return status, said.getvalue() + faults.getvalue()
 
     def refuses(self, receiver: str, *wanted: str) -> None:
-        """That a receiver differs, and that all this is said of it."""
+        """Asserts that a receiver differs, and that all of this is reported."""
         status, said = self.asked(receiver)
         self.assertEqual(status, 1, said)
         for line in wanted:
@@ -177,7 +177,7 @@ class Asks(unittest.TestCase):
 
 
 class AsksOfSamples(Asks):
-    """Cases over samples that are made of scripts."""
+    """Cases over samples that are made from scripts."""
 
     def setUp(self) -> None:
         super().setUp()
@@ -211,7 +211,7 @@ class AsksOfSamples(Asks):
         self.refuses("exit 0", f"the samples that {self.maker} makes don't have the case's checksum")
 
     def test_sums_and_noise(self) -> None:
-        """The second script's samples from the first sample on, and noise by hand."""
+        """The second script's samples count from the first sample on; noise by hand."""
         state, noise = 7, []
         for _ in range(6):
             state = (1_664_525 * state + 1_013_904_223) % 2**32
@@ -222,7 +222,8 @@ class AsksOfSamples(Asks):
         self.assertTrue(any(noise))
 
     def test_noise_against_a_channel(self) -> None:
-        """What one more of the sync channel's gain adds to a part has the channel's sign; the noise has the other."""
+        """The part that one more unit of the sync channel's gain adds has the channel's sign; the noise has the
+        opposite one."""
         louder = [(2, -1), (299, 2), (-3, 79)]
         self.keep("louder.is95", sample_file(louder, flags=2))
         self.maker = self.program(
@@ -239,7 +240,7 @@ class AsksOfSamples(Asks):
         self.assertEqual((status, said), (2, "conformance/run: the script sends no channel on row 10\n"))
 
     def test_samples_that_are_divided(self) -> None:
-        """Parts of 16 bits over 4, a half upwards, as samples of 8 bits."""
+        """Values of 16 bits are divided by 4, halves rounded up, into samples of 8 bits."""
         self.keep("made.is95", sample_file([(1, -1), (301, 2), (-3, 77), (-2, -6)], flags=2))
         divided = sample_file([(0, 0), (75, 1), (-1, 19), (0, -1)], version=2, flags=2)
         sha = f"sha256: {hashlib.sha256(divided).hexdigest()}"
@@ -247,7 +248,7 @@ class AsksOfSamples(Asks):
         self.accepts("printf 'last\\n'")
 
     def test_what_noise_within_the_margins_leaves(self) -> None:
-        """The pilot's energy and the pilot sets aren't compared; of what differs the law is told that says what comes back."""
+        """The pilot's energy and the pilot sets are not compared; what differs names the law that guarantees it."""
         sha = f"sha256: {hashlib.sha256(sample_file(SAMPLES, flags=2)).hexdigest()}"
         script = ["script:", "  cell pn=1"]
         self.write("purpose: near", "words: follow", "status: 0", "bits: 16", "near: 7", sha, *script, "text:", "  sync at=9")
@@ -268,7 +269,7 @@ class AsksOfSamples(Asks):
         self.assertEqual(self.kept("kept/first.is95"), sample_file(SAMPLES, flags=2))
 
     def test_a_receiver_that_makes_no_samples(self) -> None:
-        """Where another program makes the samples, cases of `make` and `trial` are left out, unless they are named."""
+        """If another program makes the samples, cases of `make` and `trial` are left out unless they are named."""
         self.write("purpose: two", "words: make", "input: script", "status: 0", "script:", "  cell", "text:", name="second")
         self.write("purpose: three", "words: trial --number 0", "input: nothing", "status: 0", "text:", name="third")
         answers = 'printf "pilot phase=1\\nlast\\n"'
@@ -319,7 +320,7 @@ class AsksOfSamples(Asks):
 
 
 class AsksOfBytes(Asks):
-    """Cases over bytes that a case gives, over scripts, and over no input; and the ends of runs."""
+    """Cases over given bytes, over scripts and over no input; and the ends of runs."""
 
     def test_bytes(self) -> None:
         self.write("purpose: bytes", "words: find", "status: 0", "file:", "  0a 0b0C", "  3 * 01 02", "text:", "  said")
@@ -347,7 +348,7 @@ class AsksOfBytes(Asks):
         self.refuses("cat 2> /dev/null || cat && exit 3", "status 3, wanted 4")
 
     def test_several_runs(self) -> None:
-        """Each must answer the same; that of no arguments too."""
+        """Each run must give the same output, also the one without arguments."""
         self.write("purpose: two", "words: find", "words:", "words: find ''", "status: 0", "file:", "  00", "text:", "  said")
         self.accepts("echo said")
         status, said = self.asked('[ $# -eq 1 ] && echo said')
@@ -358,7 +359,7 @@ class AsksOfBytes(Asks):
         self.assertIn("1 cases, 1 differ", said)
 
     def test_several_cases_at_once(self) -> None:
-        """Three receivers that wait for each other: what is said is in the cases' order, as that of one at a time is."""
+        """Three receivers wait for each other; the reports are in the cases' order, as from one at a time."""
         for name, byte, said in (("a", "31", "1"), ("b", "32", "9"), ("c", "33", "3")):
             self.write("purpose: a byte", "words: find", "status: 0", "file:", f"  {byte}", "text:", f"  {said}", name=name)
         told = self.run_with([], "cat; echo")
@@ -406,7 +407,7 @@ class AsksOfBytes(Asks):
             self.refuses("(echo said) 2> /dev/null; exit 0", "status 0, wanted 5", "standard error wanted: write fault")
 
     def test_cases_that_are_none(self) -> None:
-        """Each with a line that names the case, and no run."""
+        """Each invalid case is refused in a line that names it, and nothing runs."""
         head = ("purpose: p", "words: find", "status: 0")
         made = (*head, "bits: 16", "sha256: 00")
         end = ("file:", "  00", "text:")

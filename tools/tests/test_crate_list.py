@@ -1,4 +1,4 @@
-"""tools/crate_list.py: the layers of crates by hand, and what docs/ARCHITECTURE.md shows of crates.txt."""
+"""tools/crate_list.py: the layers of crates by hand, and that docs/ARCHITECTURE.md agrees with crates.txt."""
 
 from __future__ import annotations
 
@@ -41,7 +41,7 @@ PICTURE = """\
 
 
 class Layers(unittest.TestCase):
-    """Crates of which the base station's and the handset's tops are two."""
+    """Crates with two tops, the base station's and the handset's."""
 
     def test_the_picture_has_a_line_for_each_layer(self) -> None:
         self.assertEqual(picture(BELOW), PICTURE)
@@ -60,7 +60,8 @@ class Layers(unittest.TestCase):
 
 
 class Architecture(unittest.TestCase):
-    """docs/ARCHITECTURE.md beside crates.txt: `python3 -m cdma_tools.repository.crate_list --write` makes it so."""
+    """docs/ARCHITECTURE.md agrees with crates.txt; `python3 -m cdma_tools.repository.crate_list --write` makes it so.
+    """
 
     def setUp(self) -> None:
         self.below = crates_below(ROOT)
@@ -105,7 +106,7 @@ class Architecture(unittest.TestCase):
 
 
 class ReadingOrder(unittest.TestCase):
-    """How many lines lie between two items of a file."""
+    """The number of lines between two items of a file."""
 
     def test_definitions(self) -> None:
         text = "use x.{one}\n\n-- A comment.\nabbrev pub one : N\none = 1\n\n-- two\npub record two : Type where\n"
@@ -127,7 +128,7 @@ class ReadingOrder(unittest.TestCase):
 
 
 class Sides(unittest.TestCase):
-    """Whose the crates of each layer are, as crates.txt says in comments."""
+    """The side of the crates of each layer, as comments in crates.txt give it."""
 
     def test_the_list_says_whose_its_crates_are(self) -> None:
         with open(os.path.join(ROOT, "crates.txt"), encoding="utf-8") as file:

@@ -32,14 +32,14 @@ TABLES = {
 
 
 def table_of(kind: str, text: str) -> str:
-    """The table of the lines of a kind."""
+    """Returns the table of the lines of a kind."""
     status, wrote, said = run_inside("lines", "--csv", kind, data=text.encode())
     assert (status, said) == (0, ""), said
     return wrote.decode()
 
 
 def as_in_line(name: str, cell: str) -> str:
-    """A cell as the line has it: numbers of a list are separated by commas, those of its records by slashes."""
+    """Returns a cell as in the line: numbers of a list are separated by commas, those of its records by slashes."""
     if not cell.startswith("["):
         return cell
     parts = ["/".join(map(str, part)) if isinstance(part, list) else str(part) for part in json.loads(cell)]
@@ -57,7 +57,7 @@ class Tables(unittest.TestCase):
                 self.assertEqual(table_of(kind, lines), table)
 
     def test_every_line_of_every_case(self) -> None:
-        """Each line is in just one table, and the row's cells are the texts of the line."""
+        """Each line is in exactly one table, and the row's cells are the texts of the line."""
         text, rows = "".join(line + "\n" for line in LINES), 0
         for kind in KINDS:
             table = list(csv.reader(io.StringIO(table_of(kind, text), newline=""), strict=True))
@@ -71,14 +71,14 @@ class Tables(unittest.TestCase):
         self.assertEqual(rows, len(LINES))
 
     def check_row(self, row: dict[str, str], line: str) -> None:
-        """The cells that aren't empty are the values of the line, in its order."""
+        """Checks that the cells that are not empty are the values of the line, in order."""
         told = re.findall(r" (?:([a-z]+[0-9]?)=)?([^ =]*[0-9:][^ =]*|(?<==))(?= |$)", line)
         wanted = {name or "bits": value for name, value in told}
         cells = {name: as_in_line(name, cell) for name, cell in row.items() if cell}
         self.assertEqual(list(cells.items()), list(wanted.items()), line)
 
     def test_pandas_reads_what_the_page_says(self) -> None:
-        """The lines of Python in docs/FORMATS.md make a table with the values of the lines."""
+        """The Python lines in docs/FORMATS.md make a table with the values of the lines."""
         try:
             import pandas
         except ImportError as missing:

@@ -41,7 +41,7 @@ ENDS = ("lost", "marked_bad", "bad_but_right", "other_rate", "wrong_but_good")
 
 
 def rows_of(path: str) -> list[dict[str, str]]:
-    """The rows of a table."""
+    """Returns the rows of a table."""
     with open(path, newline="", encoding="ascii") as file:
         return list(csv.DictReader(file))
 
@@ -54,17 +54,17 @@ class Curves(unittest.TestCase):
         self.fake = self.program("fake")
 
     def at(self, name: str) -> str:
-        """The path of a file in the test's folder."""
+        """Returns the path of a file in the test's folder."""
         return os.path.join(self.folder, name)
 
     def keep(self, name: str, text: str) -> str:
-        """Writes a file into the test's folder, and answers its path."""
+        """Writes a file into the test's folder, and returns its path."""
         with open(self.at(name), "w", encoding="ascii") as file:
             file.write(text)
         return self.at(name)
 
     def program(self, name: str, fault: str = "") -> str:
-        """A stand-in for the program, with a fault."""
+        """Returns a stand-in for the program, with a fault."""
         path = self.keep(
             name,
             f"#!/bin/sh\nFAKE_SCRIPT='{self.at('it.script')}' FAKE_FAULT='{fault}' exec {PYTHON} -S -B {FAKE} \"$@\"\n",
@@ -73,7 +73,7 @@ class Curves(unittest.TestCase):
         return path
 
     def words(self, *more: str, frames: int = FRAMES, maker: str | None = None, out: str = "out") -> list[str]:
-        """A run's command: two points of the script in a folder of its own, over the stand-in."""
+        """Returns a run's command: two points of the script in a separate folder, over the stand-in."""
         maker = maker or self.fake
         return [
             PYTHON, "-B", CURVE, self.script, "--from", "1", "--to", "1.5", "--step", "0.5",
@@ -82,7 +82,7 @@ class Curves(unittest.TestCase):
         ]  # fmt: skip
 
     def rows_of_one_worker(self) -> list[dict[str, str]]:
-        """The rows of a whole run by one worker, which is made once."""
+        """Returns the rows of a complete run by one worker, which is made once."""
 
         def make(path: str) -> None:
             self.assertEqual(self.ran(self.words(out="whole"))[0::2], (0, []))
@@ -91,7 +91,8 @@ class Curves(unittest.TestCase):
         return rows_of(made_once("curve_of_one_worker.csv", make))
 
     def ran(self, words: list[str], **more: Any) -> tuple[int, list[str], list[str]]:
-        """A run, and with settings one by a process: its status, and its lines on both outputs."""
+        """Runs the tool, in a separate process if there are settings; returns its status and its lines on both
+        outputs."""
         if not more:
             status, wrote, said = run_inside("curve", *words[words.index(CURVE) + 1 :])
             return status, wrote.decode().splitlines(), said.splitlines()
@@ -99,7 +100,7 @@ class Curves(unittest.TestCase):
         return ended.returncode, ended.stdout.splitlines(), ended.stderr.splitlines()
 
     def refused(self, said: str, words: list[str], status: int = 1, **more: Any) -> None:
-        """A run that ends with a status, and with one line that says why."""
+        """Asserts that a run ends with a status and one line that gives the reason."""
         code, _, lines = self.ran(words, **more)
         self.assertEqual(code, status, lines)
         self.assertRegex(lines[-1], said)
@@ -107,11 +108,11 @@ class Curves(unittest.TestCase):
             self.assertEqual(len(lines), 1, lines)
 
     def rows(self, out: str = "out") -> list[dict[str, str]]:
-        """The rows of a run's table."""
+        """Returns the rows of a run's table."""
         return rows_of(os.path.join(self.at(out), "curve.csv"))
 
     def batches(self, out: str = "out") -> int:
-        """How many batches are kept."""
+        """Returns how many batches are kept."""
         path = os.path.join(self.at(out), "counts.sqlite")
         if not os.path.exists(path):
             return 0
@@ -124,8 +125,10 @@ class Curves(unittest.TestCase):
             base.close()
 
     def begun(self, words: list[str]) -> subprocess.Popen[str]:
-        """A run that has counted a batch; what it says is read later. It hears an interrupt though the tests themselves
-        run by a shell that has it ignored."""
+        """Returns a run that has counted a batch; its output is read later.
+
+        It receives interrupts, even if the tests run under a shell that ignores them.
+        """
 
         def heard() -> None:
             signal.signal(signal.SIGINT, signal.SIG_DFL)
@@ -137,7 +140,7 @@ class Curves(unittest.TestCase):
         return child
 
     def start(self, words: list[str]) -> subprocess.Popen[bytes]:
-        """A process of its own, which ends with the test."""
+        """Starts a separate process, which ends with the test."""
         return started(words, self.addCleanup)
 
 
@@ -167,7 +170,7 @@ class Counts(Curves):
             self.assertAlmostEqual(float(row["share"]), int(row["errors"]) / FRAMES, places=5)
 
     def kinds(self, point: int, sigma: float, batch: int) -> list[int]:
-        """By the noise itself: how the stand-in tells each frame of a batch."""
+        """Returns, from the noise itself, how the stand-in decodes each frame of a batch."""
         level = numpy.full(2 * SAMPLES, fake_receiver.LEVEL, dtype=numpy.int16)
         made = noise.noisy(level, sigma, noise.generator(1_995, point, batch)).astype(int) - fake_receiver.LEVEL
         chips = 2 * fake_receiver.FRAME
@@ -201,7 +204,7 @@ class Counts(Curves):
         self.refused("has counts of another run .seed differ", self.words("--seed", "2"))
 
     def test_limits(self) -> None:
-        """A limit at the interval's upper end is met, and so is 1; one that is next to nothing is broken."""
+        """A limit equal to the interval's upper end is met, and so is 1; a limit of almost 0 is exceeded."""
         whole = self.rows_of_one_worker()
         errors = [int(row["errors"]) for row in whole if row["channel"] == "frame 9600"]
         highs = [float(row["high"]) for row in whole if row["channel"] == "frame 9600"]
@@ -256,8 +259,8 @@ class Broken(Curves):
         self.assertEqual(child.returncode, 130)
 
     def test_a_disk_that_is_full_keeps_what_was_counted(self) -> None:
-        """A limit on the size of files stands for the disk: SQLite's log has 24 pages, 11 of them without a batch, and
-        takes four for each."""
+        """A limit on file sizes acts as a full disk: SQLite's log has 24 pages, 11 of them without a batch, and needs
+        four for each batch."""
         limit = 24 * 4_096
 
         def limited() -> None:
@@ -274,11 +277,11 @@ class Cluster(Curves):
     parted, seconds = True, 15
 
     def scheduler(self) -> tuple[subprocess.Popen[bytes], str]:
-        """A scheduler of its own on this machine, and its address."""
+        """Starts a scheduler on this machine, and returns its address."""
         return started_scheduler(self.folder, self.addCleanup)
 
     def worker(self, address: str) -> subprocess.Popen[bytes]:
-        """A worker of its own on this machine."""
+        """Starts a worker on this machine."""
         return started_worker(address, self.folder, self.addCleanup)
 
     def test_a_worker_that_dies_loses_nothing_and_counts_nothing_twice(self) -> None:
@@ -373,7 +376,7 @@ class OfTheProgram(Curves):
     def measured(
         self, script: str, *more: str, begin: float, end: float | None = None, frames: int = 700, out: str = "out"
     ) -> list[dict[str, str]]:
-        """The rows of a run of the program over an example."""
+        """Returns the rows of a run of the program over an example."""
         assert PROGRAM is not None
         words = [
             PYTHON, "-B", CURVE, os.path.join(EXAMPLES, script), "--workers", "1", "--from", str(begin),
@@ -391,8 +394,11 @@ class OfTheProgram(Curves):
         self.assertGreater(found["list --k 4"], 0)
 
     def test_frames_of_rate_set_2_and_few_lost_where_noise_is_weak(self) -> None:
-        """Where power control bits replace symbols beside dropped ones few are left to tell two words apart, so the
-        bound falls slowly: at 9 dB it is 3 in 10,000, and of some hundred frames one may be lost."""
+        """If power control bits replace symbols next to dropped ones, few are left to tell two words apart, so the
+        bound falls slowly.
+
+        At 9 dB it is 3 in 10,000, and of some hundred frames one may be lost.
+        """
         row, = self.measured("frames_14400.script", begin=9, frames=300)
         self.assertEqual(row["channel"], "frame2 14400")
         self.assertLessEqual(int(row["errors"]), 2)

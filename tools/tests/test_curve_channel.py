@@ -1,4 +1,5 @@
-"""`tools/curve --channel`: where a script's samples lie after a lock, which losses are its own, and the formulas in fading."""
+"""`tools/curve --channel`: the places of a script's samples after a lock, the losses of the lock itself, and the
+formulas in fading."""
 
 import math
 import os
@@ -57,18 +58,18 @@ class Locks(unittest.TestCase):
         cls.power = float(numpy.mean(numpy.abs(cls.sent) ** 2))
 
     def tried(self, radio: Radio, noise: float = 0.2, paths: tuple[Path, ...] = (Path(),)) -> antenna.Caught | Refused:
-        """What a lock makes of a recording in noise of a part of the cell's power."""
+        """Returns what a lock makes of a recording whose noise has a share of the cell's power."""
         over = antenna.Antenna("", paths, radio)
         return antenna.caught(over, [self.cell], noise * self.power, 3, 2, {1})[1]
 
     def caught(self, radio: Radio, paths: tuple[Path, ...] = (Path(),)) -> antenna.Caught:
-        """The same of a recording that is locked to."""
+        """Returns the same for a recording to which the lock succeeds."""
         got = self.tried(radio, paths=paths)
         assert isinstance(got, antenna.Caught), got
         return got
 
     def agreement(self, got: antenna.Caught, begin: int, late: int) -> float:
-        """How well 2,000 chips of what a lock wrote match those sent some chips later."""
+        """Returns how well 2,000 chips written by a lock match those sent some chips later."""
         path = os.path.join(self.folder, "got.is95")
         with open(path, "wb") as file:
             file.write(got.data)
@@ -114,7 +115,7 @@ class Locks(unittest.TestCase):
         self.assertEqual((first.data, first.begin), (again.data, again.begin))
 
     def test_air_over_paths(self) -> None:
-        """Two paths of half of the power each, and another cell: each path has the other one and that cell as noise."""
+        """Two paths of half the power each, and another cell: for each path the other one and that cell are noise."""
         script = Script(2j, 0, CHIPS, 0, {0: 100, 10: 40}, (), ())
         air = levels.air_over(script, [0.5, 0.5], 300.0, levels.AirKind.FADING)
         channel = levels.Channel("frame 9600", 40, 9_600, 1.0)
@@ -133,7 +134,7 @@ class Locks(unittest.TestCase):
 
 
 class Losses(unittest.TestCase):
-    """What is the lock's loss, and what the receiver's."""
+    """Which losses are the lock's, and which the receiver's."""
 
     def test_frames_that_meet_a_span(self) -> None:
         ends = [2 * FRAME + number * FRAME for number in range(4)]
@@ -226,7 +227,7 @@ class Runs(unittest.TestCase):
         return os.path.join(self.folder, name)
 
     def ran(self, script: str, options: str, *more: object, maker: str) -> tuple[int, list[str], list[str]]:
-        """A run over a link: its status, and its lines on both outputs."""
+        """Runs the tool over a link; returns its status and its lines on both outputs."""
         words = [script, "--maker", maker, "--workers", 1, "--step", 1, "--channel", options, "--out", self.at("out")]
         status, wrote, said = run_main("curve", *words, *more)
         return status, wrote.splitlines(), said.splitlines()
@@ -251,13 +252,13 @@ class Runs(unittest.TestCase):
         self.assertIn("--path can't be given with --channel", lines[0])
 
     def rows(self) -> dict[tuple[str, str], dict[str, str]]:
-        """The rows of frames, by point and receiver."""
+        """Returns the rows of frames, by point and receiver."""
         with open(os.path.join(self.at("out"), "curve.csv"), newline="", encoding="ascii") as file:
             rows = [row for row in csv.DictReader(file) if row["channel"] == "frame 9600"]
         return {(row["point_db"], row["receiver"]): row for row in rows}
 
     def short_script(self, samples: int) -> str:
-        """An example with `samples` samples."""
+        """Returns an example with `samples` samples."""
         with open(os.path.join(EXAMPLES, "frames_9600.script"), encoding="ascii") as file:
             text = re.sub(r"samples=\d+", f"samples={samples}", file.read())
         with open(self.at("it.script"), "w", encoding="ascii") as file:
@@ -266,7 +267,7 @@ class Runs(unittest.TestCase):
 
     @unittest.skipUnless(PROGRAM, NO_PROGRAM)
     def test_behind_a_lock_as_many_frames_are_heard_as_of_the_samples(self) -> None:
-        """At 6 dB next to none is lost without a link, and a lock costs some tenths of a decibel."""
+        """At 6 dB almost nothing is lost without a link, and a lock costs some tenths of a decibel."""
         script = self.short_script(1_500_000)
         options = "--carrier 700 --clock 4 --delay 0.3 --type cu8"
         status, table, lines = self.ran(script, options, "--from", 6, "--to", 6, "--frames", 60, maker=str(PROGRAM))
@@ -281,7 +282,7 @@ class Runs(unittest.TestCase):
         self.assertTrue(os.path.getsize(os.path.join(self.at("out"), "curve.png")) > 1_000)
 
     def in_process(self, locks: list[Locked | Refused], *more: object) -> tuple[int, str, str]:
-        """A run within this process over a radio whose locks end so, one after the other, with more arguments."""
+        """Runs the tool within this process, with more arguments, over a radio whose locks end like these, in turn."""
         words = ["--from", 6, "--to", 6, "--step", 1, "--frames", 9, "--workers", 1, "--channel", "", "--out", self.at("out")]
         with mock.patch.object(antenna, "lock", side_effect=locks):
             return run_main("curve", self.short_script(1_000_000), "--maker", PROGRAM, *words, *more)
@@ -305,11 +306,12 @@ class Runs(unittest.TestCase):
 
     @unittest.skipUnless(PROGRAM, NO_PROGRAM)
     def test_files_may_have_fewer_frames_than_the_script(self) -> None:
-        """A lock may begin after a file's first frames: so twice as many files may be counted as the script would need."""
+        """A lock may begin after a file's first frames, so up to twice as many files may be counted as the script
+        needs."""
         most: list[int] = []
 
         def ledger(points: list[int], rule: Rule, files: int, done: Done) -> Ledger:
-            """The ledger, whose greatest number of files is kept."""
+            """Returns the ledger, whose greatest number of files is kept."""
             most.append(files)
             return Ledger(points, rule, files, done)
 

@@ -1,4 +1,4 @@
-"""The parts of `tools/curve`, by numbers from outside: published weights, brute force, and the definitions."""
+"""The parts of `tools/curve`, against independent numbers: published weights, brute force, and the definitions."""
 
 import dataclasses
 import math
@@ -30,7 +30,7 @@ TRAFFIC = Traffic(10, "0000abcd", 3, 40, FRAMES)
 def cell(
     start: int = 0, samples: int = 200_000, link: complex = 1 + 0j, gains: dict[int, int] | None = None
 ) -> Script:
-    """A script with one traffic channel of TRAFFIC's form."""
+    """Returns a script with one traffic channel of TRAFFIC's form."""
     gains = gains or {0: 100, 32: 30, 10: 40}
     return Script(link, start, samples, 0, gains, (), (TRAFFIC,))
 
@@ -153,7 +153,8 @@ class Noise(unittest.TestCase):
 
 
 def encoded(words: NDArray[numpy.int64], repeats: int) -> NDArray[numpy.int64]:
-    """The repeated code symbols of words (a row of bits each, the tail too), by the two polynomials' powers of D."""
+    """Returns the repeated code symbols of words, one row of bits each, tail included, by the two polynomials' powers
+    of D."""
     padded = numpy.hstack([numpy.zeros((len(words), 8), dtype=int), words])
     steps = words.shape[1]
     powers = ((0, 1, 2, 3, 5, 7, 8), (0, 2, 3, 4, 8))
@@ -162,14 +163,14 @@ def encoded(words: NDArray[numpy.int64], repeats: int) -> NDArray[numpy.int64]:
 
 
 def all_words(bits: int) -> NDArray[numpy.int64]:
-    """All words of `bits` bits but that of zeros, with eight zeros after each."""
+    """Returns all words of `bits` bits except that of zeros, with eight zeros after each."""
     numbers = numpy.arange(1, 1 << bits)
     words = numbers[:, None] >> numpy.arange(bits) & 1
     return numpy.hstack([words, numpy.zeros((len(words), 8), dtype=int)])
 
 
 def leaves_once(words: NDArray[numpy.int64]) -> NDArray[numpy.bool_]:
-    """Whether a word leaves that of zeros once: between its first and its last 1 no eight zeros stand in a row."""
+    """Returns whether a word leaves the zero word once: no eight zeros in a row between its first and its last 1."""
     zeros, leaves = numpy.zeros(len(words), dtype=int), numpy.ones(len(words), dtype=bool)
     has_begun = numpy.zeros(len(words), dtype=bool)
     for bits in words.T == 1:
@@ -293,7 +294,7 @@ class Counting(unittest.TestCase):
 
 
 def case(name: str) -> tuple[str, list[str]]:
-    """The script and the lines of a case of conformance/, which a program of its own computed."""
+    """Returns the script and the lines of a case of conformance/, which another program computed."""
     blocks: dict[str, list[str]] = {"script:": [], "text:": []}
     block: list[str] | None = None
     with open(os.path.join(ROOT, "conformance", "cases", name + ".case"), encoding="ascii") as file:
@@ -306,10 +307,10 @@ def case(name: str) -> tuple[str, list[str]]:
 
 
 class Cases(unittest.TestCase):
-    """The frames that were sent stand in the lines of cases without noise, each at its place."""
+    """The frames that were sent are in the lines of cases without noise, each at its place."""
 
     def counted(self, name: str, row: int | None) -> Counts:
-        """What is counted of a case's own lines."""
+        """Returns what is counted from a case's own lines."""
         text, lines = case(name)
         script = read_script(text, name)
         wanted = counting.expected(script, chosen_channel(script, row, name), lines, name)
@@ -335,7 +336,7 @@ class Cases(unittest.TestCase):
             self.assertEqual(counts[channel].lost, 0)
 
     def test_frames_that_are_one_at_two_rates(self) -> None:
-        """A frame of zeros at 1,200 bits a second has the symbols of one at 2,400, and is heard as that."""
+        """A frame of zeros at 1,200 bits a second has the symbols of one at 2,400, and is decoded as that."""
         count = self.counted("traffic_three_fingers", None)["frame 1200"]
         self.assertEqual((count.other_rate, count.errors()), (count.sent, count.sent))
 
@@ -369,7 +370,7 @@ class Words(unittest.TestCase):
 
 
 def batch_of(errors: int, sent: int = 10) -> list[Counts]:
-    """One curve's counts of a batch."""
+    """Returns one curve's counts of a batch."""
     return [{"frame 9600": Count(sent, lost=errors), "sync": Count(2, lost=2)}]
 
 
@@ -415,7 +416,7 @@ class Plans(unittest.TestCase):
 
 
 def setup_for(seed: int = 1, words: str = "follow") -> Setup:
-    """What a run of one curve is set up with."""
+    """Returns the setup of a run of one curve."""
     return Setup("it", "text", 10, (), (), "/m", "aa", (Curve("/m", "aa", words, "m"),), seed, 5.0, "1.0")
 
 
@@ -467,7 +468,7 @@ class Stores(unittest.TestCase):
 
 class Reports(unittest.TestCase):
     def row(self, errors: int = 10, sent: int = 100, channel: str = "frame 9600") -> report.Row:
-        """A row of a table."""
+        """Returns a row of a table."""
         air = levels.Air((1.0,), 1e4)
         return report.row_of(
             "it follow", levels.Channel(channel, 40, 9_600, 1.0), Count(sent, marked_bad=errors), 1_500, 200.0, air, 7

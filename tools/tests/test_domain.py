@@ -40,9 +40,9 @@ def decibels(ratio: float) -> float:
 
 
 def power_over(paths: tuple[tuple[float, float, float], ...]) -> float:
-    """What arrives of a pulse of power 1 over paths of delays in quarters of a chip, levels in dB, and degrees.
+    """Returns the power of a pulse of power 1 over paths with delays in quarters of a chip, levels in dB, and degrees.
 
-    Two paths add the pulse's own correlation at the delay between them, which its taps at four a chip tell.
+    Two paths add the pulse's own correlation at the delay between them, given by its taps at four a chip.
     """
     taps = numpy.array(HALF_PULSE + HALF_PULSE[::-1])
     whole = numpy.correlate(taps, taps, "full") / numpy.sum(taps**2)
@@ -109,7 +109,7 @@ class Pulses(unittest.TestCase):
 
 
 class Correlations(unittest.TestCase):
-    """What chips have in common with those some chips later, by its definition, and what it does over two paths."""
+    """The correlation of chips with those some chips later, by its definition, and its effect over two paths."""
 
     def test_they_are_sums_over_a_period_within_symbols(self) -> None:
         found, chip = row_correlation.row_correlations(16), numpy.arange(PERIOD)
@@ -123,7 +123,7 @@ class Correlations(unittest.TestCase):
                 self.assertLess(abs(found[row, late] - wanted), 1e-6, (row, late))
 
     def test_the_power_of_chips_over_two_paths(self) -> None:
-        """Without noise nothing is left, though by only the paths' powers a thousandth and more would be."""
+        """Without noise nothing is left; by the paths' powers only, more than a thousandth would be."""
         delays, errors = 2 * numpy.arange(-16, 17), []
         for seed, late, gain in ((3, 2, 0.5j), (3, 2, -0.5j), (2, 3, -0.5)):
             sent = whole_cell(700_000, seed)
@@ -143,7 +143,7 @@ class Correlations(unittest.TestCase):
 
 class Domains(unittest.TestCase):
     def domain(self, chips: NDArray[Any], phase: int = PHASE, **more: bool) -> code_domain.CodeDomain:
-        """The code domain of chips that come in pieces of odd lengths."""
+        """Returns the code domain of chips that arrive in pieces of odd lengths."""
         chips = chips.astype(numpy.complex64)
         cuts = [0, 5, 40_000, 40_001, 300_000, len(chips)]
         runs = [code_domain.Chips(phase + a, chips[a:b]) for a, b in zip(cuts, cuts[1:]) if a < len(chips)]
@@ -261,7 +261,7 @@ class Recorded(Recordings):
         cls.cell = write_cell(cls.at("whole.is95"), whole_cell(cls.CHIPS))
 
     def measured(self, *words: object) -> dict[str, Any]:
-        """The JSON of a run over a recording."""
+        """Returns the JSON of a run over a recording."""
         status, _, said = run_main("domain", *words, "--json", self.at("told.json"))
         self.assertEqual(status, 0, said)
         with open(self.at("told.json"), encoding="utf-8") as file:
@@ -348,7 +348,7 @@ class Recorded(Recordings):
         self.assertAlmostEqual(told["skew_degrees"], 3, delta=0.3)
 
     def limits(self, *words: object) -> tuple[int, dict[str, dict[str, str]]]:
-        """The status of a run with --limits, and what each limit's line says."""
+        """Returns the status of a run with --limits, and the line of each limit."""
         status, wrote, said = run_main("domain", *words, "--limits")
         told = [line for line in wrote.splitlines() if line.startswith("limit=")]
         lines = [dict(re.findall(r"(\w+)=(\w[-\w.]*|-\S+)", line)) for line in told]

@@ -1,4 +1,4 @@
-"""tools/draw: what it reads of lines and of a sample file, the pictures that it writes, and each error."""
+"""tools/draw: what it reads from lines and from a sample file, the pictures that it writes, and each error."""
 
 import os
 import unittest
@@ -82,11 +82,11 @@ class Pictures(unittest.TestCase):
         self.folder = temporary_folder(self.addCleanup)
 
     def at(self, name: str) -> str:
-        """The path of a file in the test's folder."""
+        """Returns the path of a file in the test's folder."""
         return os.path.join(self.folder, name)
 
     def drawn(self, kind: str, name: str, *words: str, data: bytes = b"", way: ToolRun = run_inside) -> bytes:
-        """The picture that a run writes."""
+        """Returns the picture that a run writes."""
         status, wrote, said = way("draw", kind, self.at(name), *words, data=data)
         self.assertEqual((status, wrote, said), (0, b"", ""))
         with open(self.at(name), "rb") as file:
@@ -118,7 +118,7 @@ class Pictures(unittest.TestCase):
         self.assertIn(b"chips from phase 5", text)
 
     def refused(self, why: str, *words: str, data: bytes = b"", status: int = 1) -> None:
-        """A run that ends with a status and says why, and writes nothing."""
+        """Asserts that a run ends with a status and a reason, and writes nothing."""
         ended, wrote, said = run_inside("draw", *words, data=data)
         self.assertEqual((ended, wrote), (status, b""), said)
         self.assertRegex(said, why)

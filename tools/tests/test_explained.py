@@ -1,4 +1,4 @@
-"""conformance/run --explain: a receiver that is wrong from some step on, and each form of the lines of steps."""
+"""conformance/run --explain: a receiver that is wrong from a certain step on, and each form of the lines of steps."""
 
 from __future__ import annotations
 
@@ -24,17 +24,17 @@ Softs = Sequence[float] | NDArray[Any]
 
 
 def numbers(softs: Softs) -> str:
-    """Soft values as whole numbers, of another scale than the model's."""
+    """Returns soft values as whole numbers, on another scale than the model's."""
     return ",".join(str(int(soft) // 1_000_003) for soft in softs)
 
 
 def hard(softs: Softs) -> str:
-    """Soft values as bits."""
+    """Returns soft values as bits."""
     return text_of_bits([int(soft < 0) for soft in softs])
 
 
 def values(steps: Steps) -> dict[str, str]:
-    """The values of a frame's steps, as a receiver that is right tells them."""
+    """Returns the values of a frame's steps, as a correct receiver reports them."""
     shown = steps.readings[steps.shown]
     told = {"heard": numbers(steps.heard), "softs": numbers(steps.turned), "symbols": numbers(shown.softs)}
     told["word"] = text_of_bits(steps.bits)
@@ -46,7 +46,7 @@ def values(steps: Steps) -> dict[str, str]:
 
 
 def flipped(text: str) -> str:
-    """Bits of which the first is another."""
+    """Returns bits with the first one inverted."""
     count, _, digits = text.partition(":")
     return f"{count}:{int(digits[0], 16) ^ 8:x}{digits[1:]}"
 
@@ -87,7 +87,7 @@ class OfOneCase(unittest.TestCase):
         os.chmod(cls.at(name), 0o700)
 
     def said(self, lines: Sequence[str], *words: str) -> tuple[int, str]:
-        """The status, and what is said of a receiver that writes these lines."""
+        """Returns the status and the verdict on a receiver that writes these lines."""
         self.keep("written", "".join(line + "\n" for line in lines).encode())
         status, wrote, faults = run_main(
             "conformance", "--only", self.case_name, "--maker", self.at("maker"), *words, self.at("receiver")
@@ -95,21 +95,22 @@ class OfOneCase(unittest.TestCase):
         return status, wrote + faults
 
     def place_of(self, start: str) -> int:
-        """The number of the first wanted line that begins so."""
+        """Returns the number of the first expected line that begins with these words."""
         return next(place for place, line in enumerate(self.text) if line.startswith(start))
 
     def wrong(self, start: str, *steps: str) -> list[str]:
-        """The wanted lines, with these before the first that begins so, and that one wrong."""
+        """Returns the expected lines with one made wrong, the first that begins with these words, and these lines
+        before it."""
         lines, place = list(self.text), self.place_of(start)
         line = lines[place]
         return [*lines[:place], *steps, line[:-1] + ("0" if line[-1] != "0" else "1"), *lines[place + 1 :]]
 
     def told(self, channel: str, frame: int, told: dict[str, str]) -> str:
-        """A line of steps."""
+        """Returns a line of steps."""
         return " ".join([f"step {channel} frame={frame}", *(f"{name}={value}" for name, value in told.items())])
 
     def differs(self, start: str, *steps: str, wanted: str) -> None:
-        """That a receiver with these lines is told that something differs, and this of its steps."""
+        """Asserts that a receiver with these lines is reported to differ, with this text on its steps."""
         status, said = self.said(self.wrong(start, *steps), "--explain")
         self.assertEqual(status, 1, said)
         self.assertEqual(said.count("\n    "), 3, said)
@@ -118,7 +119,7 @@ class OfOneCase(unittest.TestCase):
 
 class EachStep(OfOneCase):
     def wrong_from(self, channel: str, frame: int) -> dict[str, tuple[dict[str, str], str]]:
-        """For each step: the values of a receiver that errs there and is wrong from there on, and what is said."""
+        """Returns for each step the values of a receiver that is wrong from there on, and what is reported."""
         steps = self.explainer.steps(channel, frame)
         right, shown = values(steps), steps.readings[steps.shown]
         halves = [-soft if place % 2 else soft for place, soft in enumerate(steps.heard)]
@@ -154,7 +155,7 @@ class EachStep(OfOneCase):
                 self.differs("paging at=761856", self.told("paging", 1, told), wanted=wanted)
 
     def test_a_sync_frame_among_others(self) -> None:
-        """A message is in several frames: the first that is told otherwise counts, and those before it are right."""
+        """A message is in several frames: the first one that differs counts, and those before it are right."""
         before = [self.told("sync", frame, values(self.explainer.steps("sync", frame))) for frame in range(2)]
         steps = self.explainer.steps("sync", 2)
         for name in ("heard", "softs", "symbols", "word"):
@@ -218,14 +219,15 @@ class Lines(OfOneCase):
                 self.differs("frame at=737280", line, wanted=wanted)
 
     def test_steps_that_stand_elsewhere(self) -> None:
-        """Of another frame than the first that differs nothing is said, and none may be told at all."""
+        """Steps of another frame than the first that differs are not reported; a receiver may report no steps at all.
+        """
         wrong = self.wrong("frame at=737280")
         self.assertIn("no step was reported before line 7, the first that differs", self.said(wrong, "--explain")[1])
         elsewhere = ["step sync frame=1 word=1:80", *wrong]
         self.assertIn("no step was reported before line 7", self.said(elsewhere, "--explain")[1])
 
     def test_a_line_that_is_missing(self) -> None:
-        """Steps of a frame whose line isn't written stand before the next line."""
+        """Steps of a frame whose line is missing come before the next line."""
         lines, place = list(self.text), self.place_of("frame at=737280")
         lines[place] = self.told("traffic", 1, {"word": "8:00"})
         self.assertIn("step 5, the best codeword, differs in frame 1", self.said(lines, "--explain")[1])

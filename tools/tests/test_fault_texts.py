@@ -1,5 +1,7 @@
-"""The line on standard error of each fault that a run can end with, asked of the built program. The texts of the faults
-themselves, as the crates print them, have a table in `crates/line_tests`."""
+"""The line on standard error of each fault with which a run can end, by the built program.
+
+The texts of the faults themselves, as the crates print them, have a table in `crates/line_tests`.
+"""
 
 import shutil
 import subprocess
@@ -67,7 +69,7 @@ class FaultTexts(unittest.TestCase):
 
     @unittest.skipUnless(shutil.which("gcc"), "no gcc")
     def test_each_want_of_memory(self) -> None:
-        """Each allocation that is refused ends a run of each command with status 6, its line, and no text."""
+        """Each refused allocation ends a run of each command with status 6, its line, and no text."""
         status, told, fault = run_tool("starve", "--program", PROGRAM)
         self.assertEqual((status, told.splitlines()[-1:], fault), (0, [b"0 faults"], ""))
 

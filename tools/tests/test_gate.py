@@ -1,4 +1,4 @@
-"""The merge gate's own statuses, with a stand-in for `rt`: it passes nothing silently."""
+"""The merge gate's own statuses, with a stand-in for `rt`: nothing passes silently."""
 
 import os
 import subprocess
@@ -10,10 +10,10 @@ GATE = os.path.join(ROOT, ".ci", "run")
 
 
 class Gate(unittest.TestCase):
-    """A run of `.ci/run` whose `rt` ends with a status of ours, where no Python is."""
+    """A run of `.ci/run` whose `rt` ends with a chosen status, on a machine without Python."""
 
     def ran(self, rt_status: int, **environment: str) -> tuple[int, str]:
-        """The gate's status, and what it says on standard error."""
+        """Returns the gate's status and its standard error."""
         folder = temporary_folder(self.addCleanup)
         stand_in = os.path.join(folder, "rt")
         with open(stand_in, "w", encoding="ascii") as file:

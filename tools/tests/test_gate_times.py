@@ -1,4 +1,4 @@
-"""tools/gate_times: the times of a log, the plans of crates and the longest chain, by hand."""
+"""tools/gate_times: the times in a log, the plans of crates and the longest chain, worked out by hand."""
 
 from __future__ import annotations
 
@@ -78,7 +78,7 @@ class GateTimes(unittest.TestCase):
                 self.assertEqual(self.told(self.logged(form))[:2], (0, TABLE))
 
     def test_seconds(self) -> None:
-        """As `ts -s %.s` writes them."""
+        """Times as `ts -s %.s` writes them."""
         lines = [f"{3600 * int(c[:2]) + 60 * int(c[3:5]) + int(c[6:]) - 72_000}.000001 {text}" for c, text in LOG]
         self.assertEqual(self.told(lines)[:2], (0, TABLE))
 
@@ -111,7 +111,7 @@ class GateTimes(unittest.TestCase):
         self.assertRegex(wrote, r"(?m)^longest chain: \d crates: chip_core .*cdma_replay$")
 
     def test_the_gate_says_how_long_it_took(self) -> None:
-        """A gate whose first part fails says how long that took, keeps what it wrote and ends with its status."""
+        """A gate whose first part fails prints the time it took, keeps its output and returns its status."""
         gate = self.write("rt", "#!/bin/sh\necho 1 passed, 2 failed\nexit 3\n")
         os.chmod(gate, 0o700)
         path = self.root + os.pathsep + os.environ["PATH"]

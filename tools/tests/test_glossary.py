@@ -11,7 +11,7 @@ from tools.tests.helping import ROOT
 
 
 def sorted_by(word: str) -> str:
-    """Letters, digits and spaces of a word, in lower case."""
+    """Returns the letters, digits and spaces of a word, in lower case."""
     return re.sub(r"[^a-z0-9 ]", "", word.casefold())
 
 

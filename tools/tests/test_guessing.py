@@ -1,4 +1,5 @@
-"""What a file hides: the samples' type by their bytes, how checks are sent, and flags that are set in place."""
+"""What a file does not state: the samples' type by their bytes, how checks are sent, and flags that are set in place.
+"""
 
 import os
 import subprocess

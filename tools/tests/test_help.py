@@ -1,4 +1,4 @@
-"""That each tool says how it is used."""
+"""Each tool explains its use."""
 
 import subprocess
 import unittest
@@ -8,7 +8,7 @@ TOOLS = Path(__file__).parents[1]
 
 
 class HelpTest(unittest.TestCase):
-    """What a reader sees who knows only a tool's name."""
+    """What readers see who know only a tool's name."""
 
     def test_each_tool_says_how_it_is_used(self) -> None:
         tools = [path for path in sorted(TOOLS.iterdir()) if path.is_file() and path.stat().st_mode & 0o100]

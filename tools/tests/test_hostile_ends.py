@@ -1,4 +1,5 @@
-"""Ends of tools that `tools/hostile --tools` draws: each kind passes, and a tool that ends wrongly is seen."""
+"""The endings of tools that `tools/hostile --tools` draws: each kind passes, and a tool that ends wrongly is detected.
+"""
 
 import random
 import unittest
@@ -17,12 +18,12 @@ Kind = Callable[[str, random.Random], tuple[str, str]]
 
 
 class Ends(unittest.TestCase):
-    """Runs in rooms of their own."""
+    """Runs in separate folders."""
 
     seconds = 20
 
     def fault(self, kind: Kind, seed: int, instead: str = "") -> str:
-        """The fault of a run that is drawn from a seed, or of a line of the shell in place of the tool."""
+        """Returns the fault of a run drawn from a seed, or of a shell line instead of the tool."""
         folder = temporary_folder(self.addCleanup)
         draw = random.Random(seed)
         Room(folder, draw, b"cell pn=0\n")

@@ -1,4 +1,4 @@
-"""tools/house: how lines are counted, where rooms lie, and that the kept picture is that of the tree."""
+"""tools/house: how lines are counted, the places of rooms, and that the kept picture agrees with the tree."""
 
 import os
 import re
@@ -36,7 +36,7 @@ BELOW: dict[str, list[str]] = {
 
 
 def texts(picture: str) -> list[str]:
-    """The texts of a picture, in order."""
+    """Returns the texts of a picture, in order."""
     return [one.text or "" for one in xml.etree.ElementTree.fromstring(picture).iter() if one.tag.endswith("}text")]
 
 
@@ -83,7 +83,7 @@ class Drawing(unittest.TestCase):
 
 class Tool(unittest.TestCase):
     def test_the_kept_picture_is_that_of_the_tree(self) -> None:
-        """Where it isn't, `tools/house --write docs/pictures/house.svg` makes it so."""
+        """If it is not, run `tools/house --write docs/pictures/house.svg`."""
         path = os.path.join(temporary_folder(self.addCleanup), "house.svg")
         self.assertEqual(run_inside("house", "--write", path), (0, b"", ""))
         with open(path, encoding="utf-8") as made, open(KEPT, encoding="utf-8") as kept:

@@ -1,4 +1,4 @@
-"""tools/import_capture on recordings that the tests make: what comes out bit by bit, and each error."""
+"""tools/import_capture on recordings that the tests make: the output bit by bit, and each error."""
 
 import hashlib
 import json
@@ -36,12 +36,12 @@ EIGHT = [(0, 1), (-1, 127), (-128, 64), (-64, 2), (99, -99)]
 
 
 def parts_of(samples: Iterable[Sample]) -> list[int]:
-    """Both parts of each sample in a row."""
+    """Returns I and Q of each sample in a row."""
     return [part for sample in samples for part in sample]
 
 
 def recorded(samples: Iterable[Sample], kind: str) -> bytes:
-    """The bytes of a recording of whole samples."""
+    """Returns the bytes of a recording of whole samples."""
     parts = parts_of(samples)
     if kind == "cu8":
         return bytes(part + 128 for part in parts)
@@ -55,17 +55,17 @@ class Imports(unittest.TestCase):
         self.out = self.at("out.is95")
 
     def at(self, name: str) -> str:
-        """The path of a file in the test's folder."""
+        """Returns the path of a file in the test's folder."""
         return os.path.join(self.folder, name)
 
     def keep(self, name: str, data: bytes) -> str:
-        """Writes a file into the test's folder, and answers its path."""
+        """Writes a file into the test's folder, and returns its path."""
         with open(self.at(name), "wb") as file:
             file.write(data)
         return self.at(name)
 
     def taken(self, data: bytes, kind: str, *words: object, rate: int | float | str = CHIP_RATE) -> Taken:
-        """The version, the flags and the samples of the file that a recording gives."""
+        """Returns the version, the flags and the samples of the file made from a recording."""
         path = self.keep("in.raw", data)
         status, wrote, said = run_tool("import_capture", "--type", kind, "--rate", rate, *words, path, self.out)
         self.assertEqual((status, wrote), (0, b""), said)
@@ -74,7 +74,7 @@ class Imports(unittest.TestCase):
         return read_file(self.out)
 
     def refused(self, why: str, *words: object, status: int = 1) -> None:
-        """A run that ends with words of why, and writes nothing."""
+        """Asserts that a run ends with this reason, and writes nothing."""
         ended, wrote, said = run_tool("import_capture", *words)
         self.assertEqual((ended, wrote), (status, b""), said)
         self.assertRegex(said, why)
@@ -103,7 +103,7 @@ class WholeSamples(Imports):
                 self.assertEqual(self.taken(recorded(EIGHT, kind), kind, "--format", version), (version, 0, EIGHT))
 
     def test_the_old_word_for_the_format(self) -> None:
-        """Earlier versions called it --version, which without a number is the version of the tool."""
+        """Earlier versions called it --version, which without a number now prints the version of the tool."""
         for words in (("--version", 2), ("--version=2",)):
             with self.subTest(words):
                 self.assertEqual(self.taken(recorded(EIGHT, "ci8"), "ci8", *words), (2, 0, EIGHT))
@@ -211,7 +211,7 @@ class OtherRates(Imports):
             self.check_resampled(taken, parts, up, down)
 
     def check_resampled(self, taken: Taken, parts: NDArray[numpy.int64], up: int, down: int) -> None:
-        """The samples are those that scipy makes of the parts, at the scale that fits."""
+        """Checks that the samples are those that scipy makes from the parts, at the scale that fits."""
         both = [resample_poly(parts[k::2].astype(float), up, down) for k in (0, 1)]
         scale = 32_767 / max(abs(branch).max() for branch in both)
         wanted = [numpy.rint(scale * branch).astype(int).tolist() for branch in both]
@@ -255,7 +255,7 @@ class SigMF(Imports):
     def meta(
         self, fields: dict[str, object], captures: Sequence[dict[str, object]] = (), name: str = "radio"
     ) -> str:
-        """Writes the metadata of a recording, and answers their path."""
+        """Writes the metadata of a recording, and returns their path."""
         path = self.at(name + ".sigmf-meta")
         with open(path, "w") as file:
             json.dump({"global": fields, "captures": list(captures), "annotations": []}, file)
@@ -374,7 +374,7 @@ class Refusals(Imports):
 
 
 def turned_into(samples: list[Sample], kind: str) -> bytes:
-    """The samples of 16 bits as a recording of a type, with so much of them as it holds."""
+    """Returns the samples of 16 bits as a recording of a type, with as much of them as it can hold."""
     if kind in ("ci8", "cu8"):
         most = max(abs(part) for sample in samples for part in sample)
         samples = [(round(first * 127 / most), round(second * 127 / most)) for first, second in samples]

@@ -1,4 +1,4 @@
-"""tools/install: what it puts in place, and where it refuses. A script stands for the program."""
+"""tools/install: what it installs, and what it refuses. A script replaces the program."""
 
 import importlib.util
 import os
@@ -26,12 +26,12 @@ class Installs(unittest.TestCase):
         os.chmod(self.program, mode)
 
     def read(self, *path: str) -> bytes:
-        """The bytes of a file."""
+        """Returns the bytes of a file."""
         with open(os.path.join(*path), "rb") as file:
             return file.read()
 
     def files(self) -> list[str]:
-        """All files below the prefix."""
+        """Returns all files below the prefix."""
         return sorted(os.path.join(path, name) for path, _, names in os.walk(self.prefix) for name in names)
 
     def test_all_is_in_place_and_taken_away_again(self) -> None:
@@ -66,7 +66,7 @@ class Installs(unittest.TestCase):
         self.assertGreater(links, 50)
 
     def listened(self, command: str) -> str:
-        """What an installed command says of a stream of zeros, by an environment that names no program."""
+        """Returns what an installed command writes about a stream of zeros if the environment names no program."""
         words = [command, "--type", "ci8", "--rate", "1228800", "-"]
         ran = subprocess.run(words, input=bytes(1_000), capture_output=True, env={"PATH": "/none"}, timeout=300)
         self.assertEqual((ran.returncode, ran.stdout), (1, b""))
@@ -97,13 +97,13 @@ class Installs(unittest.TestCase):
             self.assertTrue(os.path.exists(kept))
 
     def refused_as(self, why: str, *words: str) -> None:
-        """A run that ends with status 1 and one line."""
+        """Asserts that a run ends with status 1 and one line."""
         status, wrote, said = run_tool("install", *words)
         self.assertEqual((status, wrote, said.count("\n")), (1, b"", 1))
         self.assertIn(why, said)
 
     def refused(self, why: str, *words: str, status: int = 1) -> None:
-        """A run that ends with a status and says why, and installs nothing."""
+        """Asserts that a run ends with a status and a reason, and installs nothing."""
         ended, wrote, said = run_tool("install", *words)
         self.assertEqual((ended, wrote), (status, b""), said)
         self.assertRegex(said, why)

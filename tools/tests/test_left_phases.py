@@ -1,5 +1,7 @@
-"""How many phases a worker of the search leaves, counted here by the rule, with every bound taken: the numbers of the
-tests of `receiver_tests`, which ask the search for what it tells its gate."""
+"""The number of phases that a worker of the search leaves, counted here by the rule, with every bound computed.
+
+These are the numbers in the tests of `receiver_tests`, which ask the search for what its gate gets.
+"""
 
 import os
 import re
@@ -25,7 +27,7 @@ QUARTERS = re.compile(r"\[\(0, 8192\), \(1, 8192\), \(2, 8192\), \(3, (\d+)\)\]"
 
 
 def noise(seed: int, count: int) -> NDArray[Any]:
-    """The first samples of the noise of a seed, as the tests draw it."""
+    """Returns the first samples of the noise of a seed, as the tests draw it."""
     state, drawn = seed, []
     for _ in range(2 * count):
         state = (1_664_525 * state + 1_013_904_223) % 2**32
@@ -34,7 +36,8 @@ def noise(seed: int, count: int) -> NDArray[Any]:
 
 
 def bounds_and_energies(samples: NDArray[Any]) -> tuple[NDArray[Any], NDArray[Any]]:
-    """The least bound of each phase before any chunk of 64 samples, and its energy: whole numbers below 2^53."""
+    """Returns the least bound of each phase before any chunk of 64 samples, and its energy: whole numbers below 2^53.
+    """
     starts = np.arange(0, len(samples), CHUNK)
     tails = np.array([np.sum(np.abs(samples[at:].real) + np.abs(samples[at:].imag)) for at in starts])
     code = np.concatenate([POINTS, POINTS]).conj()
@@ -51,7 +54,8 @@ def bounds_and_energies(samples: NDArray[Any]) -> tuple[NDArray[Any], NDArray[An
 
 
 def left_by_one(samples: NDArray[Any], first: int = 0) -> int:
-    """How many phases one worker leaves that tries them in order from this one on, and is the first to publish."""
+    """Returns the number of phases left by one worker that tries them in order from this one on, and publishes first.
+    """
     least, energies = bounds_and_energies(samples)
     published, left = 0.0, 0
     for phase in range(first, PERIOD):
@@ -77,7 +81,7 @@ class LeftPhases(unittest.TestCase):
                 self.assertEqual(left_by_one(noise(seed, count)), left)
 
     def test_last_of_four_workers(self) -> None:
-        """The code at the last phase: the fourth worker comes to it last, and the others leave all of their phases."""
+        """The code at the last phase: the fourth worker reaches it last, and the others leave all of their phases."""
         samples = 100 * points(PERIOD - 1, MOST)
         least, energies = bounds_and_energies(samples)
         first = 3 * PERIOD // 4

@@ -1,4 +1,4 @@
-"""docs/LESSON.md: each command in it writes what stands below it."""
+"""docs/LESSON.md: each command in it writes the lines below it."""
 
 import os
 import re
@@ -15,7 +15,7 @@ MOST_BYTES = 200_000
 
 
 def blocks(lines: list[str]) -> list[tuple[str, list[str]]]:
-    """Each command of the page, and the lines below it. A command with an open quotation mark goes on."""
+    """Yields each command of the page and the lines below it. A command with an open quotation mark continues."""
     found: list[tuple[str, list[str]]] = []
     for line in lines:
         if not line.startswith("    "):
@@ -41,7 +41,7 @@ class Lesson(unittest.TestCase):
         cls.folder = temporary_folder(cls.addClassCleanup)
 
     def environment(self) -> dict[str, str]:
-        """Where `cdma_replay` is the built program, or the model where none is built."""
+        """Returns an environment where `cdma_replay` is the built program, or the model if there is none."""
         command = f'"{PROGRAM}"' if PROGRAM else f"{PYTHON} -B -m model"
         path = os.path.join(self.folder, "cdma_replay")
         with open(path, "w", encoding="ascii") as file:

@@ -1,4 +1,4 @@
-"""tools/lines and its table: lines to JSON and back, what is refused, and that documents and crates say the same."""
+"""tools/lines and its table: lines to JSON and back, refusals, and that documents and crates agree with it."""
 
 import json
 import os
@@ -113,7 +113,7 @@ REFUSED = {
 
 
 def lines_of_cases() -> list[str]:
-    """Every line of every case."""
+    """Returns every line of every case."""
     lines: list[str] = []
     for name in sorted(os.listdir(CASES)):
         with open(os.path.join(CASES, name), encoding="ascii") as file:
@@ -145,7 +145,7 @@ class Turning(unittest.TestCase):
         self.assertLessEqual({(shape.line, shape.word) for shape in SHAPES} - kinds, not_in_cases)
 
     def check_value(self, line: str, name: str, value: Any) -> None:
-        """Numbers are those of the line's text, and other texts stand in it."""
+        """Checks that numbers are those of the line's text, and that other texts occur in it."""
         if name in ("line", "message", "channel"):
             self.assertIn(value, line.split(" "))
         elif name == "commands":
@@ -163,7 +163,7 @@ class Turning(unittest.TestCase):
                 read_line(line)
 
     def test_hostile_lines(self) -> None:
-        """Damaged lines are refused, or come back as they are: bytes of every value at places by chance."""
+        """Damaged lines are refused or survive the round trip: bytes of every value at random places."""
         draws, taken = random.Random(20), 0
         for line in draws.sample(LINES, 600):
             for _ in range(20):
@@ -178,7 +178,7 @@ class Turning(unittest.TestCase):
 
     @staticmethod
     def damaged(line: str, draws: random.Random) -> str:
-        """A line with one to three places changed: a byte, a piece moved, taken away or doubled."""
+        """Returns a line with one to three changes: a byte, or a piece moved, removed or doubled."""
         for _ in range(draws.randrange(1, 4)):
             place, end = draws.randrange(len(line) + 1), draws.randrange(len(line) + 1)
             piece = line[min(place, end) : max(place, end)]
@@ -234,7 +234,7 @@ class Program(unittest.TestCase):
             self.assertEqual(run_inside("lines", file.name, "--back"), (0, text, ""))
 
     def test_pandas_and_back(self) -> None:
-        """A table of the objects has their values, and its JSON goes back to the lines."""
+        """A table of the objects has their values, and its JSON turns back into the lines."""
         try:
             import pandas
         except ImportError as missing:
@@ -259,7 +259,7 @@ class Program(unittest.TestCase):
         self.assertEqual(run_inside("lines", "--back", data=back), (0, "".join(line + "\n" for line in lines).encode(), ""))
 
     def test_a_rounded_number_is_refused(self) -> None:
-        """A table with empty cells rounds numbers from 2^53 on: they are never taken for those of a line."""
+        """A table with empty cells rounds numbers from 2^53 on; such numbers are never accepted."""
         for energy in (b"9007199254740992.0", b"4611404547745644544.0", b"1.8446744073709552e19"):
             data = b'{"line":"pilot","phase":0,"energy":%b}\n' % energy
             self.refused("energy: .* is not a whole number", "--back", data=data)
@@ -300,7 +300,7 @@ def text_of(*names: str) -> str:
 
 
 def matched(pattern: str, text: str) -> re.Match[str]:
-    """Where a pattern, whose dots are line feeds too, first matches in a text that has it."""
+    """Returns the first match of a pattern, whose dots match line feeds too, in a text that must have one."""
     found = re.search(pattern, text, re.S)
     assert found, pattern
     return found
@@ -323,7 +323,7 @@ class Documents(unittest.TestCase):
         self.assertEqual(kinds, list(SHAPES))
 
     def shape_of(self, text: str) -> Shape:
-        """The kind of which a pattern is: by its first word, and by the one after it that has no = sign."""
+        """Returns the kind to which a pattern belongs, by its first word and by the next one if that has no = sign."""
         first, *words = text.split()
         found = [shape for shape in SHAPES if shape.line == first and (shape.word is None or shape.word in words)]
         self.assertEqual(len(found), 1, text)
@@ -364,7 +364,7 @@ class Documents(unittest.TestCase):
         self.assertIn('pub const FREQ_FIELD: FieldRow = ("freq", 11);', sync)
 
     def rows_of(self, name: str, source: str) -> list[tuple[str, str]]:
-        """The names and widths of a table, which is written out or made of a macro's list of fields."""
+        """Returns the names and widths of a table, which is written out or made from a macro's list of fields."""
         made = matched(rf"pub const {name}: [^=]*= (?:\[(.*?)\]|(\w+)!\(field_rows\));", source)
         if made[2] is None:
             return re.findall(r'\("(\w+)", (\d+)\)', made[1])

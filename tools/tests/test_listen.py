@@ -1,6 +1,6 @@
-"""Tests of tools/listen: recordings of any length, streams, and servers, against what a cell's script owes.
+"""Tests of tools/listen: recordings of any length, streams and servers, against what a cell's script requires.
 
-The recording lasts 20 seconds; CDMA_LISTEN_SECONDS asks for a longer one, as 90 or 600.
+The recording lasts 20 seconds; CDMA_LISTEN_SECONDS sets a longer one, such as 90 or 600.
 """
 
 import importlib.util
@@ -58,7 +58,7 @@ ENVIRONMENT = dict(os.environ, OMP_NUM_THREADS="1", OPENBLAS_NUM_THREADS="1")
 
 
 def listen(*words: Any, data: bytes | None = None) -> tuple[int, bytes, str]:
-    """A run of the tool: its status, what it wrote, and what it said."""
+    """Runs the tool; returns its status, its output and its standard error."""
     ran = subprocess.run(
         [*TOOL, *map(str, words)], input=data, stdin=None if data is not None else subprocess.DEVNULL,
         capture_output=True, env=ENVIRONMENT, timeout=3_000,
@@ -67,12 +67,12 @@ def listen(*words: Any, data: bytes | None = None) -> tuple[int, bytes, str]:
 
 
 def hear_interrupts() -> None:
-    """Lets a process hear Ctrl-C, though the tests may run in the background of a shell, which ignores it."""
+    """Makes a process receive Ctrl-C, even if the tests run in the background of a shell, which ignores it."""
     signal.signal(signal.SIGINT, signal.SIG_DFL)
 
 
 def made_recording(place: str) -> None:
-    """Writes a recording of the cell, with a carrier that drifts, a clock that bends, losses and a fade."""
+    """Writes a recording of the cell, with a drifting carrier, a changing clock, losses and a fade."""
     words = [*STREAM, "--carrier", "3000", "--drift", "20", "--clock", "4"]
     words += ["--clock-drift", "0.01", "--delay", "0.3", "--ec-io", "-8"]
     with tempfile.TemporaryDirectory() as folder:
@@ -90,12 +90,12 @@ def made_recording(place: str) -> None:
 
 
 def recording() -> str:
-    """The path of the recording."""
+    """Returns the path of the recording."""
     return made_once(f"lossy_{SECONDS}.cu8", made_recording)
 
 
 def made_lines(place: str) -> None:
-    """Writes what is heard of the recording in parts: lines, the same as JSON, and what was said with each of them."""
+    """Writes what is decoded from the recording in parts: lines, the same as JSON, and the remarks on each of them."""
     path, told = recording(), dict[str, str]()
     ways: dict[str, list[str]] = {"lines": [], "objects": ["--json"]}
     for name, more in ways.items():
@@ -107,7 +107,7 @@ def made_lines(place: str) -> None:
 
 
 class OneRecording(unittest.TestCase):
-    """The recording, and what is heard of it."""
+    """The recording, and what is decoded from it."""
 
     folder: ClassVar[str]
     path: ClassVar[str]  # of the recording
@@ -137,7 +137,8 @@ class OneRecording(unittest.TestCase):
         return os.path.join(self.folder, name)
 
     def check_truth(self, lines: bytes, seconds: float = SECONDS) -> Compared:
-        """That what was heard of so many seconds is what the script owes, but for what losses and the fade took."""
+        """Checks that the lines of `seconds` seconds are those that the script requires, but for losses and the fade.
+        """
         result = compared(self.sent, lines.decode().splitlines(), int(SECONDS * CHIP_RATE))
         self.assertTrue(result.is_sorted)
         self.assertLess(abs(result.shift), 3)
@@ -156,7 +157,7 @@ class OneRecording(unittest.TestCase):
 
 @unittest.skipUnless(PROGRAM, NO_PROGRAM)
 class ListenTest(OneRecording):
-    """One recording, heard by all that can share it."""
+    """One recording, decoded once for all tests that can share the result."""
 
     seconds = 60
 
@@ -172,7 +173,7 @@ class ListenTest(OneRecording):
 
     @unittest.skipUnless(importlib.util.find_spec("distributed"), "no distributed: install python3-distributed")
     def test_workers_of_a_scheduler_write_the_same(self) -> None:
-        """A scheduler and two workers, each a process of its own."""
+        """A scheduler and two workers, each a separate process."""
         _, address = started_scheduler(self.folder, self.addCleanup)
         for _ in range(2):
             started_worker(address, self.folder, self.addCleanup)
@@ -205,7 +206,7 @@ class ListenTest(OneRecording):
 
 @unittest.skipUnless(PROGRAM, NO_PROGRAM)
 class ListenAgainTest(OneRecording):
-    """The same recording in other ways, each for itself; by then what they share has been made."""
+    """The same recording in other ways, each decoded for itself, after what they share has been made."""
 
     parted, seconds = True, 12
 
@@ -310,7 +311,7 @@ class Server:
     """A server of samples on this machine, with the protocol of rtl_tcp."""
 
     def __init__(self, pieces: list[bytes], head: bytes = b"RTL0" + bytes(8)) -> None:
-        """It gives each connection the next piece, and then goes away."""
+        """Takes the pieces: each connection gets the next one, and is then closed."""
         self.pieces, self.head, self.commands = pieces, head, list[bytes]()
         self.socket = socket.create_server(("127.0.0.1", 0))
         self.address = f"rtl_tcp://127.0.0.1:{self.socket.getsockname()[1]}"
@@ -331,12 +332,12 @@ class Server:
 
 @unittest.skipUnless(PROGRAM, NO_PROGRAM)
 class PipeTest(unittest.TestCase):
-    """Samples that come through a pipe as the air brings them."""
+    """Samples that arrive through a pipe in real time."""
 
     alone = True  # it keeps time
 
     def test_a_pipe_in_real_time(self) -> None:
-        """Of ten seconds that come as the air does half of the lines are there half a second later."""
+        """Of ten seconds that arrive in real time, half of the lines are written within half a second."""
         with open(recording(), "rb") as file:
             data = file.read(2 * 9 * RATE)
         command = [*TOOL, *STREAM, *HANDSET, "-"]
@@ -368,7 +369,7 @@ class PipeTest(unittest.TestCase):
 
 @unittest.skipUnless(PROGRAM, NO_PROGRAM)
 class ServerTest(unittest.TestCase):
-    """Samples of a server, which brings them as the air does."""
+    """Samples of a server, which arrive in real time."""
 
     alone = True  # it keeps time
 
@@ -437,7 +438,7 @@ class NoServerTest(unittest.TestCase):
 
 @unittest.skipUnless(PROGRAM, NO_PROGRAM)
 class RefusedTest(unittest.TestCase):
-    """What can't be listened to, each with a line."""
+    """What cannot be listened to, each refused in a line."""
 
     def test_arguments(self) -> None:
         wrong: tuple[tuple[list[object], str], ...] = (
@@ -493,20 +494,20 @@ class RefusedTest(unittest.TestCase):
 class FakeWorkers:
     """Parts of 20 seconds of a recording in which a direction moves the traffic channel to row 12, without samples.
 
-    Each part has numbers of chips of its own, and a clock 5 millionths fast.
+    Each part numbers its chips by itself, and has a clock 5 millionths fast.
     """
 
     def __init__(self, parts: list[Part], direction: float) -> None:
-        """The second of the direction, which every part hears that begins on another row."""
+        """Takes the second of the direction, which every part receives that begins on another row."""
         self.parts, self.direction, self.is_heard = parts, direction, True
         self.asked: list[tuple[int, int | None]] = []
 
     def chip(self, number: int, second: float) -> int:
-        """The number that a part gives to the chip at a second."""
+        """Returns the number that a part gives to the chip at a second."""
         return round(second * CHIP_RATE * (1 - 5e-6)) - 32_768 * 37 * number + 5
 
     def heard(self, number: int, row: int | None) -> PartHeard:
-        """Sync messages and frames; each frame tells the row and the second in its bits."""
+        """Returns sync messages and frames; the bits of each frame give the row and the second."""
         self.asked.append((number, row))
         part, events, now = self.parts[number], list[Event](), row
         tenth = math.ceil(10 * part.heard_from)
@@ -525,7 +526,7 @@ class FakeWorkers:
 
 
 class RuleTest(unittest.TestCase):
-    """Parts, and what stands in a file already."""
+    """Parts, and what a file contains already."""
 
     def test_parts_go_on_on_the_row_of_the_part_before(self) -> None:
         options = LockOptions("cu8", float(RATE))
@@ -554,7 +555,7 @@ class RuleTest(unittest.TestCase):
         plain = workers.heard
 
         def missing(number: int, row: int | None) -> PartHeard:
-            """What is heard where the second part doesn't hear the direction."""
+            """Returns what is decoded if the second part does not receive the direction."""
             workers.is_heard = number != 1
             return plain(number, row)
 
@@ -565,7 +566,7 @@ class RuleTest(unittest.TestCase):
         self.assertEqual(rows, ["10"] * 150 + ["12"] * 450)
 
     def joined(self, workers: FakeWorkers) -> list[Event]:
-        """The lines of all parts, with numbers from the recording's start."""
+        """Returns the lines of all parts, with numbers from the recording's start."""
         events = []
         for joined in joined_parts(workers, workers.parts, Joiner(10), 0):
             events += [Event(event.chip - joined.origin, event.line) for event in joined.events]
@@ -609,7 +610,7 @@ class RuleTest(unittest.TestCase):
 
 
 class SilenceTest(unittest.TestCase):
-    """What is said of a stream in which no pilot stands out."""
+    """The remarks on a stream in which no pilot stands out."""
 
     def test_a_line_a_minute(self) -> None:
         heard = Collected()
@@ -627,7 +628,7 @@ class BacklogTest(unittest.TestCase):
     """What waits for the lock."""
 
     def test_what_finds_no_room_is_counted(self) -> None:
-        """Samples that tell their own numbers: those that come and those that are told to be missing are all."""
+        """Samples contain their own numbers: those that arrive and those reported missing are all of them."""
         backlog, draws = Backlog(1 << 14), random.Random(1)
         server = Server([b""])
         reader = ServerReader(RadioServer("127.0.0.1", int(server.address.rpartition(":")[2]), RATE, 2), backlog)
@@ -647,7 +648,7 @@ class BacklogTest(unittest.TestCase):
         self.assertTrue(came > 100_000 and lost > 100_000, (came, lost))
 
     def taken(self, backlog: Backlog, came: int, lost: int) -> tuple[int, int]:
-        """The bytes that have come and those that are missing, with the next item, whose place they tell."""
+        """Returns the bytes that have arrived and the missing ones, with the next item, whose place they give."""
         item = backlog.get()
         if isinstance(item, Skipped):
             return came, (came + lost) // 2 * 2 + 2 * item.samples - came  # half a sample is forgotten

@@ -24,7 +24,7 @@ LABELS = {"sync": "IS-95 sync", "paging": "IS-95 paging", "frame": "IS-95 frame"
 
 
 def make_recording(place: str) -> None:
-    """Writes a recording of the cell by a radio whose clock is wrong, so that chips and samples drift apart."""
+    """Writes a recording of the cell by a radio with a clock error, so that chips and samples drift apart."""
     with tempfile.TemporaryDirectory() as folder:
         cell = write_cell(os.path.join(folder, "cell.is95"), made_cell(PROGRAM or "", SECONDS, 0))
         path = os.path.join(folder, "radio.cu8")
@@ -40,7 +40,7 @@ class Noted(unittest.TestCase):
     seconds = 15
 
     def test_notes_match_the_samples(self) -> None:
-        """A frame or message that ends with chip `at` ends there in the samples of a clock that is wrong."""
+        """A frame or message that ends with chip `at` ends there in the samples of the wrong clock."""
         folder = temporary_folder(self.addCleanup)
         samples, meta = os.path.join(folder, "radio.cu8"), os.path.join(folder, "radio.sigmf-meta")
         os.symlink(made_once(f"notes_{SECONDS}_{CLOCK}.cu8", make_recording), samples)
@@ -57,7 +57,7 @@ class Noted(unittest.TestCase):
             self.check_note(line, notes)
 
     def check_rules(self, notes: list[dict[str, Any]], count: int) -> None:
-        """The rules of SigMF 1.0 for annotations: whole numbers, within the samples, in the order of their beginnings."""
+        """Checks SigMF 1.0's rules for annotations: whole numbers, within the samples, ordered by their beginnings."""
         starts = [note["core:sample_start"] for note in notes]
         self.assertEqual(starts, sorted(starts))
         for note in notes:
@@ -69,7 +69,7 @@ class Noted(unittest.TestCase):
                 self.assertIs(type(note[name]), str)
 
     def check_note(self, line: str, notes: list[dict[str, Any]]) -> None:
-        """The line has one note, which ends where its last frame does."""
+        """Checks that the line has one note, which ends where its last frame does."""
         kind, at, comment = line.split(" ", 2)
         told = [note for note in notes if note["core:label"] == LABELS[kind] and note["core:comment"] == comment]
         late = {"sync": 32_768, "paging": FRAME}.get(kind, 0)
@@ -87,7 +87,7 @@ class Rules(unittest.TestCase):
     seconds = 1
 
     def test_times_of_chips(self) -> None:
-        """They are those at which the chips come."""
+        """They are the times at which the chips arrive."""
         anchors = [Anchor(0.0, 64.0), Anchor(1_000.0, 1_065.0), Anchor(3_000.0, 3_064.0)]
         for count in (1, 2, 3):
             for time in (0.0, 400.0, 1_000.0, 1_700.0, 2_900.0, 4_000.0):

@@ -1,4 +1,5 @@
-"""tools/listen --pcapng: packets as they come, which tshark reads from a pipe, with the times of the cell's script."""
+"""tools/listen --pcapng: packets as they arrive, which tshark reads from a pipe, with the times of the cell's script.
+"""
 
 import os
 import re
@@ -50,7 +51,7 @@ class Listened(unittest.TestCase):
         self.folder = temporary_folder(self.addCleanup)
 
     def shown(self, source: str) -> list[list[str]]:
-        """What tshark shows of the packets that a command of the shell writes."""
+        """Returns what tshark shows of the packets that a shell command writes."""
         options = " ".join(f"-e {name}" for name in FIELDS)
         line = f"{source} | tshark -n -X lua_script:{DISSECTOR} -r - -T fields {options}"
         environment = {**os.environ, "HOME": self.folder, "XDG_CONFIG_HOME": self.folder}
@@ -60,7 +61,7 @@ class Listened(unittest.TestCase):
         return [row.split("\t") for row in ran.stdout.splitlines()]
 
     def test_a_pipe_to_tshark(self) -> None:
-        """Each line with a packet has one, at the time that the script tells."""
+        """Each line with a packet has one, at the script's time."""
         out, file = os.path.join(self.folder, "lines.txt"), os.path.join(self.folder, "packets.pcapng")
         words = " ".join([*STREAM, self.recording, *HANDSET, "--out", out])
         rows = self.shown(f"{PYTHON} -B {ROOT}/tools/listen {words} --pcapng -")
@@ -94,7 +95,7 @@ class Files(unittest.TestCase):
         self.path = os.path.join(temporary_folder(self.addCleanup), "packets.pcapng")
 
     def written(self, *events: Event) -> Iterator[bytes]:
-        """The file after each event."""
+        """Returns the file after each event."""
         capture = Capture(self.path)
         self.addCleanup(capture.close)
         writer = LineWriter(lambda data: None, False, {})
@@ -106,7 +107,7 @@ class Files(unittest.TestCase):
                 yield file.read()
 
     def test_each_packet_is_there_at_once(self) -> None:
-        """Whole blocks, with the place counted from the recording's start, are there after each line."""
+        """After each line the file has complete blocks, with the place counted from the recording's start."""
         events = [Event(294_912, SYNC), Event(300_000, FRAME % 300_000)]
         counts = [len(packets_of(data)) for data in self.written(*events)]
         self.assertEqual(counts, [1, 2])

@@ -1,4 +1,4 @@
-"""Tests of the lock that streams, over recordings that are made without the program."""
+"""Tests of the streaming lock, over recordings that are made without the program."""
 
 import json
 import math
@@ -44,12 +44,12 @@ def narrow(kind: str = "cu8", rate: float = RATE) -> StreamLock:
 
 
 def noise_of(count: int, seed: int) -> bytes:
-    """`count` samples of noise, of 8 bits each part."""
+    """Returns `count` samples of noise, with I and Q of 8 bits."""
     return numpy.random.default_rng(seed).integers(60, 196, 2 * count, dtype=numpy.uint8).tobytes()
 
 
 def taken(lock: StreamLock, data: bytes, *sizes: int) -> list[Piece]:
-    """The pieces of bytes that come in blocks of sizes in turn, up to the stream's end."""
+    """Returns the pieces of bytes that arrive in blocks of sizes in turn, up to the stream's end."""
     pieces, place, number = list[Piece](), 0, 0
     while place < len(data):
         size = sizes[number % len(sizes)]
@@ -59,7 +59,7 @@ def taken(lock: StreamLock, data: bytes, *sizes: int) -> list[Piece]:
 
 
 def joined(pieces: list[Piece]) -> tuple[int, NDArray[numpy.complex128]]:
-    """The first chip's number, and the chips, zeros where some were lost; pieces have to follow each other."""
+    """Returns the first chip's number, and the chips, with zeros for lost ones; pieces must follow each other."""
     first, parts, end = None, list[bytes](), 0
     for piece in pieces:
         if isinstance(piece, (Chips, Lost)):
@@ -73,7 +73,7 @@ def joined(pieces: list[Piece]) -> tuple[int, NDArray[numpy.complex128]]:
 
 
 def ec_io(first: int, chips: NDArray[numpy.complex128]) -> float:
-    """The pilot's share of the power of chips, in dB."""
+    """Returns the pilot's share of the power of chips, in dB."""
     meter = PilotMeter()
     meter.add(first, chips.astype(numpy.complex64))
     return meter.ec_io
@@ -99,13 +99,13 @@ class LockTest(Recordings):
             cls.data = file.read()
 
     def bytes_of(self, *words: object, **given: Any) -> bytes:
-        """The samples of a recording of the cell."""
+        """Returns the samples of a recording of the cell."""
         meta = self.recorded(*words, **given)
         with open(meta.replace(".sigmf-meta", ".sigmf-data"), "rb") as file:
             return file.read()
 
     def sent_at(self, first: int, count: int) -> NDArray[numpy.complex128]:
-        """The chips that the cell sent, by the number of the first one."""
+        """Returns the chips that the cell sent, by the number of the first one."""
         place = (first - PHASE) % PERIOD
         place -= PERIOD if place > PERIOD // 2 else 0
         self.assertGreaterEqual(place, 0)
@@ -129,7 +129,7 @@ class LockTest(Recordings):
             self.assertGreater(len(chips), 2.5 * CHIP_RATE - 10_000)
 
     def test_chips_do_not_depend_on_how_bytes_are_cut(self) -> None:
-        """Over a loss, a pilot that is away for three seconds, and bytes that end within a sample."""
+        """Over a loss, a pilot that is absent for three seconds, and bytes that end within a sample."""
         head, tail = self.data[: 3 * RATE], self.data[3 * RATE + 2 * 30_000 : 5 * RATE]
         stream = head + tail + noise_of(3 * RATE, 5) + self.data[: 5 * RATE]
         wanted: list[Piece] | None = None
@@ -142,7 +142,7 @@ class LockTest(Recordings):
         self.assertEqual(kinds, [Chips, Lost, Chips, Break, Chips])
 
     def test_chips_come_in_time(self) -> None:
-        """Once the lock is there, a chip is out 0.3 seconds after its samples at most, counted in samples."""
+        """Once locked, a chip comes out at most 0.3 seconds after its samples, counted in samples."""
         lock, late = narrow(), list[float]()
         for place in range(0, len(self.data), 2 * RATE // 100):
             pieces = list(lock.feed(self.data[place : place + 2 * RATE // 100]))
@@ -166,7 +166,7 @@ class LockTest(Recordings):
         self.assertGreater(len(chips), 2.9 * CHIP_RATE)
 
     def test_memory_of_the_process(self) -> None:
-        """All that a process of its own has at most, of samples at 2.4 million a second."""
+        """The peak memory of a separate process, with samples at 2.4 million a second."""
         path = self.at("shared.sigmf-data")
         words = ["-m", "cdma_tools.listening.measuring", "cu8", RATE, path, self.at("chips.is95"), 1]
         ran = subprocess.run([PYTHON, "-B", *map(str, words)], cwd=ROOT, capture_output=True, check=True)
@@ -175,7 +175,7 @@ class LockTest(Recordings):
         self.assertLess(figures["megabytes"], 250)
 
     def test_losses_are_counted_by_the_code(self) -> None:
-        """Of whole periods only the rest is told; chips on both sides are those that were sent."""
+        """Whole periods are not counted; chips on both sides are those that were sent."""
         place = 3 * RATE
         for count in (700, 120_000):
             pieces = taken(narrow(), self.data[:place] + self.data[place + 2 * count :], BLOCK)
@@ -195,7 +195,7 @@ class LockTest(Recordings):
             self.assertGreater(signal_to_noise(got[after:], sent), LEAST_SIGNAL)
 
     def test_a_pilot_that_was_away_has_its_old_numbers(self) -> None:
-        """After noise as long as 150 periods the numbers are, to the chip, those that were to come."""
+        """After noise as long as 150 periods the numbers continue, to the chip."""
         periods = 150
         samples = round(periods * PERIOD * RATE / CHIP_RATE / (1 + self.CLOCK))
         cut = 3 * RATE
@@ -209,7 +209,7 @@ class LockTest(Recordings):
         self.assertGreater(signal_to_noise(after, self.sent[place:]), LEAST_SIGNAL)
 
     def place_of(self, chips: NDArray[numpy.complex128]) -> int:
-        """Which of the cell's chips the first one of some is."""
+        """Returns the place among the cell's chips of the first of these chips."""
         head = chips[:8_192]
         got = numpy.abs(numpy.fft.ifft(numpy.fft.fft(self.sent) * numpy.fft.fft(head, len(self.sent)).conj()))
         return int(got.argmax())
@@ -227,7 +227,7 @@ class LockTest(Recordings):
         self.assertLess(max(sizes), 2 * 4 * RATE)
 
     def test_the_filter_follows_a_carrier(self) -> None:
-        """Where it drifts by 9 kHz in three seconds no more is lost than without a drift."""
+        """With a drift of 9 kHz in three seconds no more is lost than without a drift."""
         shares = []
         for drift in (0, 3_000):
             data = self.bytes_of("--type", "cu8", "--carrier", -2000, "--drift", drift, "--ec-io", -9)
@@ -261,7 +261,7 @@ class LockTest(Recordings):
 
 
 def merged(pieces: list[Piece]) -> list[Piece]:
-    """Pieces, of which chips that follow each other are one."""
+    """Returns the pieces, with chips that follow each other merged into one."""
     out = list[Piece]()
     for piece in pieces:
         last = out[-1] if out else None
@@ -273,7 +273,7 @@ def merged(pieces: list[Piece]) -> list[Piece]:
 
 
 class FadingTest(unittest.TestCase):
-    """A cell over two paths that fade within a chip of each other, whose best instants many fades have to tell."""
+    """A cell over two paths that fade within a chip of each other, whose best instants show only over many fades."""
 
     seconds = 40
 
@@ -302,11 +302,11 @@ class FadingTest(unittest.TestCase):
             cls.data = samples.read()
 
     def lock(self) -> StreamLock:
-        """A lock for a receiver of several fingers."""
+        """Returns a lock for a receiver of several fingers."""
         return StreamLock(LockOptions(self.KIND, self.RATE, self.FINGERS, search=3_000.0, conjugate="no"))
 
     def file_share(self) -> float:
-        """The pilot's share in the second part of the chips that the lock of a file gives, in dB."""
+        """Returns the pilot's share in the second half of the chips from a file's lock, in dB."""
         out = os.path.join(self.folder, "out.is95")
         status, _, said = run_main("import_capture", "--lock", "--fingers", self.FINGERS, self.meta, out)
         self.assertEqual(status, 0, said)
@@ -317,7 +317,7 @@ class FadingTest(unittest.TestCase):
         return meter.ec_io
 
     def test_instants_come_to_those_of_a_file(self) -> None:
-        """By only the first second the pilot's share is another one, by 0.7 dB over these fades."""
+        """After only the first second the pilot's share differs by 0.7 dB over these fades."""
         pieces = taken(self.lock(), self.data, BLOCK)
         meter, since = PilotMeter(), self.SETTLED * CHIP_RATE
         first = next(piece.first for piece in pieces if isinstance(piece, Chips))
@@ -336,10 +336,10 @@ class FadingTest(unittest.TestCase):
 
 
 class InstantsTest(unittest.TestCase):
-    """Where instants are moved to, by mean energies that are given."""
+    """The choice of instants, by given mean energies."""
 
     def instants(self, *paths: tuple[float, float], fingers: int = 1) -> Instants:
-        """Those of energies with peaks of some height at some delays."""
+        """Returns the instants for energies with peaks of some height at some delays."""
         energies = sum(height * numpy.exp(-((FINE_DELAYS - delay) ** 2) / 0.3) for delay, height in paths)
         fit = unittest.mock.Mock(spec=Fit, profile=energies, chip=numpy.arange(17.0))
         return Instants(fit, False, fingers)
@@ -354,7 +354,7 @@ class InstantsTest(unittest.TestCase):
         self.assertEqual(instants.next(0.25), 0.25)
 
     def test_they_stay_with_their_path(self) -> None:
-        """A stronger path further than half a chip away isn't reached: between the two nothing would be held."""
+        """A stronger path more than half a chip away is not reached: between the two no pilot would be held."""
         instants = self.instants((0.0, 1.0), (2.375, 1.2))
         self.assertEqual(instants.wanted(0.0), 0.0)
         self.assertEqual(instants.wanted(0.3), 0.0)
@@ -363,7 +363,7 @@ class InstantsTest(unittest.TestCase):
         self.assertGreater(self.instants((0.0, 1.0), (2.375, 1.2), fingers=2).wanted(0.0), 0.1)
 
     def test_points_are_averaged_as_long_as_they_count(self) -> None:
-        """Of one path half a chip later than at first, energies come to be those of all points in the mean."""
+        """For one path half a chip later than at first, the energies become the mean over all points."""
         instants = self.instants((0.0, 0.0))
         timeline = Timeline(0.0, 0.0)
         timeline.nodes = [Node(0.0, 5.0, 0.0, 0.0, 0.1), Node(1e9, 5.0, 0.0, 0.0, 0.3)]
@@ -381,7 +381,7 @@ class InstantsTest(unittest.TestCase):
 
 
 class FrontTest(Recordings):
-    """The front for speed against the front of a file."""
+    """The fast front against the front of a file."""
 
     front: ClassVar[Front]
 

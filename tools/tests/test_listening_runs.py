@@ -1,4 +1,4 @@
-"""Tests of runs of `follow` one after the other: at no seam is a line lost, and none is told twice."""
+"""Tests of runs of `follow` one after the other: no seam loses a line, and no line is written twice."""
 
 import os
 import random
@@ -35,7 +35,7 @@ SEAMS = int(os.environ.get("CDMA_LISTEN_SEAMS", "16"))
 
 
 def handset(row: int | None = ROW) -> Handset:
-    """The handset that hears the cell."""
+    """Returns the handset that receives the cell."""
     assert PROGRAM is not None
     return Handset(PROGRAM, esn=SERIAL, row=row, offset=OFFSET)
 
@@ -48,7 +48,7 @@ def fed(relay: Relay, parts: NDArray[numpy.int8] | NDArray[numpy.int16], first: 
 
 
 def relayed(parts: NDArray[numpy.int8], offset: int, seams: Sequence[float], row: int = ROW) -> tuple[Relay, Collected]:
-    """What is heard of a cell's chips with seams wanted at seconds."""
+    """Returns what is decoded from a cell's chips, with seams wanted at these seconds."""
     heard, first = Collected(), -64 * offset % PERIOD
     wanted = [first + int(CHIP_RATE * seam) for seam in seams]
     relay = Relay(handset(row), heard, first, LEAST_OVERLAP, wanted)
@@ -61,13 +61,13 @@ def relayed(parts: NDArray[numpy.int8], offset: int, seams: Sequence[float], row
 
 
 def told(heard: Collected, offset: int) -> list[str]:
-    """The lines, counted from the cell's first chip."""
+    """Returns the lines, counted from the cell's first chip."""
     return [event.counted_from(-64 * offset % PERIOD) for event in heard.events]
 
 
 @unittest.skipUnless(PROGRAM, NO_PROGRAM)
 class SeamTest(unittest.TestCase):
-    """Seams at many places of a cell with the longest messages; CDMA_LISTEN_SEAMS tells how many."""
+    """Seams at many places of a cell with the longest messages; CDMA_LISTEN_SEAMS gives their number."""
 
     SECONDS = 5.5 + 0.75 * SEAMS
 
@@ -87,7 +87,7 @@ class SeamTest(unittest.TestCase):
         self.check_places(relay, sent)
 
     def check_places(self, relay: Relay, sent: Sent) -> None:
-        """That seams lie in sync messages, in runs of pages and in messages of the traffic channel."""
+        """Checks that seams lie in sync messages, in runs of pages and in messages of the traffic channel."""
         first = -64 * PN % PERIOD
         for kind, least in (("sync", CHIP_RATE), ("paging", CHIP_RATE // 20), ("traffic", CHIP_RATE)):
             spans = [
@@ -106,12 +106,12 @@ class SeamTest(unittest.TestCase):
 
 @unittest.skipUnless(PROGRAM, NO_PROGRAM)
 class DirectionTest(unittest.TestCase):
-    """Seams round a direction to another row of the same cell."""
+    """Seams around a direction to another row of the same cell."""
 
     OFFSET_OF_CELL, CHANGE, END, DIRECTION = 301, 12, 22, 400  # seconds, and the frame that carries the direction
 
     def frames(self, seed: int, count: int, direction: int | None) -> list[str]:
-        """Lines of frames; one of them directs a handset to row 12 of this cell, at once."""
+        """Returns frame lines; one frame directs a handset to row 12 of this cell, at once."""
         draws = random.Random(seed)
         lines = []
         for number in range(count):
@@ -124,7 +124,7 @@ class DirectionTest(unittest.TestCase):
         return lines
 
     def script(self, start: int, end: int) -> str:
-        """The script of some seconds: row 10 is silent from the change on."""
+        """Returns the script of some seconds: row 10 is silent from the change on."""
         lines = [
             f"cell pn={self.OFFSET_OF_CELL} time=123456789 lc=078414c343d checks=0",
             f"link re=1 im=0 start={start * CHIP_RATE} samples={(end - start) * CHIP_RATE}",
@@ -154,7 +154,7 @@ class DirectionTest(unittest.TestCase):
 
 @unittest.skipUnless(PROGRAM, NO_PROGRAM)
 class LossTest(unittest.TestCase):
-    """Losses that a lock sees, and one that it can't see."""
+    """Losses that a lock detects, and one that it cannot detect."""
 
     cell: ClassVar[NDArray[numpy.int8]]
 
@@ -163,7 +163,7 @@ class LossTest(unittest.TestCase):
         cls.cell = made_cell(PROGRAM or "", 12)
 
     def heard(self, relay: Relay, heard: Collected) -> list[str]:
-        """The lines when the chips have ended."""
+        """Returns the lines when the chips have ended."""
         try:
             relay.finish()
         finally:
@@ -212,18 +212,18 @@ class LossTest(unittest.TestCase):
 
 
 def noise_of(count: int, level: float) -> NDArray[numpy.int16]:
-    """Parts of `count` chips of noise, with a root of their mean square."""
+    """Returns noise of `count` chips, with a given root mean square."""
     return numpy.random.default_rng(count).normal(0, level, 2 * count).round().astype(numpy.int16)
 
 
 def level_of(parts: NDArray[Any]) -> float:
-    """The root of the mean square of parts."""
+    """Returns the root mean square of I and Q values."""
     return float(numpy.sqrt(numpy.mean(parts.astype(float) ** 2)))
 
 
 @unittest.skipUnless(PROGRAM, NO_PROGRAM)
 class FadeTest(unittest.TestCase):
-    """Runs that would begin within a fade, in which there is noise in the cell's place."""
+    """Runs that would begin within a fade, which has noise instead of the cell."""
 
     SECONDS, OVERLAP, SEAM = 22, 6.0, 14.0
     BEGIN = SEAM - OVERLAP  # of the second run, in seconds, but for some chips
@@ -243,13 +243,13 @@ class FadeTest(unittest.TestCase):
         self.addCleanup(counted.stop)
 
     def faded(self, begin: float, end: float) -> NDArray[numpy.int16]:
-        """The cell's chips with a fade between two seconds."""
+        """Returns the cell's chips with a fade between two seconds."""
         low, high = (int(CHIP_RATE * second) for second in (begin, end))
         noise = noise_of(high - low, level_of(self.cell[: 2 * CHIP_RATE]))
         return numpy.concatenate([self.cell[: 2 * low], noise, self.cell[2 * high :]], dtype=numpy.int16)
 
     def lines(self, parts: NDArray[Any], seams: Sequence[float]) -> list[str]:
-        """What is heard of chips with seams wanted at seconds."""
+        """Returns what is decoded from chips, with seams wanted at these seconds."""
         first = -64 * PN % PERIOD
         wanted = [first + int(CHIP_RATE * seam) for seam in seams]
         relay = Relay(handset(), self.heard, first, int(self.OVERLAP * CHIP_RATE), wanted)
@@ -262,7 +262,7 @@ class FadeTest(unittest.TestCase):
         return told(self.heard, PN)
 
     def check_missing(self, lines: list[str], begin: float, end: float) -> None:
-        """That nothing is missing, nor too many, but for what lies between two seconds in part."""
+        """Checks that nothing is missing or extra except what lies, in part, between two seconds."""
         sent, count = Sent(script_of(1, 1, 0, PIECE)), self.SECONDS * CHIP_RATE
         result = compared(sent, lines, count)
         begins = {line.at: line.begin for line in sent.lines(count)}
@@ -275,11 +275,11 @@ class FadeTest(unittest.TestCase):
         self.assertGreater(result.owed.total() - result.missing.total(), 45 * (self.SECONDS - 4 - (end - begin)))
 
     def remarks(self) -> list[str]:
-        """What was remarked."""
+        """Returns the remarks."""
         return [remark.text for remark in self.heard.remarks]
 
     def late(self, seconds: float) -> str:
-        """The remark that a run begins some seconds late."""
+        """Returns the remark that a run begins some seconds late."""
         return f"the pilot was in a fade when a run was due: it begins {seconds:.1f} s late"
 
     def test_no_run_begins_within_a_fade(self) -> None:
@@ -330,7 +330,8 @@ class BeginningTest(unittest.TestCase):
     NUMBER = 5 * PERIOD + 1_234
 
     def parts(self, shares: Sequence[float], phase: int = NUMBER) -> NDArray[numpy.complex64]:
-        """Stretches of 2,048 chips, of whose power a pilot has the shares, the first chip of which has a number."""
+        """Returns stretches of 2,048 chips, in which a pilot has these shares of the power; the first chip has a
+        number."""
         draws = numpy.random.default_rng(3)
         amplitude = numpy.repeat(numpy.sqrt(numpy.array(shares) / 2), 2_048)
         noise = numpy.repeat(numpy.sqrt((1 - numpy.array(shares)) / 2), 2_048)
@@ -383,7 +384,7 @@ class BeginningTest(unittest.TestCase):
 
 @unittest.skipUnless(PROGRAM, NO_PROGRAM)
 class PhaseTest(unittest.TestCase):
-    """What a run tells of its pilot, against the numbers of its chips."""
+    """The pilot that a run reports, against the numbers of its chips."""
 
     def test_another_pilot_is_told(self) -> None:
         # Where the numbers aren't the pilot's, so that it isn't found by them, the run begins 2.5 seconds later.
@@ -405,7 +406,7 @@ class PhaseTest(unittest.TestCase):
 
 @unittest.skipUnless(PROGRAM, NO_PROGRAM)
 class RunTest(unittest.TestCase):
-    """A run by itself."""
+    """A single run."""
 
     def test_a_program_that_ends_is_told(self) -> None:
         with self.assertRaisesRegex(Refused, "follow ended with status 2: bad words$"):

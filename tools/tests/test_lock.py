@@ -29,7 +29,7 @@ class Found(Recordings):
     parted, seconds = True, 10
 
     def holds(self, found: dict[str, str], carrier: float, clock: float, ec_io: float) -> None:
-        """That the figures are the recording's, within what half a second shows."""
+        """Asserts that the figures are the recording's, within the accuracy of half a second."""
         self.assertAlmostEqual(float(found["carrier_hz"]), carrier, delta=4)
         self.assertAlmostEqual(float(found["clock_ppm"]), clock, delta=0.1)
         self.assertAlmostEqual(float(found["ec_io_db"]), ec_io, delta=0.1)
@@ -247,7 +247,7 @@ class Refusals(Recordings):
     CHIPS = 100_000
 
     def raw(self, samples: NDArray[Any]) -> tuple[str, ...]:
-        """The arguments of a recording of these samples."""
+        """Returns the arguments of a recording of these samples."""
         scaled = samples / numpy.abs(samples).max() * 20_000
         numpy.stack([scaled.real, scaled.imag], axis=1).astype("<i2").tofile(self.at("none.raw"))
         return (self.at("none.raw"), "--type", "ci16_le", "--rate", "2400000")

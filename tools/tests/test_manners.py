@@ -52,7 +52,7 @@ class Folder(unittest.TestCase):
         self.lines = self.keep("survey.txt", SURVEY)
 
     def at(self, name: str) -> str:
-        """The path of a file in the folder."""
+        """Returns the path of a file in the folder."""
         return os.path.join(self.folder, name)
 
     def keep(self, name: str, data: bytes, mode: int = 0o644) -> str:
@@ -63,21 +63,21 @@ class Folder(unittest.TestCase):
         return self.at(name)
 
     def curve_words(self) -> list[str]:
-        """The arguments of a curve of an example."""
+        """Returns the arguments of a curve of an example."""
         return [*"--from 1 --to 1 --step 1 --frames 1".split(), os.path.join(EXAMPLES, "frames_9600.script")]
 
     def fake_program(self, fault: str = "") -> str:
-        """A stand-in for the program that makes and hears the frames of that example, with a fault."""
+        """Returns a stand-in for the program that makes and decodes the frames of that example, with a fault."""
         fake = os.path.join(ROOT, "tools", "tests", "fake_receiver.py")
         script = os.path.join(EXAMPLES, "frames_9600.script")
         return self.program("fake", f"FAKE_SCRIPT='{script}' FAKE_FAULT={fault} exec {PYTHON} -S -B {fake} \"$@\"\n")
 
     def program(self, name: str, text: str) -> str:
-        """A program of the shell."""
+        """Returns a program that is a shell script."""
         return self.keep(name, b"#!/bin/sh\n" + text.encode(), 0o755)
 
     def meta(self, name: str, **told: object) -> str:
-        """A .sigmf-meta of the raw samples, with other fields in its place."""
+        """Returns a .sigmf-meta of the raw samples, with other fields."""
         fields = {"core:datatype": "ci8", "core:sample_rate": 2_457_600, "core:dataset": "radio.ci8", **told}
         return self.keep(name, json.dumps({"global": fields, "captures": [{}]}).encode())
 
@@ -175,10 +175,10 @@ class Numbers(unittest.TestCase):
 
 
 class WrongInput(Folder):
-    """Each is refused in one line, with a status of its own, and nothing is written."""
+    """Each is refused in one line, with its own status, and nothing is written."""
 
     def refused(self, status: int, why: str, tool: str, *words: object) -> None:
-        """A run that ends so, in one line, and leaves the folder as it was."""
+        """Asserts that a run ends with this reason in one line, and leaves the folder unchanged."""
         before = {name: os.stat(self.at(name)).st_mtime_ns for name in os.listdir(self.folder)}
         with self.subTest(tool=tool, words=words):
             ended, wrote, said = run_main(tool, *words)
@@ -286,7 +286,7 @@ class WrongInput(Folder):
             self.refused(status, why, tool, *words)
 
     def test_files_without_an_end(self) -> None:
-        """No more is read of a device than a file may have."""
+        """No more is read from a device than a file may have."""
         meta, survey = self.at("in.sigmf-meta"), ("draw", "survey", self.at("a.png"))
         os.symlink("/dev/zero", meta)
         curve = ("--program", "/bin/false", "--out", self.at("out"), *self.curve_words())
@@ -337,7 +337,7 @@ class WrongInput(Folder):
 
 
 class TheProgram(Folder):
-    """The one way to the program."""
+    """How tools find the program."""
 
     def test_the_order(self) -> None:
         named = self.program("one", "exit 0\n")
@@ -390,10 +390,10 @@ class TheProgram(Folder):
 
 
 class Outputs(Folder):
-    """FIFOs, devices and links are written through; - is standard output; a plain file is whole or as it was."""
+    """FIFOs, devices and links are written through; - is standard output; a regular file is complete or unchanged."""
 
     def drawn(self, place: str) -> subprocess.CompletedProcess[bytes]:
-        """A picture that is drawn to a place."""
+        """Returns a picture that is drawn to a place."""
         words = [PYTHON, "-B", os.path.join(ROOT, "tools", "draw"), "survey", place, self.lines]
         return subprocess.run(words, capture_output=True, timeout=SECONDS)
 
@@ -504,7 +504,7 @@ class ClosedPipes(Folder):
 
     @unittest.skipUnless(importlib.util.find_spec("distributed"), "no distributed: install python3-distributed")
     def test_a_curve_keeps_what_it_counted(self) -> None:
-        """Its CSV and its picture are there though nobody takes its table."""
+        """Its CSV and its picture are complete although nobody reads its table."""
         words = ["--program", self.fake_program(), "--workers", "1", "--out", self.at("out"), *self.curve_words()]
         reader, writer = os.pipe()
         os.close(reader)
@@ -538,7 +538,7 @@ class Random(unittest.TestCase):
         self.assertTrue(wrote.endswith(b"100 runs of tools, seed 3, 0 faults\n"))
 
     def test_a_fault_is_told(self) -> None:
-        """A tool that ends with a traceback, a warning, several lines or another status is seen."""
+        """A tool that ends with a traceback, a warning, several lines or another status is detected."""
         for status, said, why in (
             (0, "", ""), (1, "scan: none\n", ""), (2, "scan: none\n", ""), (3, "", "no status of the tool"),
             (1, "Traceback (most recent call last):\n", "a traceback or a warning"),
@@ -550,9 +550,9 @@ class Random(unittest.TestCase):
 
 
 class Interrupts(Folder):
-    """Ctrl-C, to the group as a terminal sends it, ends a tool with one line and status 130, and leaves no process.
+    """Ctrl-C, sent to the group as a terminal does, ends a tool with one line and status 130, and leaves no process.
 
-    So does SIGTERM, as `timeout` sends it to the group.
+    So does SIGTERM, sent to the group as `timeout` does.
     """
 
     parted, seconds = True, 15
@@ -566,7 +566,7 @@ class Interrupts(Folder):
         marker: str = "",
         number: signal.Signals = signal.SIGINT,
     ) -> None:
-        """A run that is interrupted when a file is there, or some seconds after it has begun."""
+        """Interrupts a run once a file exists, or some seconds after it has begun."""
         command = [os.path.join(ROOT, way), *words]
         child = subprocess.Popen(
             command,
@@ -590,7 +590,7 @@ class Interrupts(Folder):
         self.assertFalse([name for name in os.listdir(self.folder) if name.startswith(".part-")])
 
     def slow(self, number: int) -> tuple[str, str]:
-        """A program that takes its time once it has made a file, and that file."""
+        """Returns a program that waits once it has made a file, and the path of that file."""
         marker = self.at(f"begun{number}")
         return self.program(f"slow{number}", f"touch '{marker}'\nexec sleep 50\n"), marker
 
@@ -621,7 +621,7 @@ class Interrupts(Folder):
 
     @unittest.skipUnless(importlib.util.find_spec("distributed"), "no distributed: install python3-distributed")
     def test_a_cluster(self) -> None:
-        """A curve that two workers count, each of them under way."""
+        """A curve that two workers count, both of them busy."""
         words = ["--program", self.fake_program("slow"), "--workers", "2", "--out", self.at("out"), *self.curve_words()]
         words += "--frames 100000 --errors 100000".split()  # so that it never ends by itself
         self.broken_off("tools/curve", *words, said="goes on from what", marker=self.at("out/counts.sqlite"), waits=5)
@@ -636,7 +636,7 @@ class Interrupts(Folder):
         os.mkfifo(fifo)
 
         def hold_open() -> None:
-            """Makes a file once someone reads the pipe, and keeps the pipe open until the test is over."""
+            """Makes a file once someone reads the pipe, and keeps the pipe open until the test ends."""
             with open(fifo, "wb"), open(opened, "wb"):
                 over.wait(SECONDS)
 
@@ -646,14 +646,14 @@ class Interrupts(Folder):
 
 
 def end_group(child: subprocess.Popen[bytes]) -> None:
-    """Ends what is left of a run's group, so that a test that failed leaves nothing that computes on."""
+    """Ends what is left of a run's group, so that a failed test leaves no process that computes."""
     with contextlib.suppress(ProcessLookupError):
         os.killpg(child.pid, signal.SIGKILL)
     child.communicate()
 
 
 def hear() -> None:
-    """Lets a process hear interrupts, though the tests themselves may run under a shell that has them ignored."""
+    """Makes a process receive interrupts, even if the tests run under a shell that ignores them."""
     signal.signal(signal.SIGINT, signal.SIG_DFL)
 
 

@@ -42,17 +42,18 @@ SHORT_SPAN = 256
 
 
 def cell_of(re: int, im: int, pilot: int) -> Cell:
-    """A cell of such a link and pilot, with nothing else."""
+    """Returns a cell with this link and pilot, and nothing else."""
     return Cell(re=re, im=im, pilot_gain=pilot)
 
 
 def script_of(re: int, im: int, gains: dict[int, int]) -> Script:
-    """The same as the tools read it, with channels of these gains."""
+    """Returns the same as the tools read it, with channels of these gains."""
     return Script(complex(re, im), 0, 1, 0, gains, (), ())
 
 
 class Worked(unittest.TestCase):
-    """Margins by hand: over a link along one axis what is less than the channel's own amplitude, and otherwise by products."""
+    """Margins by hand: over a link along one axis whatever is less than the channel's own amplitude, otherwise by
+    products."""
 
     # re, im, the pilot's gain, the channel's, and the margin. With -2 + j, 200 and 60 noise of 131 takes the pilot's level
     # from -400 + 200 j to -400 + 69 j and the channel's from -120 + 60 j to 11 + 60 j, whose product has the real part
@@ -90,7 +91,7 @@ class Worked(unittest.TestCase):
 
 
 def scripts() -> Iterator[tuple[str, bytes]]:
-    """The names and texts of the examples, of the cells of the cases with noise, and of cells that are drawn."""
+    """Returns the names and texts of the examples, of the cells of the cases with noise, and of drawn cells."""
     for name in sorted(os.listdir(EXAMPLES)):
         if name.endswith(".script"):
             yield name, example(name)
@@ -104,7 +105,7 @@ def scripts() -> Iterator[tuple[str, bytes]]:
 
 
 def direct_energies(cell: Cell, span: int) -> list[int]:
-    """The energies of a cell's first samples at all phases, each added up sample by sample in whole numbers."""
+    """Returns the energies of a cell's first samples at all phases, each summed sample by sample in whole numbers."""
     clean = next(samples(cell))[:span]
     codes = np.concatenate([POINTS, POINTS[: span - 1]])
     parts = [[np.rint(part).astype(np.int64) for part in (one.real, one.imag)] for one in (clean, codes)]
@@ -115,14 +116,14 @@ def direct_energies(cell: Cell, span: int) -> list[int]:
 
 
 def finds_through(roots: Roots, found: list[int], own: int, noise: int) -> bool:
-    """Whether the search bears noise of a size, by these roots: each energy stands on its side of them."""
+    """Returns whether the search bears noise of a size, by these roots: each energy stays on its side of them."""
     others = max(energy for phase, energy in enumerate(found) if phase != own)
     is_apart = roots.others + 4 * noise * roots.span < roots.own
     return is_apart and roots.own**2 <= found[own] and others <= roots.others**2
 
 
 class Twenty(unittest.TestCase):
-    """Margins of many scripts by two formulas, and those of the search by energies that are added up one by one."""
+    """Margins of many scripts by two formulas, and those of the search by energies that are summed one by one."""
 
     def test_the_margins_of_twenty_scripts(self) -> None:
         looked_at = 0
@@ -142,7 +143,7 @@ class Twenty(unittest.TestCase):
         self.assertGreaterEqual(looked_at, 20)
 
     def test_the_search_of_examples(self) -> None:
-        """A is 2 N times the pilot's amplitude where all other channels are away in the mean of N samples."""
+        """A is 2 N times the pilot's amplitude if all other channels cancel in the mean of N samples."""
         for name, margin, own in ((SECOND, 138, 2 * 2_048 * 300), (CALL, 275, 2 * 2_048 * 600)):
             with self.subTest(name):
                 text = example(name)
@@ -180,7 +181,7 @@ class Tool(unittest.TestCase):
         self.assertEqual(rows[4], ["all", "of", "these", "89"])
 
     def test_the_last_line_is_the_least_of_all_rows(self) -> None:
-        """A louder paging channel lets the search bear less than the sync channel does."""
+        """With a louder paging channel the search bears less than the sync channel does."""
         loud = example(SECOND).replace(b"paging channel=1 gain=60", b"paging channel=1 gain=400")
         loud = loud.replace(b"sync gain=30", b"sync gain=60")
         status, wrote, _ = self.told("--json", "-", data=loud)
@@ -240,10 +241,11 @@ class Tool(unittest.TestCase):
 
 
 class File(unittest.TestCase):
-    """What the law by signs covers of files: without noise, with noise, of another cell, and changed by hand.
+    """The files that the law by signs covers: without noise, with noise, of another cell, and changed by hand.
 
     A soft value without noise is 4 V C g g0 |h|^2, where V and C are the chips of a window and of a symbol. The first
-    whole sending sets the mark: it begins at sample 32,704, has three superframes, and tells the time of four later.
+    whole sending sets the mark: it begins at sample 32,704, has three superframes, and gives the time of four
+    superframes later.
     """
 
     SYNC, SYNC_SOFT = 25, 4 * 1_024 * 256 * 30 * 100 * 9
@@ -260,31 +262,31 @@ class File(unittest.TestCase):
 
     @classmethod
     def put(cls, name: str, data: bytes) -> str:
-        """The path of a file in the folder."""
+        """Returns the path of a file in the folder."""
         path = os.path.join(cls.folder, name)
         with open(path, "wb") as file:
             file.write(data)
         return path
 
     def made(self, noise: Noise = Noise(), change: tuple[bytes, bytes] = (b"", b"")) -> NDArray[Any]:
-        """The cell's samples with noise, or those of a cell whose script is changed."""
+        """Returns the cell's samples with noise, or those of a cell whose script is changed."""
         return received(16, [read_script(self.text.replace(*change), 16)], [], noise)
 
     def wrote(self, total: NDArray[Any], *words: str, flags: int = 0, script: str = "") -> tuple[int, str, str]:
-        """The status of the tool over such samples and a script, what it wrote, and what it said."""
+        """Runs the tool over these samples and a script; returns its status, its output and its standard error."""
         path = self.put("made.is95", header_bytes(16, flags, len(total)) + sample_bytes(16, total))
         status, wrote, said = run_inside("margin", "--file", path, *words[:1], script or self.script, *words[1:])
         return status, wrote.decode(), said
 
     def rows(self, total: NDArray[Any], script: str = "") -> list[list[Any]]:
-        """The rows over such samples: name, first, frames, covered, least."""
+        """Returns the rows over these samples: name, first, frames, covered, least."""
         status, wrote, said = self.wrote(total, "--json", script=script)
         self.assertEqual((status, said), (0, ""))
         found = [json.loads(line) for line in wrote.splitlines()]
         return [[row[name] for name in ("name", "first", "frames", "covered", "least")] for row in found]
 
     def expect(self, total: NDArray[Any], sync: tuple[int, float], paging: tuple[int, float]) -> None:
-        """These numbers of frames of the channels are covered, with these least soft values."""
+        """Asserts that these numbers of frames of the channels are covered, with these least soft values."""
         self.assertEqual(self.rows(total), [
             ["sync", 32_704, self.SYNC, *sync], ["paging 1", self.MARK, self.PAGING, *paging],
         ])  # fmt: skip
@@ -327,7 +329,7 @@ class File(unittest.TestCase):
         self.assertIn("no message sets the cell's mark", self.wrote(other)[1])
 
     def test_what_is_covered_is_heard(self) -> None:
-        """Noise of four times the margin turns no symbol here, and what was sent comes back, as the law has it."""
+        """Noise of four times the margin flips no symbol here, and what was sent is received, as the law claims."""
         total = self.made(Noise(uniform=(7, 4 * 89)))
         sync, paging = self.rows(total)
         self.assertEqual((sync[3], paging[3]), (self.SYNC, self.PAGING))
@@ -384,10 +386,11 @@ class File(unittest.TestCase):
 
 
 class Beyond(unittest.TestCase):
-    """The bound isn't idle: noise of one more than the margin, against the channel's chips, loses what is sent."""
+    """The bound is tight: noise of one more than the margin, against the channel's chips, loses what is sent."""
 
     def lines(self, size: int) -> list[str]:
-        """What the model hears of the example's first 0.4 seconds with noise of a size against the sync channel."""
+        """Returns what the model decodes from the example's first 0.4 seconds, with noise of a size against the sync
+        channel."""
         text = example(SECOND).replace(b"samples=1228800", b"samples=500000")
         cell = read_script(text, 16)
         total = received(16, [cell], [], Noise(against=(SYNC_ROW, size)))

@@ -1,4 +1,4 @@
-"""The model of model/, against values that were worked out elsewhere, and against enumeration where that is possible."""
+"""The model of model/, against values that were worked out elsewhere, and against enumeration where possible."""
 
 import io
 import itertools
@@ -25,7 +25,7 @@ ENCODED = [int(digit) for digit in "111011110110001011"]
 
 
 def asked(words: str, data: bytes = b"") -> Outcome:
-    """A run of the model."""
+    """Runs the model."""
     return run(words.split(), io.BytesIO(data).read)
 
 
@@ -88,17 +88,17 @@ class Coding(unittest.TestCase):
 
 
 def scored(softs: NDArray[Any], start: int, bits: Bits) -> int:
-    """The score of a word, as docs/LINK.md has it."""
+    """Returns the score of a word, as defined in docs/LINK.md."""
     return int(np.sum(softs * (1 - 2 * coding.code_symbols(start, bits))))
 
 
 def in_order(words: list[tuple[int, int, Bits]]) -> list[tuple[int, int, Bits]]:
-    """Words by score, and then as binary numbers read from the last bit to the first start bit."""
+    """Returns words by score, then as binary numbers read from the last bit to the first start bit."""
     return sorted(words, key=lambda word: (-word[0], (spelled(8, word[1]) + word[2])[::-1]))
 
 
 class Words(unittest.TestCase):
-    """All words are tried: with few bits, and soft values of which many are equal, so that there are ties."""
+    """All words are tried: with few bits, and with many equal soft values, so that there are ties."""
 
     def test_a_worked_word(self) -> None:
         softs = np.array([[1 - 2 * symbol for symbol in ENCODED], [0] * 18])
@@ -131,7 +131,7 @@ class Words(unittest.TestCase):
 
 
     def test_sent_words_are_the_first(self) -> None:
-        """Soft values of the signs of a word's symbols, of any size: the word's score is their absolute sum."""
+        """Soft values with the signs of a word's symbols, of any size: the word's score is the sum of their sizes."""
         rng = random.Random(8)
         for bits, zero_ends in ((576, False), (192, True)):
             start = 0 if zero_ends else 0o266
@@ -143,7 +143,7 @@ class Words(unittest.TestCase):
             self.assertEqual(lists.first_codewords(2, softs, zero_ends)[0], (sizes.sum(), sent))
 
     def test_nothing_heard(self) -> None:
-        """Of nine bits with eight zeros at the end there are two words, which score nothing: the lesser comes first."""
+        """Of nine bits with eight zeros at the end there are two words, which both score 0: the lesser comes first."""
         softs = np.zeros(18, np.int64)
         scores, _, bits = coding.best_codewords(softs[None, :], zero_ends=True)
         self.assertEqual((scores[0], bits[0].tolist()), (0, [0] * 9))
@@ -162,7 +162,7 @@ class Messages(unittest.TestCase):
         self.assertIsNone(messages.body_of(capsule[:-1] + [1 - capsule[-1]], False))
 
     def test_half_frames(self) -> None:
-        """A capsule of 94 octets leaves just the 8 bits in which the next one's length stands; one of 11 leaves 7."""
+        """A capsule of 94 octets leaves only the 8 bits of the next one's length; one of 11 leaves 7."""
         pages = [messages.capsule_of([1] * (8 * octets - 38), False) for octets in (94, 6, 11)]
         stream = pages[0] + pages[1] + [0] * (-len(pages[0] + pages[1]) % 95)
         halves = [[int(at == 0)] + stream[at : at + 95] for at in range(0, len(stream), 95)]

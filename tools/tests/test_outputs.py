@@ -1,4 +1,4 @@
-"""That no tool writes over one of its inputs, and that a listening changes no file that no listening wrote."""
+"""No tool writes over one of its inputs, and listening changes no file that `listen` did not write."""
 
 from __future__ import annotations
 
@@ -91,7 +91,7 @@ CONTENTS = {"no line feed": b"my notes", "text": b"one\ntwo\n", "binary": bytes(
 
 
 def actions_of(parser: argparse.ArgumentParser) -> Iterator[argparse.Action]:
-    """The arguments of a command line, and those of its commands."""
+    """Yields the arguments of a command line, and those of its commands."""
     for action in parser._actions:
         if isinstance(action, argparse._SubParsersAction):
             for other in action.choices.values():
@@ -101,7 +101,7 @@ def actions_of(parser: argparse.ArgumentParser) -> Iterator[argparse.Action]:
 
 
 def arguments() -> Iterator[tuple[str, argparse.Action]]:
-    """Each argument of each command that has a command line."""
+    """Yields each argument of each command that has a command line."""
     for name in COMMANDS:
         module = importlib.import_module(f"cdma_tools.commands.{name}")
         if hasattr(module, "parser"):
@@ -110,7 +110,7 @@ def arguments() -> Iterator[tuple[str, argparse.Action]]:
 
 
 def made_by(action: argparse.Action) -> Any:
-    """What an argument makes of the name of a file."""
+    """Returns what an argument makes of the name of a file."""
     with contextlib.suppress(argparse.ArgumentTypeError, ValueError):
         return action.type("x.png") if callable(action.type) else None
     return None
@@ -118,7 +118,7 @@ def made_by(action: argparse.Action) -> Any:
 
 @dataclass(frozen=True)
 class State:
-    """What a file has, and what is known of it."""
+    """The contents of a file, and its metadata."""
 
     data: bytes
     inode: int
@@ -126,24 +126,24 @@ class State:
 
     @staticmethod
     def of(path: str) -> "State":
-        """The state of a file."""
+        """Returns the state of a file."""
         found = os.stat(path)
         with open(path, "rb") as file:
             return State(file.read(), found.st_ino, found.st_mtime_ns)
 
 
 class Folder(unittest.TestCase):
-    """A folder of its own for each test."""
+    """A separate folder for each test."""
 
     def setUp(self) -> None:
         self.folder = temporary_folder(self.addCleanup)
 
     def at(self, name: str) -> str:
-        """The path of a file in the folder."""
+        """Returns the path of a file in the folder."""
         return os.path.join(self.folder, name)
 
     def keep(self, name: str, data: bytes) -> str:
-        """Makes a file that is older than all that a tool would write."""
+        """Makes a file that is older than anything that a tool would write."""
         os.makedirs(os.path.dirname(self.at(name)), exist_ok=True)
         with open(self.at(name), "wb") as file:
             file.write(data)
@@ -158,14 +158,14 @@ class Folder(unittest.TestCase):
 
     @contextlib.contextmanager
     def unchanged(self, *paths: str) -> Iterator[None]:
-        """That files stay as they are, to the time of their last change, and that no file is added."""
+        """Asserts that files keep their contents and the time of their last change, and that no file is added."""
         before, names = [State.of(path) for path in paths], sorted(os.listdir(self.folder))
         yield
         self.assertEqual([State.of(path) for path in paths], before)
         self.assertEqual(sorted(os.listdir(self.folder)), names)
 
     def refused(self, tool: str, words: list[str], output: str, why: str = "") -> None:
-        """That a run is refused in one line that names the output, and says why."""
+        """Asserts that a run is refused in one line that names the output and gives the reason."""
         status, wrote, said = run_inside(tool, *words)
         self.assertEqual((status, wrote), (FAILED_AS.get(tool, FAILED), b""), said)
         self.assertEqual(said.count("\n"), 1, said)
@@ -194,7 +194,7 @@ class EachOutputTest(Folder):
         self.assertEqual(found, set(CASES) | NO_INPUT | UPDATED)
 
     def ways(self, tool: str, data: bytes) -> Iterator[tuple[str, str, str]]:
-        """Each way to the same file: its name, the input and the output, a picture by its name."""
+        """Yields each way to the same file: its name, the input and the output, a picture by its name."""
         folder = self.at("folder")
         end = IN_FOLDERS.get(tool)
         own = self.keep(os.path.join("folder", end) if end else "folder/own.png", data)
@@ -251,7 +251,7 @@ class RecordingTest(Folder):
     """The two files of a SigMF recording: whichever is named, both are protected."""
 
     def lines(self, meta: str, samples: str) -> Iterator[tuple[str, list[str], str]]:
-        """Command lines that name one of the files as the input and one as the output."""
+        """Yields command lines that name one of the files as the input and one as the output."""
         listen = ["--program", "/bin/true", "--out"]
         for given in (meta, samples):
             own = [] if given == meta else RAW.split()
@@ -269,7 +269,7 @@ class RecordingTest(Folder):
                 self.refused(tool, words, output)
 
     def test_by_the_name_of_its_samples(self) -> None:
-        """A data file of another name, which the metadata tells, is protected as well."""
+        """A data file of another name, given by the metadata, is protected too."""
         meta, samples = self.recording("own", **{"core:dataset": "radio.bin"})
         os.rename(samples, self.at("radio.bin"))
         for tool, words, output in self.lines(meta, self.at("radio.bin")):
@@ -284,7 +284,7 @@ class RecordingTest(Folder):
         self.refused("domain", [*RAW.split(), self.at("radio.bin"), "--json", meta], meta, "the metadata of the input")
 
     def test_metadata_of_another_recording_are_replaced(self) -> None:
-        """A recording that was made of a cell stands beside it, and is made again."""
+        """A recording made from a cell is next to it, and is made again."""
         cell = self.keep("cell.is95", sample_file([(100, -100), (-100, 100)] * 400))
         for _ in range(2):
             self.assertEqual(run_inside("channel", cell, self.at(f"cell{META}"))[0], 0)
@@ -304,13 +304,13 @@ class RecordingTest(Folder):
 
 
 class ListeningFileTest(Folder):
-    """Files that a listening is to add to."""
+    """Files to which `listen` is to append."""
 
     LINES = b"pilot phase=64 energy=1509949440000\n" + b"".join(FRAME % at for at in range(24_576, 700_000, 24_576))
     OBJECTS = b'{"line":"pilot","phase":64,"energy":1509949440000}\n'
 
     def listen(self, out: str, *more: str) -> tuple[int, bytes, str]:
-        """A listening to an empty stream."""
+        """Listens to an empty stream."""
         return run_inside("listen", *RAW.split(), "--program", "/bin/true", "-", "--out", out, *more)
 
     def test_files_that_no_listening_wrote(self) -> None:
@@ -370,7 +370,7 @@ class ListeningFileTest(Folder):
 
 
 class SpecialOutputTest(Folder):
-    """Outputs that are no plain files: they end as a shell expects."""
+    """Outputs that are not regular files: they end as a shell expects."""
 
     seconds = 8
 
@@ -382,7 +382,7 @@ class SpecialOutputTest(Folder):
         os.mkfifo(self.fifo)
 
     def read_from_fifo(self, came: list[bytes]) -> threading.Thread:
-        """Puts what comes out of the FIFO into a list when its writer has ended."""
+        """Appends the FIFO's contents to a list once its writer has ended."""
 
         def read() -> None:
             with open(self.fifo, "rb") as file:
@@ -423,7 +423,7 @@ class SpecialOutputTest(Folder):
                     self.refused(tool, words, self.fifo, "nothing has read this FIFO")
 
     def test_a_reader_that_goes_away(self) -> None:
-        """It ends the tool as a closed pipe does: quietly, with status 1."""
+        """It ends the tool like a closed pipe: quietly, with status 1."""
         channel = f"{PYTHON} -B {ROOT}/tools/channel {self.cell} {self.fifo}"
         shell = f"{channel} & head -c 10 {self.fifo} | wc -c; wait $!"
         ran = subprocess.run(["bash", "-c", shell], capture_output=True, timeout=120)
@@ -437,7 +437,7 @@ class SpecialOutputTest(Folder):
                 output.write(b"line\n")
 
     def test_open_files_keep_what_they_have(self) -> None:
-        """What /dev/stdout stands for is added to, and not replaced."""
+        """Output to /dev/stdout is appended, and does not replace the file."""
         out, file = self.at("out"), self.at("file")
         shell = f"(echo first; {PYTHON} -B {ROOT}/tools/channel {self.cell} /dev/stdout) > {out}"
         self.assertEqual(subprocess.run(["bash", "-c", shell], stderr=subprocess.DEVNULL, timeout=120).returncode, 0)

@@ -1,4 +1,5 @@
-"""tools/package, tools/install and pip: each is laid into an empty root, tried as a user would, and taken away again."""
+"""tools/package, tools/install and pip: each is installed into an empty root, tried as a user would, and removed
+again."""
 
 from __future__ import annotations
 
@@ -31,7 +32,7 @@ STANDS_FOR = "#!/bin/sh\necho bad words >&2\nexit 2\n"
 
 
 def files_below(folder: str) -> list[str]:
-    """The files below a folder."""
+    """Returns the files below a folder."""
     return sorted(
         os.path.relpath(os.path.join(path, name), folder) for path, _, names in os.walk(folder) for name in names
     )
@@ -46,7 +47,7 @@ class Installed(unittest.TestCase):
         os.mkdir(self.work)
 
     def ran(self, prefix: str, *words: str, source: str | None = None) -> subprocess.CompletedProcess[bytes]:
-        """A run of an installed command, elsewhere than in the checkout, which finds the others on the path."""
+        """Runs an installed command outside the checkout; it finds the others on the path."""
         environment = {
             "PATH": f"{prefix}/bin:/usr/bin:/bin",
             "HOME": self.work,
@@ -60,7 +61,7 @@ class Installed(unittest.TestCase):
             )  # fmt: skip
 
     def done(self, prefix: str, *words: str, source: str | None = None, into: str | None = None) -> bytes:
-        """What a run writes that ends well; it is kept in a file where one is named."""
+        """Returns the output of a successful run, and keeps it in a file if one is named."""
         ended = self.ran(prefix, *words, source=source)
         self.assertEqual(ended.returncode, 0, ended.stderr.decode())
         if into:
@@ -69,7 +70,7 @@ class Installed(unittest.TestCase):
         return ended.stdout
 
     def try_out(self, prefix: str) -> None:
-        """A second of paging is made, sent through a channel, imported, followed and reported; and cases are asked."""
+        """Makes a second of paging, sends it through a channel, imports, follows and reports it; and runs cases."""
         for name in tree.commands():
             told = self.done(prefix, name, "--version").decode()
             self.assertEqual(told, f"{name} {cdma_tools.__version__}\n")
@@ -100,7 +101,7 @@ class Installed(unittest.TestCase):
         self.assertRegex(self.done(prefix, "cdma-conformance", *words).decode(), r"^\d+ cases, 0 differ\n\Z")
 
     def check_pages_and_completions(self, prefix: str) -> None:
-        """Manual pages without a complaint, and completions that bash can read."""
+        """Checks that man accepts the manual pages and that bash can read the completions."""
         for name in tree.commands():
             page = os.path.join(prefix, "share", "man", "man1", f"{name}.1")
             if shutil.which("mandoc"):
@@ -118,7 +119,7 @@ class Installed(unittest.TestCase):
 
 @unittest.skipUnless(shutil.which("zsh"), "no zsh: install the package zsh")
 class OfZsh(unittest.TestCase):
-    """What zsh makes of a line and the tabulator."""
+    """What zsh makes of a line and the Tab key."""
 
     def setUp(self) -> None:
         self.folder = temporary_folder(self.addCleanup)
@@ -127,7 +128,7 @@ class OfZsh(unittest.TestCase):
                 file.write(completions.zsh_completion_of(name, module))
 
     def read(self, terminal: int, pattern: bytes) -> bytes:
-        """What a terminal shows up to a pattern's group, which is answered."""
+        """Reads what a terminal shows up to a pattern's group, and returns that."""
         shown, until = b"", time.monotonic() + 60
         while time.monotonic() < until:
             if select.select([terminal], [], [], 0.2)[0]:
@@ -137,7 +138,7 @@ class OfZsh(unittest.TestCase):
         self.fail(f"zsh shows {shown!r}, and not {pattern!r}")
 
     def completed(self, line: str) -> str:
-        """The line after the tabulator, as zsh then runs it after a `print`."""
+        """Returns the line after the Tab key, as zsh then runs it after a `print`."""
         ours, theirs = pty.openpty()
         environment = {"PATH": "/usr/bin:/bin", "HOME": self.folder, "TERM": "dumb"}
         with subprocess.Popen(
@@ -209,7 +210,7 @@ class OfTheProgram(Installed):
         self.assertEqual((ran.returncode, re.findall("(?m)^E: .*", ran.stdout)), (0, []), ran.stdout)
 
     def check_removal(self, package: str) -> None:
-        """What dpkg installs below a root it takes away again, and leaves nothing."""
+        """Checks that dpkg removes everything that it installed below a root."""
         root = os.path.join(self.folder, "below")
         base = os.path.join(root, "var", "lib", "dpkg")
         for name in ("info", "updates", "triggers"):
@@ -286,7 +287,7 @@ class Parts(Installed):
         self.assertEqual(data_folder("examples", package), beside)
 
     def test_pip(self) -> None:
-        """pip installs the tools from a checkout without a network, by only Debian's packages."""
+        """pip installs the tools from a checkout without a network, using only Debian's packages."""
         for module, package in (
             ("pip", "python3-pip"),
             ("setuptools", "python3-setuptools"),

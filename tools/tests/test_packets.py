@@ -1,4 +1,4 @@
-"""tools/lines --pcapng and the dissector: the bits of messages by the model, and what tshark makes of every case."""
+"""tools/lines --pcapng and the dissector: the bits of messages by the model, and what tshark shows of every case."""
 
 import csv
 import io
@@ -75,7 +75,7 @@ MODEL = {
 
 @dataclass(frozen=True)
 class Heard:
-    """A case: its name, its scripts, and the lines that it wants."""
+    """A case: its name, its scripts, and its expected lines."""
 
     name: str
     scripts: list[str]
@@ -92,7 +92,7 @@ class Packet(NamedTuple):
 
 
 def heard_cases() -> Iterator[Heard]:
-    """The cases that have lines with packets."""
+    """Returns the cases that have lines with packets."""
     for name in sorted(os.listdir(CASES)):
         with open(os.path.join(CASES, name), encoding="ascii") as file:
             front, _, text = file.read().partition("\ntext:\n")
@@ -102,17 +102,17 @@ def heard_cases() -> Iterator[Heard]:
 
 
 def model_bits(digits: str) -> Bits:
-    """Digits as the model has bits."""
+    """Returns digits as the model's bits."""
     return [int(digit) for digit in digits]
 
 
 def standard_names(meaning: str) -> list[str]:
-    """The standard's names in the meaning of a field."""
+    """Returns the standard's names in the meaning of a field."""
     return re.findall(r"\b[A-Z][A-Z_]+\b", meaning)
 
 
 def wanted_fields(read: dict[str, Any]) -> dict[str, list[str]]:
-    """What a message's packet should show, by filter name without `is95.`: the values of the line, as text."""
+    """Returns what a message's packet should show, by filter name without `is95.`: the line's values, as text."""
     line, found = read["line"], dict[str, list[str]]()
     for field in BY_WORDS[line, read.get("message")].fields():
         if field.name in ("at", "type") or field.name not in read:
@@ -131,7 +131,7 @@ def wanted_fields(read: dict[str, Any]) -> dict[str, list[str]]:
 
 
 def number_of(text: str) -> str:
-    """A number of tshark in decimal; other text as it is."""
+    """Returns a number of tshark in decimal; other text is unchanged."""
     return str(int(text, 16)) if text.startswith("0x") else text
 
 
@@ -139,11 +139,11 @@ class Tshark:
     """What tshark shows of a capture."""
 
     def __init__(self, folder: str) -> None:
-        """Captures and settings are in a folder."""
+        """Keeps captures and settings in a folder."""
         self.folder = folder
 
     def ran(self, capture: bytes, *words: str) -> str:
-        """What tshark writes of a capture; it must end well."""
+        """Returns tshark's output for a capture; it must succeed."""
         path = os.path.join(self.folder, "packets.pcapng")
         with open(path, "wb") as file:
             file.write(capture)
@@ -155,7 +155,7 @@ class Tshark:
         return ran.stdout
 
     def fields(self, capture: bytes) -> list[dict[str, list[str]]]:
-        """All fields of each packet that it has, by filter name without `is95.`, each with all its values."""
+        """Returns all fields of each packet, by filter name without `is95.`, each with all its values."""
         own = [f"is95.{name}" for name in (*HEADER_FIELDS, *OWN_FIELDS)] + [
             column[0] for column in dissector.all_columns()
         ]
@@ -174,7 +174,7 @@ class Tshark:
 
 
 def blocks_of(capture: bytes) -> Iterator[tuple[int, bytes]]:
-    """The blocks of a capture: the type and the body of each."""
+    """Returns the type and the body of each block of a capture."""
     place = 0
     while place < len(capture):
         kind, length = struct.unpack_from(">II", capture, place)
@@ -184,13 +184,13 @@ def blocks_of(capture: bytes) -> Iterator[tuple[int, bytes]]:
 
 
 def packets_of(capture: bytes) -> list[bytes]:
-    """The data of the packets of a capture."""
+    """Returns the data of the packets of a capture."""
     bodies = [body for kind, body in blocks_of(capture) if kind == PACKET]
     return [body[20 : 20 + struct.unpack_from(">I", body, 12)[0]] for body in bodies]
 
 
 def merged(captures: list[bytes]) -> bytes:
-    """One section of all interfaces and packets of captures of one section each."""
+    """Returns one section with all interfaces and packets of captures of one section each."""
     made, interfaces = section_header("test"), 0
     for capture in captures:
         first = interfaces
@@ -205,7 +205,7 @@ def merged(captures: list[bytes]) -> bytes:
 
 
 def capture_of(lines: list[str]) -> bytes:
-    """The capture of lines."""
+    """Returns the capture of lines."""
     status, wrote, said = run_inside("lines", "--pcapng", data="".join(line + "\n" for line in lines).encode())
     assert (status, said) == (0, ""), said
     return wrote
@@ -228,7 +228,7 @@ class MessageBits(unittest.TestCase):
         self.assertEqual(kinds, {*TYPES, ("paging", "other"), ("traffic", "other")})
 
     def test_messages_are_those_of_the_capsules(self) -> None:
-        """Where a case has a message as it came, it has the same bits before its check."""
+        """If a case has a message as received, it has the same bits before its check."""
         compared = 0
         for case in heard_cases():
             told = [read_line(line) for line in case.lines]
@@ -355,7 +355,7 @@ class Cases(unittest.TestCase):
         self.assertGreater(compared, 1_000)
 
     def begin_of(self, case: Heard) -> Fraction | None:
-        """The time of sample 0 of a case of one script, in seconds since 1970; None if it has several."""
+        """Returns the time of sample 0 of a case with one script, in seconds since 1970; None if it has several."""
         if len(case.scripts) != 1:
             return None
         numbers = dict(re.findall(r" (start|lp)=(\d+)", case.scripts[0]))
@@ -368,12 +368,12 @@ class Cases(unittest.TestCase):
 
 @unittest.skipUnless(shutil.which("tshark"), "no tshark: install the package tshark")
 class Damaged(unittest.TestCase):
-    """Packets that nobody wrote so."""
+    """Packets that no tool writes."""
 
     seconds = 5
 
     def test_damaged_packets_are_shown(self) -> None:
-        """Packets cut or changed at places by chance end in no fault of the dissector itself."""
+        """Packets cut or changed at random places cause no error in the dissector."""
         draws, tshark = random.Random(92), Tshark(temporary_folder(self.addCleanup))
         lines = [line for line in draws.sample(LINES, 400) if line.split()[0] in PACKETS]
         packets = [self.damaged(packet, draws) for packet in packets_of(capture_of(lines)) for _ in range(4)]
@@ -386,7 +386,7 @@ class Damaged(unittest.TestCase):
 
     @staticmethod
     def damaged(packet: bytes, draws: random.Random) -> bytes:
-        """A packet cut, or with some bytes changed."""
+        """Returns a packet that is cut, or has some bytes changed."""
         if draws.randrange(2):
             return packet[: draws.randrange(1, len(packet) + 1)]
         changed = bytearray(packet)
@@ -396,12 +396,12 @@ class Damaged(unittest.TestCase):
 
 
 class Written(unittest.TestCase):
-    """What is written of some lines, byte by byte."""
+    """The capture of some lines, byte by byte."""
 
     seconds = 3
 
     def test_a_packet_as_the_page_says(self) -> None:
-        """The header's bytes, by the table of docs/FORMATS.md."""
+        """The header's bytes, by the table in docs/FORMATS.md."""
         sync = "sync at=7 prev=3 min=1 sid=1 nid=2 pn=511 lc=00000000010 time=7 lp=13 ltm=0 daylt=0 prat=0 rest=3:00"
         sets = "sets at=8 time=7015 active=40/10/0,511/45/1 candidate= report=0"
         frame = "frame at=258 rate=1200 good=0 bits=16:df67 commands=0000110001101101"

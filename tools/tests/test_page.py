@@ -1,4 +1,4 @@
-"""The manual page: mandoc does not complain, and each command, option, line and status of docs/FORMATS.md is in it."""
+"""The manual page: mandoc reports nothing, and it contains each command, option, line and status of docs/FORMATS.md."""
 
 import os
 import re
@@ -14,7 +14,7 @@ PAGE = os.path.join(ROOT, "docs", "cdma_replay.1")
 
 
 def text_of(path: str) -> str:
-    """The text of a document."""
+    """Returns the text of a document."""
     with open(path, encoding="ascii" if path == PAGE else "utf-8") as file:
         return file.read()
 
@@ -48,7 +48,7 @@ class Page(unittest.TestCase):
         self.assertEqual(kinds, [f"{shape.line} {shape.word or ''}".rstrip() for shape in SHAPES])
 
     def test_what_it_names_is_installed(self) -> None:
-        """It names no path of a checkout, which the reader of an installed page does not have."""
+        """It names no path of a checkout, which readers of the installed page do not have."""
         page = text_of(PAGE)
         for path in re.findall(r"\.Pa (\S+)", page):
             self.assertTrue(path.startswith(("share/", "docs/", "/usr")), path)

@@ -1,10 +1,10 @@
-"""The commands of the pages are run as a reader would, in an empty folder, and what the pages show of it is compared.
+"""The commands of the pages are run as a reader would, in an empty folder, and their output is compared with the page.
 
-A command stands as `    $ COMMAND` in a page, with what it writes below; a line of `.. and so on` there stands for lines
-that are left out. The folder has links to what a checkout has, and is otherwise empty, so that each command finds only
-what earlier ones of its page made. An HTML comment before a block marks it: `not run: WHY` is never run here, `by hand: WHY` is
-run where ROLVENST_PAGES=all, and `status: N` is the status with which the block's last command ends. docs/LESSON.md, whose
-commands are all shown with all that they write, has a test of its own.
+A command is written as `    $ COMMAND` in a page, with its output below; a line of `.. and so on` stands for lines that
+are left out. The folder has links to the files of a checkout, and is otherwise empty, so that each command finds only
+what earlier ones of its page made. An HTML comment before a block marks it: `not run: WHY` is never run here, `by hand:
+WHY` is run if ROLVENST_PAGES=all, and `status: N` is the status of the block's last command. docs/LESSON.md, which
+shows all output of all of its commands, has its own test.
 """
 
 import os
@@ -30,7 +30,7 @@ RADIO = '#!/bin/sh\nfor file; do :; done\nif [ "$file" = - ]; then cat "$AIR"; e
 
 @dataclass
 class Command:
-    """A command of a page: its line, what the page shows of what it writes, its block's mark, and its status."""
+    """A command of a page: its line, the output that the page shows, its block's mark, and its status."""
 
     text: str
     shown: list[str] = field(default_factory=list)
@@ -38,7 +38,7 @@ class Command:
     status: int = 0
 
     def take(self, line: str) -> None:
-        """A line below the command: it continues an open quotation mark, and is otherwise shown."""
+        """Takes a line below the command: it continues an open quotation mark, otherwise it is output."""
         if self.text.count('"') % 2:
             self.text += "\n" + line
         else:
@@ -46,7 +46,7 @@ class Command:
 
 
 def commands_of(text: str) -> list[Command]:
-    """The commands of a page, in order. What is fenced by no command, as a diagram, is none."""
+    """Returns the commands of a page, in order. A block without a command, such as a diagram, has none."""
     found: list[Command] = []
     mark: tuple[str, str] | None = None
     is_open = False
@@ -67,13 +67,13 @@ def commands_of(text: str) -> list[Command]:
 
 
 def close_block(found: list[Command], mark: tuple[str, str] | None) -> None:
-    """A mark of a status goes for the last command of its block."""
+    """A mark of a status applies to the last command of its block."""
     if mark and mark[0] == "status" and found:
         found[-1].status = int(mark[1])
 
 
 def pattern_of(shown: list[str]) -> str:
-    """What a command's lines have to match: each line as it is, and any lines for those that are left out."""
+    """Returns the pattern of a command's output: each line as it is, and any lines for those that are left out."""
     return "".join(r"(?:.*\n)+" if line.startswith(LEFT_OUT) else re.escape(line) + "\n" for line in shown)
 
 
@@ -104,7 +104,7 @@ class Parts(unittest.TestCase):
 
 @unittest.skipUnless(PROGRAM, NO_PROGRAM)
 class Pages(unittest.TestCase):
-    """Each page in a folder of its own."""
+    """Each page in a separate folder."""
 
     parted, seconds = True, 50
 
@@ -127,14 +127,14 @@ class Pages(unittest.TestCase):
         self.environment.pop("CDMA_REPLAY")
 
     def ran(self, command: str) -> subprocess.CompletedProcess[str]:
-        """A command's run, with what it wrote on both streams, as a terminal shows it."""
+        """Runs a command, with both output streams as a terminal shows them."""
         return subprocess.run(
             ["bash", "-c", command], cwd=self.folder, env=self.environment, stdin=subprocess.DEVNULL,
             stdout=subprocess.PIPE, stderr=subprocess.STDOUT, text=True, timeout=SECONDS,
         )  # fmt: skip
 
     def record_the_air(self) -> None:
-        """What the stand-in for a radio gives: a second of a cell."""
+        """Writes what the stand-in for a radio receives: a second of a cell."""
         script = os.path.join(ROOT, "examples", "second_of_paging.script")
         made = self.ran(
             f"cdma_replay make < {script} > {self.bin}/air.is95 && {PYTHON} -B tools/channel --type cu8 "
@@ -143,7 +143,7 @@ class Pages(unittest.TestCase):
         self.assertEqual(made.returncode, 0, made.stdout)
 
     def expect_page(self, page: str) -> None:
-        """Runs a page's commands, each of which ends as the page says and writes what it shows."""
+        """Runs a page's commands, and checks that each ends as the page says and writes what it shows."""
         with open(os.path.join(ROOT, page), encoding="utf-8") as file:
             commands = commands_of(file.read())
         self.assertTrue(commands)
@@ -175,7 +175,7 @@ class Pages(unittest.TestCase):
 
 
 class Readme(unittest.TestCase):
-    """What the first page promises of itself."""
+    """What the first page promises about itself."""
 
     def test_its_length(self) -> None:
         with open(os.path.join(ROOT, "README.md"), encoding="utf-8") as file:
@@ -194,7 +194,7 @@ class Readme(unittest.TestCase):
 
 
 def headings_of(path: str) -> list[str]:
-    """The anchors of a page's headings: lower case, hyphens for spaces, and no other signs."""
+    """Returns the anchors of a page's headings: lower case, hyphens for spaces, and no other punctuation."""
     with open(path, encoding="utf-8") as file:
         titles = re.findall(r"(?m)^#+ (.*)$", file.read())
     return [re.sub(r"[^\w -]", "", title.lower()).replace(" ", "-") for title in titles]

@@ -1,5 +1,8 @@
-"""What the process does with its arguments and its streams, asked of the built program: arguments that are no text or
-are many, lines that come while the input is still open, and text that was heard before a file breaks off."""
+"""What the process does with its arguments and its streams, by the built program.
+
+The arguments are not text, or are many; lines arrive while the input is still open, and text that was decoded before a
+file breaks off is written.
+"""
 
 import os
 import re
@@ -26,25 +29,25 @@ MANY = (
 
 
 def ended(args: list[bytes], data: bytes = b"") -> tuple[int, bytes, bytes]:
-    """How a run ends, and what it wrote on standard output and on standard error."""
+    """Returns how a run ends, its standard output and its standard error."""
     assert PROGRAM is not None
     ran = subprocess.run([os.fsencode(PROGRAM), *args], input=data, capture_output=True, timeout=SECONDS)
     return ran.returncode, ran.stdout, ran.stderr
 
 
 def known_at(line: bytes) -> int:
-    """By how many samples a line is known."""
+    """Returns the number of samples after which a line is known."""
     found = AT.search(line)
     return int(found[1]) if found else SPAN
 
 
 def heard_by(samples: int) -> int:
-    """How many samples are heard at once with this one: the span, and then whole pieces."""
+    """Returns how many samples are processed at once with this one: the span, then whole pieces."""
     return SPAN + -(-max(0, samples - SPAN) // PIECE) * PIECE
 
 
 class Live:
-    """A run whose input comes little by little, and whose lines are read as they come."""
+    """A run whose input is fed piece by piece, and whose lines are read as they arrive."""
 
     def __init__(self, args: list[str]) -> None:
         assert PROGRAM is not None
@@ -61,7 +64,7 @@ class Live:
         self.input.flush()
 
     def read(self, count: int) -> bytes:
-        """The next bytes of the output, fewer if they don't come in time."""
+        """Returns the next bytes of the output, fewer if they don't arrive in time."""
         text, until = b"", time.monotonic() + LINE_SECONDS
         while len(text) < count and time.monotonic() < until:
             if self.selector.select(until - time.monotonic()):
@@ -72,7 +75,7 @@ class Live:
         return text
 
     def end(self) -> tuple[int, bytes]:
-        """Closes the input: the status, and what was still written."""
+        """Closes the input; returns the status and the remaining output."""
         self.input.close()
         rest = self.output.read()
         return self.run.wait(SECONDS), rest
@@ -90,16 +93,16 @@ class Live:
 
 @unittest.skipUnless(PROGRAM, NO_PROGRAM)
 class Arguments(unittest.TestCase):
-    """What the process was given on its command line."""
+    """What the process gets on its command line."""
 
     def test_arguments_that_are_no_text(self) -> None:
-        """Where a byte is no UTF-8 the arguments name no job: memory isn't wanting."""
+        """If a byte is not UTF-8 the arguments name no job: the status is not out of memory."""
         for args in ([b"\xff"], [b"find", b"\xff"], [b"find", b"--span", b"6\xff"], [b"find", b"--\xff=64"], [b"", b"\xff"]):
             with self.subTest(args):
                 self.assertEqual(ended(args), BAD_WORDS)
 
     def test_each_of_many_arguments_is_read(self) -> None:
-        """A fault at any place among them is told, and none but such a fault."""
+        """A fault at any place among them is reported, and nothing else is."""
         args = [os.fsencode(arg) for arg in MANY]
         self.assertEqual(ended(args), (3, b"", b"bad file: short at 0\n"))
         for place in range(len(args)):
@@ -109,7 +112,7 @@ class Arguments(unittest.TestCase):
         self.assertEqual(ended([*args, b"--raw", b"1"]), BAD_WORDS)
 
     def test_nothing_is_written_where_no_job_is_named(self) -> None:
-        """Nor where standard output has no room, so that a run that wrote there might end as such a run does."""
+        """Nor if standard output has no room, which would end a run that writes there."""
         assert PROGRAM is not None
         rows: list[list[str]] = [[], ["fin"], ["find", "--span", "63"], ["trial"]]
         for args in rows:
@@ -123,7 +126,7 @@ class Arguments(unittest.TestCase):
 
 @unittest.skipUnless(PROGRAM, NO_PROGRAM)
 class Streams(unittest.TestCase):
-    """What is written, and when, of an input that comes through a pipe."""
+    """What is written, and when, if the input comes through a pipe."""
 
     file: bytes
 
@@ -138,7 +141,7 @@ class Streams(unittest.TestCase):
         return live
 
     def expect_in_time(self, *args: str) -> None:
-        """Each line comes before more samples are given than those that are heard at once with what it tells."""
+        """Each line comes before more samples are given than those processed at once with what it reports."""
         status, text = run_program(*args, data=self.file)
         self.assertIn(status, (0, 1))
         self.assertTrue(text)
@@ -157,7 +160,7 @@ class Streams(unittest.TestCase):
                 self.expect_in_time(*line.split())
 
     def test_text_that_was_heard_before_a_file_breaks_off(self) -> None:
-        """All that is known by the whole pieces that came is written, and nothing of a sample that didn't come whole."""
+        """Everything known from the whole pieces is written, and nothing from an incomplete sample."""
         whole = run_program("follow", data=self.file)[1]
         for samples in (SPAN, SPAN + 80 * PIECE, SPAN + 200 * PIECE):
             with self.subTest(samples):

@@ -1,4 +1,4 @@
-"""tools/progress: a bar on a terminal, and nothing elsewhere."""
+"""The progress bar: a bar on a terminal, and nothing elsewhere."""
 
 import contextlib
 import importlib.util
@@ -22,7 +22,7 @@ class Terminal(io.StringIO):
 
 class Bars(unittest.TestCase):
     def shown(self, terminal: io.StringIO) -> str:
-        """What both ways to use a bar write."""
+        """Returns what both ways of using a bar write."""
         with contextlib.redirect_stderr(terminal):
             self.assertEqual(list(progress.bar([3, 1, 2], text="cases")), [3, 1, 2])
             with progress.bar(total=2_000, text="recording", unit="chips") as bar:
@@ -48,7 +48,7 @@ class Bars(unittest.TestCase):
 
 @contextlib.contextmanager
 def interrupted_at(count: int) -> Iterator[list[int]]:
-    """Interrupts this process when `count` lines of tqdm have begun; what is held has one thing for each of them."""
+    """Interrupts this process when `count` lines of tqdm have begun; `held` gets an entry for each of them."""
     lines: list[int] = []
 
     def trace(frame: Any, event: str, _: object) -> Any:

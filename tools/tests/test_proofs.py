@@ -1,4 +1,4 @@
-"""docs/PROOFS.md beside the tree: every name in it exists, every law is named, and clauses belong to their law.
+"""docs/PROOFS.md agrees with the tree: every name in it exists, every law is named, and clauses belong to their law.
 
 A name is what the page puts into backticks. It has to occur in the code of a crate (outside comments), as the name of a
 file or folder, or as a test. In the section of a crate it has to come from that crate or one below it.
@@ -67,7 +67,7 @@ def laws_of(root: str) -> dict[str, dict[str, set[str]]]:
 
 @dataclass(frozen=True)
 class Tree:
-    """The names of a checkout: of each crate, and of cases, tests and modules outside them."""
+    """The names of a checkout: those of each crate, and of cases, tests and modules outside the crates."""
 
     root: str
     crates: dict[str, frozenset[str]]
@@ -118,7 +118,7 @@ def sections_of(text: str, crates: set[str]) -> list[Section]:
 
 
 def missing(span: str, tree: Tree, crates: set[str]) -> list[str]:
-    """The names in a span of code that neither these crates nor the rest of the tree have."""
+    """Returns the names in a span of code that neither these crates nor the rest of the tree have."""
     if OUTSIDE.fullmatch(span):
         return []
     if span.endswith(".."):
@@ -133,20 +133,20 @@ def missing(span: str, tree: Tree, crates: set[str]) -> list[str]:
 
 
 def first_cells(lines: list[str]) -> Iterator[str]:
-    """The first cell of each row of the tables in these lines."""
+    """Returns the first cell of each row of the tables in these lines."""
     for line in lines:
         if line.startswith("|"):
             yield line.split("|")[1]
 
 
 def clauses_beside(cell: str) -> set[str]:
-    """The names in the round brackets of a cell."""
+    """Returns the names in the round brackets of a cell."""
     return {name for group in GROUP.findall(cell) for name in SPAN.findall(group)}
 
 
 @functools.cache
 def tree() -> Tree:
-    """The checkout's names, read once."""
+    """Returns the checkout's names, read once."""
     return Tree.of(ROOT)
 
 
@@ -172,7 +172,7 @@ class Parts(unittest.TestCase):
         self.tree = Tree.of(folder.name)
 
     def absent(self, span: str, *crates: str) -> list[str]:
-        """What is missing of a span, in these crates or in all."""
+        """Returns what is missing from a span, in these crates or in all."""
         return missing(span, self.tree, set(crates) or set(self.tree.crates))
 
     def test_names_come_from_code_files_and_tests(self) -> None:
@@ -201,7 +201,7 @@ class Parts(unittest.TestCase):
 
 
 class Page(unittest.TestCase):
-    """The page as it stands."""
+    """The page as it is."""
 
     def setUp(self) -> None:
         with open(PAGE, encoding="utf-8") as file:

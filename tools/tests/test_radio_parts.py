@@ -94,7 +94,7 @@ class Given:
         return Given(self.raw.conj(), self.rate)
 
     def close(self) -> None:
-        """There is no file."""
+        """Does nothing: there is no file."""
 
     def read(self, first: int, count: int) -> NDArray[numpy.complex64]:
         places = first + numpy.arange(count)
@@ -135,7 +135,7 @@ class Fronts(unittest.TestCase):
 
 class Acquisitions(unittest.TestCase):
     def noisy(self, level: float, count: int = 60_000, hertz: float = 0.0, is_conjugate: bool = False) -> front.Front:
-        """A pilot of Ec/Io near `level` dB in white noise, at one sample a chip, half a chip off nowhere."""
+        """Returns a pilot with an Ec/Io near `level` dB in white noise, at one sample a chip."""
         draws = numpy.random.default_rng(5)
         chips = cell_chips(count, phase=777, gains={0: 1}) * numpy.sqrt(10 ** (level / 10) / 2)
         chips = chips * numpy.exp(2j * numpy.pi * hertz / CHIP_RATE * numpy.arange(count))
@@ -270,7 +270,8 @@ class Cells(unittest.TestCase):
 
 class Confirmations(unittest.TestCase):
     def place(self, level: float, count: int, at: int, clock: float = 0.0) -> tuple[front.Front, acquisition.Found]:
-        """A pilot of Ec/Io near `level` dB in white noise whose clock is off, and a place in it as acquisition has it."""
+        """Returns a pilot with an Ec/Io near `level` dB in white noise and a wrong clock, and a place in it as found
+        by acquisition."""
         draws = numpy.random.default_rng(8)
         places = numpy.arange(count) * (1 + clock)
         chips = code()[(777 + numpy.rint(places).astype(int)) % PERIOD] * numpy.sqrt(10 ** (level / 10) / 2)

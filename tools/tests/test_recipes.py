@@ -1,4 +1,4 @@
-"""repository/recipes.py: which files name a part, on small crates, and the lists of docs/PROVING.md on these."""
+"""repository/recipes.py: which files name a part, on small crates, and the lists in docs/PROVING.md."""
 
 from __future__ import annotations
 
@@ -39,7 +39,7 @@ Counted by a lost pilot (`Event::Lost`, `lost_line`): 5 files of 2 crates, and 1
 
 
 class Names(unittest.TestCase):
-    """What a file of some text names."""
+    """What a file with some text names."""
 
     def test_a_name_is_whole(self) -> None:
         self.assertTrue(Word("lost_line").is_in("a.lost_line (x)"))
@@ -83,7 +83,7 @@ class Lists(unittest.TestCase):
 
 
 class Page(unittest.TestCase):
-    """docs/PROVING.md beside the crates: `python3 -m cdma_tools.repository.recipes --write` makes it so."""
+    """docs/PROVING.md agrees with the crates; `python3 -m cdma_tools.repository.recipes --write` makes it so."""
 
     def setUp(self) -> None:
         self.files = dict(files_of_crates(ROOT))

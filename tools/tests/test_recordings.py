@@ -1,4 +1,4 @@
-"""conformance/run_recordings and tools/radio_bench: that their cells are lawful, and that they say what differs."""
+"""conformance/run_recordings and tools/radio_bench: their cells are lawful, and they report what differs."""
 
 import collections
 import contextlib
@@ -86,7 +86,7 @@ class Cases(Programs):
 
 class Benches(Programs):
     def made(self, script: str) -> None:
-        """That the model makes the 64 samples of a script."""
+        """Asserts that the model makes the 64 samples of a script."""
         made = run(["make"], lambda: script.encode("ascii"))
         self.assertEqual((made.status, len(made.text())), (0, 16 + 4 * 64), (script, made.said))
 

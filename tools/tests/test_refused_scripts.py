@@ -1,8 +1,8 @@
-"""Scripts that name no cell, and scripts at the ends of what does, asked of the built program.
+"""Scripts that name no cell, and scripts at the limits of those that do, given to the built program.
 
-Each script goes to `make`, whose output has no room. One that names no cell ends with status 8 and its fault on
-standard error, as docs/FORMATS.md has it: the number of the first line that can't stand where it stands, or what can't
-be sent. One that names a cell comes to its first write, which fails.
+Each script goes to `make`, whose output has no room. A script that names no cell ends with status 8 and its fault on
+standard error, as docs/FORMATS.md specifies: the number of the first line that cannot be at its place, or what cannot
+be sent. A script that names a cell reaches its first write, which fails.
 """
 
 import subprocess
@@ -606,13 +606,13 @@ HEAD = "CELL LINK PILOT SYNC"
 
 
 def script_of(names: str, instead: dict[str, str] | None = None) -> str:
-    """A script of named lines, of which some stand in place of those that bear the names."""
+    """Returns a script of named lines, some of which replace the lines with these names."""
     lines = LINES | (instead or {})
     return "".join(lines[name] + "\n" for name in names.split())
 
 
 def zero_page(octets: int) -> str:
-    """A page of `octets` octets whose type and bits are 0."""
+    """Returns a page of `octets` octets whose type and bits are 0."""
     bits = 8 * octets - 38
     return f"page half {bits}:" + -(-bits // 8) * "00"
 
@@ -620,7 +620,7 @@ def zero_page(octets: int) -> str:
 @unittest.skipUnless(PROGRAM, NO_PROGRAM)
 class RefusedScripts(unittest.TestCase):
     def made(self, script: str, bits: int) -> tuple[int, str]:
-        """How a run that can write nothing ends: its status and its line on standard error."""
+        """Returns the status and the standard error of a run that can write nothing."""
         assert PROGRAM is not None
         with open("/dev/full", "wb") as full:
             words = [PROGRAM, "make", "--bits", str(bits)]
@@ -636,7 +636,7 @@ class RefusedScripts(unittest.TestCase):
             self.assertEqual(self.made(script, bits), (5, "write fault\n"))
 
     def expect_refused(self, before: str, lines: list[str], behind: str) -> None:
-        """Each of these lines is refused between some lines and others."""
+        """Asserts that each of these lines is refused between some lines and others."""
         number = len(before.split()) + 1
         for line in lines:
             self.expect_fault(script_of(before) + line + "\n" + script_of(behind), f"line {number}")
@@ -679,7 +679,7 @@ class RefusedScripts(unittest.TestCase):
         self.expect_fault(1_048_577 * "\n", "too big")
 
     def test_a_long_cycle(self) -> None:
-        """A cycle of 77 half-frames and 98 octets has 8,185 bits, and one of an octet more has 8,193."""
+        """A cycle of 77 half-frames and 98 octets has 8,185 bits; one of an octet more has 8,193."""
         begun = script_of(HEAD + " PAGING" + 77 * " SIX_OCTETS")
         self.expect_lawful(begun + zero_page(98) + "\n")
         self.expect_fault(begun + zero_page(99) + "\n", "line 83")

@@ -1,7 +1,7 @@
-"""Arguments that the command line doesn't have, and spellings that it has, asked of the built program.
+"""Arguments and spellings that the command line does not have, and spellings that it has, given to the built program.
 
-Other arguments end with status 2 and `bad words`, before anything is read. After arguments that are taken the input is
-read, which is empty here, so that the run ends with the fault of an empty input.
+Wrong arguments end with status 2 and `bad words` before anything is read. After accepted arguments the input is read,
+which is empty here, so the run ends with the fault of an empty input.
 """
 
 import subprocess
@@ -166,7 +166,8 @@ TRIALS = [
 @unittest.skipUnless(PROGRAM, NO_PROGRAM)
 class RefusedWords(unittest.TestCase):
     def expect(self, lines: list[str], status: int, error: str) -> None:
-        """The arguments of each line end a run so. One blank parts two, so that between two stands an empty one."""
+        """Asserts that the arguments of each line end a run so. One blank separates two words, so two blanks give an
+        empty word."""
         for line in lines:
             with self.subTest(line):
                 self.expect_words(line.split(" "), status, error)

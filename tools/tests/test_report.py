@@ -1,4 +1,4 @@
-"""tools/report: what it measures and tells, its page, its errors, and that text of a recording stays text."""
+"""tools/report: what it measures and reports, its page, its errors, and that text of a recording stays text."""
 
 import argparse
 import contextlib
@@ -76,7 +76,7 @@ class Meanings(unittest.TestCase):
         self.assertIn("80 frames", told["PWR_REP_FRAMES"][1])
 
     def test_each_value_of_each_field_has_a_meaning(self) -> None:
-        """No value is without words, and none raises."""
+        """Every value has words, and none raises."""
         for line in (FOLLOWED[1], FOLLOWED[3]):
             read = read_line(line)
             for name, value in read.items():
@@ -210,7 +210,8 @@ class Folder(unittest.TestCase):
         return self.at(name)
 
     def ran(self, *words: str) -> tuple[int, str]:
-        """The status of a run within this process, which compresses Plotly once, and what it said."""
+        """Runs the tool within this process, which compresses Plotly once; returns its status and its standard error.
+        """
         wrote, said = io.StringIO(), io.StringIO()
         with contextlib.redirect_stdout(wrote), contextlib.redirect_stderr(said):
             status = status_of("report", list(words))
@@ -218,14 +219,14 @@ class Folder(unittest.TestCase):
         return status, said.getvalue()
 
     def page(self, *words: str, status: int = 0, file: str = "") -> str:
-        """The page of a run that ends so, and says nothing."""
+        """Returns the page of a run that ends so, and writes nothing on standard error."""
         ended = self.ran(file or self.file, "--out", self.out, "--program", self.fake.path, *words)
         self.assertEqual(ended, (status, ""))
         with open(self.out, encoding="utf-8") as made:
             return made.read()
 
     def assert_holds(self, page: str, text: str) -> None:
-        """Says which text isn't there, and not the whole page."""
+        """Reports the missing text, and not the whole page."""
         self.assertTrue(text in page, text)
 
     def plots(self, page: str) -> dict[str, Any]:
@@ -303,7 +304,7 @@ class Pages(Folder):
 
 class Hostile(Folder):
     def test_bytes_of_every_value(self) -> None:
-        """What the program, a file's name and a recording's notes hold stands in the page as text: no element is new."""
+        """Output of the program, a file's name and a recording's notes are text in the page: no element is new."""
         strange = [MARKUP.encode(), EVERY_BYTE, b"paging at=1 " + EVERY_BYTE, b"sync at=1 " + MARKUP.encode()]
         for place in range(256):
             if place != 10:
@@ -361,7 +362,7 @@ class BadInput(Folder):
             self.assertEqual(self.plots(page), {})
 
     def test_what_was_not_asked_for(self) -> None:
-        """Where the arguments of follow leave messages out, that is no fault."""
+        """If the arguments of follow leave messages out, that is not a fault."""
         self.fake.tell("follow", [line for line in FOLLOWED if line.startswith("frame")])
         page = self.page("--messages", "0", "--pilots", "0")
         self.assert_holds(page, "All was read")
@@ -396,7 +397,7 @@ class BadInput(Folder):
 
 
 class Lock:
-    """What a lock found, as the tests tell it."""
+    """The result of a lock, as the tests set it."""
 
     def __init__(self, remarks: list[str]) -> None:
         self.told = remarks
@@ -406,7 +407,7 @@ class Lock:
         return FOUND
 
     def remarks(self) -> list[str]:
-        """What else a user should know."""
+        """Returns what else a user should know."""
         return self.told
 
 
@@ -417,7 +418,7 @@ FOUND = (
 
 
 class Recordings(Folder):
-    """A lock that the tests write takes the place of the real one."""
+    """A lock set by the tests replaces the real one."""
 
     def setUp(self) -> None:
         super().setUp()
@@ -425,7 +426,7 @@ class Recordings(Folder):
         self.imports([], b"")
 
     def imports(self, remarks: list[str], data: bytes = b"", why: str = "") -> None:
-        """What the import says besides what it found, and what it writes in place of the file; or why it refuses."""
+        """Sets the import's further remarks and what it writes as the file, or why it refuses."""
 
         def take(options: argparse.Namespace, look: object) -> Lock:
             self.taken.append(options)
@@ -469,7 +470,7 @@ class Recordings(Folder):
         self.assertFalse(os.path.exists(f"{self.fake.path}.words"))
 
     def test_hostile_notes(self) -> None:
-        """Names and texts of a recording's notes are shown as text, whatever they hold."""
+        """Names and texts of a recording's notes are shown as text, whatever they contain."""
         plain = Parsed(self.page(file=self.meta(**{"a": "b"})))
         every = "".join(map(chr, range(256)))
         hostile = Parsed(self.page(file=self.meta(**{MARKUP: MARKUP + every})))

@@ -27,7 +27,7 @@ SECONDS = 120  # the longest that a page may take to draw, on a busy machine
 
 
 def started() -> webdriver.Chrome:
-    """A headless Chromium that keeps what its console says."""
+    """Starts a headless Chromium that keeps its console's messages."""
     options = webdriver.ChromeOptions()
     for word in ("headless=new", "no-sandbox", "disable-gpu", "disable-dev-shm-usage", "window-size=1280,1000"):
         options.add_argument(f"--{word}")
@@ -62,7 +62,7 @@ class Browser(Folder):
         return self.driver.find_element(By.CSS_SELECTOR, selector).get_attribute("textContent")
 
     def rows(self, name: str) -> dict[str, list[str]]:
-        """The rows of a part's table, by their first cells."""
+        """Returns the rows of a part's table, by their first cells."""
         rows = self.driver.execute_script(
             "return [...document.querySelectorAll(arguments[0])].map((row) => [...row.cells].map((cell) => cell.textContent))",
             f"#{name} tbody tr",
@@ -70,11 +70,11 @@ class Browser(Folder):
         return {cells[0]: cells[1:] for cells in rows}
 
     def marks(self) -> int:
-        """How many marks the time line shows."""
+        """Returns the number of marks on the time line."""
         return self.count("#timeline .scatterlayer .points path.point")
 
     def point_to(self, selector: str) -> str:
-        """Rests the pointer on an element of a plot, and answers what its box says."""
+        """Rests the pointer on an element of a plot, and returns the text of its box."""
         place = self.driver.find_element(By.CSS_SELECTOR, selector)
         self.driver.execute_script("arguments[0].scrollIntoView({block: 'center'})", place)
         ActionChains(self.driver).move_to_element(place).perform()
@@ -100,7 +100,7 @@ class ThePage(Browser):
         self.assertIn("All was read", self.text(".state"))
 
     def test_the_pointer(self) -> None:
-        """A box has the line of the mark under the pointer, a click keeps it, and a drag zooms all panels."""
+        """A box shows the line of the mark under the pointer, a click keeps it, and a drag zooms all panels."""
         self.load()
         path = "#timeline .scatterlayer .trace:first-of-type .points path.point"
         self.assertEqual(re.sub(r"\s", "", self.point_to(path)), re.sub(r"\s", "", FOLLOWED[1]))
@@ -129,7 +129,7 @@ class ThePage(Browser):
         self.assertEqual(self.text("pre[data-command=follow]"), "\n".join(FOLLOWED))
 
     def test_nothing_hostile_runs(self) -> None:
-        """A recording's name and lines of every byte are shown, and nothing in them runs or is an element."""
+        """A recording's name and lines with every byte are shown; nothing in them runs or is an element."""
         self.load()
         elements = self.driver.execute_script("return document.querySelectorAll('body *').length")
         self.fake.tell("follow", "\n".join(FOLLOWED).encode() + b"\n" + MARKUP.encode() + b"\n" + EVERY_BYTE + b"\n")

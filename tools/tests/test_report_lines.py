@@ -1,4 +1,4 @@
-"""Tests of tools/report over the lines of a listening: as many lines as there are, and a page that stays small."""
+"""Tests of tools/report over the lines of `listen`: any number of lines, and a page that stays small."""
 
 import json
 import os
@@ -22,7 +22,7 @@ SYNC = (
 
 
 def lines_of(seconds: int) -> list[str]:
-    """Lines of a listening of `seconds` seconds: frames, long pages, and a sync message a second."""
+    """Returns the lines of `seconds` seconds: frames, long pages, and a sync message a second."""
     draws = random.Random(5)
     lines = ["pilot phase=5 energy=6"]
     for number in range(seconds * CHIP_RATE // FRAME):
@@ -51,7 +51,7 @@ class ReportLinesTest(unittest.TestCase):
         return path
 
     def reported(self, path: str) -> str:
-        """The page of a file."""
+        """Returns the page of a file."""
         status, wrote, said = run_main("report", path, "--out", self.page)
         self.assertEqual((status, wrote, said), (0, "", ""))
         with open(self.page, encoding="utf-8") as file:
@@ -114,7 +114,7 @@ class ReportLinesTest(unittest.TestCase):
             self.assertTrue(thinned.step == 1 or len(range(0, count, thinned.step // 2)) > 10)
 
     def test_streams_follow_each_other(self) -> None:
-        """After a line that tells another origin lines count from there on."""
+        """After a line that gives another origin, lines count from there."""
         frames = [f"frame at={at} rate=1200 good=1 bits=0: commands=0000000000000011" for at in (24_576, 49_152)]
         path = os.path.join(temporary_folder(self.addCleanup), "streams.txt")
         with open(path, "w", encoding="ascii") as file:

@@ -27,7 +27,7 @@ class Spectra(unittest.TestCase):
         self.path = os.path.join(temporary_folder(self.addCleanup), "raw")
 
     def spectrum(self, samples: NDArray[Any], rate: float = 1_024_000.0) -> spectrum.Spectrum:
-        """The spectrum of samples of 8 bits."""
+        """Returns the spectrum of samples of 8 bits."""
         parts = numpy.stack([samples.real, samples.imag], axis=1)
         numpy.rint(parts * 127).astype("i1").tofile(self.path)
         with Recording(self.path, "ci8", rate) as recording:
@@ -82,7 +82,7 @@ class Waveforms(Recordings):
         cls.cell = write_cell(cls.at("whole.is95"), whole_cell(cls.CHIPS))
 
     def gathered(self, found: dict[str, str], paging: int = 1) -> Gathered:
-        """An import that found something, and a run of follow that heard a page."""
+        """Returns an import that found something, and a run of follow that decoded a page."""
         page = Line("paging at=1 other type=42 bits=0:", {"line": "paging", "at": 1, "message": "other"})
         empty = Ran([], 0, [], "")
         follow = Ran(["follow", f"--paging={paging}"], 0, [page], "")
@@ -149,7 +149,8 @@ class Cells(Recordings):
         self.assertLess(len(page), 6_000_000)
 
     def assert_cells(self, page: str) -> None:
-        """That the table of cells has what the recording was made with, and that nothing on the page contradicts it."""
+        """Asserts that the table of cells has the recording's true figures, and that nothing on the page contradicts
+        it."""
         table = re.search(r'<section id="cells">.*?</section>', page, re.DOTALL)
         assert table
         rows = [re.findall(r"<t[hd][^>]*>([^<]*)</t[hd]>", row) for row in re.findall(r"<tr>.*?</tr>", table[0])][1:]

@@ -1,4 +1,5 @@
-"""Results for machines, limits of curves, and receivers that hang, die, write no text or write without end."""
+"""Results for machines, limits of curves, and receivers that hang, die, write something other than text or write
+without end."""
 
 from __future__ import annotations
 
@@ -30,20 +31,20 @@ HOSTILE = "a <case> & \x1b[31m # \\ \x00"
 
 
 def options(*words: str) -> argparse.Namespace:
-    """The options for results."""
+    """Returns the options for results."""
     parser = argparse.ArgumentParser()
     add_result_options(parser)
     return parser.parse_args(words)
 
 
 class Forms(unittest.TestCase):
-    """The three forms, over one case of each verdict, with letters that the forms have to spell otherwise."""
+    """The three forms, over one case of each verdict, with letters that the forms must escape."""
 
     def setUp(self) -> None:
         self.path = os.path.join(temporary_folder(self.addCleanup), "results.xml")
 
     def written(self, *words: str) -> str:
-        """What three results become."""
+        """Returns what becomes of three results."""
         out = io.StringIO()
         with contextlib.redirect_stdout(out):
             results = Results("suite", options(*words), 3)
@@ -104,7 +105,7 @@ class Forms(unittest.TestCase):
 
 
 class Runs(unittest.TestCase):
-    """A receiver that is a line of the shell, run within a time and a length."""
+    """A receiver that is a shell command, run within limits of time and length."""
 
     def ran(self, line: str, seconds: float = 20, most: int = 1_000) -> Ran:
         """A run."""
@@ -150,7 +151,7 @@ class Runs(unittest.TestCase):
 
 
 class BadReceivers(unittest.TestCase):
-    """Cases of a folder of their own, of which a receiver fails each in another way; the last one it passes."""
+    """Cases in a separate folder, each of which a receiver fails in another way; it passes the last one."""
 
     def setUp(self) -> None:
         self.folder = temporary_folder(self.addCleanup)
@@ -175,7 +176,7 @@ class BadReceivers(unittest.TestCase):
         return path
 
     def asked(self, *words: str) -> tuple[int, str]:
-        """The status of a run over the cases, and what it says."""
+        """Returns the status of a run over the cases, and its output."""
         out = io.StringIO()
         with contextlib.redirect_stdout(out):
             status = status_of("conformance", [*words, self.receiver])
@@ -206,13 +207,13 @@ class BadReceivers(unittest.TestCase):
 
 
 class Limits(unittest.TestCase):
-    """Which rows pass a limit, by the ends of their interval, and files of limits."""
+    """Which rows meet a limit, by the ends of their interval, and files of limits."""
 
     def setUp(self) -> None:
         self.path = os.path.join(temporary_folder(self.addCleanup), "limits.csv")
 
     def read(self, text: str) -> list[limits.Limit]:
-        """The limits of a file of this text, at points of 1 and 2 dB."""
+        """Returns the limits in a file of this text, at points of 1 and 2 dB."""
         with open(self.path, "w", encoding="utf-8") as file:
             file.write(text)
         return limits.read_limits(self.path, [1_000, 2_000])

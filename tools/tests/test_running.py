@@ -1,4 +1,4 @@
-"""The run of all tests: what a class comes to in a process of its own, over tests made for it."""
+"""The run of all tests: the outcome of a class in a separate process, over tests made for it."""
 
 import os
 import sys
@@ -135,10 +135,10 @@ class Ended(unittest.TestCase):
 
 
 class RunningTest(unittest.TestCase):
-    """Modules of tests that are written for it, found and run as those of this folder are."""
+    """Modules of tests that are written for it, found and run like those of this folder."""
 
     def ran(self, jobs: int, **modules: str) -> list[Outcome]:
-        """What modules of these names and texts come to."""
+        """Returns the outcome of modules with these names and texts."""
         folder = temporary_folder(self.addCleanup)
         for name, text in modules.items():
             with open(os.path.join(folder, f"test_made_{name}.py"), "w", encoding="ascii") as file:
@@ -186,7 +186,7 @@ class RunningTest(unittest.TestCase):
         self.assertEqual(sum(it.ran for it in found), 2)
 
     def test_what_takes_longest_begins_first(self) -> None:
-        """Each test of a class that is parted counts for itself."""
+        """Each test of a class that is parted counts by itself."""
         begun = os.path.join(temporary_folder(self.addCleanup), "begun")
         os.environ["TEST_RUNNING_BEGUN"] = begun
         self.addCleanup(os.environ.pop, "TEST_RUNNING_BEGUN")

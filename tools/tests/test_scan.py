@@ -1,4 +1,4 @@
-"""tools/scan: where a pilot stands out in recordings that tools/channel makes."""
+"""tools/scan: the pilots in recordings that tools/channel makes."""
 
 import os
 import unittest
@@ -33,7 +33,7 @@ class Scans(Recordings):
     CHIPS = 120_000
 
     def scanned(self, *words: object) -> tuple[int, list[dict[str, str]], str]:
-        """A scan's status, the figures of its lines, and what it said."""
+        """Runs a scan; returns its status, the figures of its lines, and its standard error."""
         status, wrote, said = run_main("scan", *words)
         return status, [dict(word.split("=") for word in line.split()) for line in wrote.splitlines()], said
 

@@ -36,18 +36,18 @@ SEED = 95
 
 
 def lines(names: str) -> str:
-    """The lines of these names."""
+    """Returns the lines of these names."""
     return "".join(refused.LINES[name] + "\n" for name in names.split())
 
 
 def script_of(name: str) -> str:
-    """The text of an example."""
+    """Returns the text of an example."""
     with open(os.path.join(EXAMPLES, name), encoding="ascii") as file:
         return file.read()
 
 
 def by_model(script: bytes, width: int = 16) -> str | None:
-    """The model's verdict on a script."""
+    """Returns the model's verdict on a script."""
     try:
         read_script(script, width)
     except BadScript as why:
@@ -56,7 +56,7 @@ def by_model(script: bytes, width: int = 16) -> str | None:
 
 
 def by_program(script: bytes, width: int = 16) -> str | None:
-    """The program's verdict on a script; its output has no room, so a right script ends at the first write."""
+    """Returns the program's verdict on a script; its output has no room, so a right script ends at the first write."""
     assert PROGRAM
     with open("/dev/full", "wb") as full:
         done = subprocess.run(
@@ -67,7 +67,7 @@ def by_program(script: bytes, width: int = 16) -> str | None:
 
 
 def edited(draw: random.Random, text: str) -> bytes:
-    """A script with one to three random edits of letters, words or lines."""
+    """Returns a script with one to three random edits of letters, words or lines."""
     for _ in range(draw.choice((1, 1, 2, 3))):
         place = draw.randrange(len(text) + 1)
         kind = draw.randrange(6)
@@ -99,7 +99,7 @@ def edited(draw: random.Random, text: str) -> bytes:
 
 
 def random_scripts() -> list[tuple[bytes, int]]:
-    """The scripts with random edits, each with a width of samples."""
+    """Yields the scripts with random edits, each with a width of samples."""
     draw = random.Random(SEED)
     names = ("second_of_paging.script", "lesson.script", "frames_14400.script", "call_neighbor.script")
     texts = ["\n".join(script_of(name).split("\n")[:14]) + "\n" for name in names]
@@ -146,7 +146,7 @@ class Verdicts(unittest.TestCase):
 
 
 class Reasons(unittest.TestCase):
-    """What is said of typical slips: line, column, and words of the reason."""
+    """The report on typical slips: line, column, and words of the reason."""
 
     HEAD = lines("CELL LINK PILOT SYNC PAGING HALF TRAFFIC FRAME").split("\n")
     # The line that takes another's place, its number, the column, and what the reason says.

@@ -1,4 +1,4 @@
-"""One policy of searching: every tool that looks for a pilot searches near, then further off, in both spectra."""
+"""One search policy: every tool that searches for a pilot searches near first, then further away, in both spectra."""
 
 import argparse
 import os
@@ -64,10 +64,10 @@ class Policy(unittest.TestCase):
 
 
 class Tools(Recordings):
-    """A carrier that is further off than the near step, in an inverted spectrum.
+    """A carrier outside the near step, in an inverted spectrum.
 
-    The two spans are 1 and 6 kHz here and the carrier lies at 5, so that noise takes no minute; EVERY_SPAN=1 takes the
-    true ones and 50 kHz, which an RTL-SDR has that is 57 millionths off at 880 MHz.
+    The two spans are 1 and 6 kHz here and the carrier is at 5 kHz, so that noise takes less than a minute. EVERY_SPAN=1
+    takes the real spans and 50 kHz, the offset of an RTL-SDR with a clock error of 57 millionths at 880 MHz.
     """
 
     CHIPS, CARRIER = 420_000, 5_000.0
@@ -83,7 +83,7 @@ class Tools(Recordings):
         self.path = self.recorded("--type", "ci8", "--carrier", self.CARRIER, "--ec-io", -9, "--conjugate")
 
     def holds(self, found: dict[str, str]) -> None:
-        """That a line has the carrier, on the other side of the recording's middle, and its spectrum."""
+        """Asserts that a line has the carrier, on the other side of the recording's middle, and its spectrum."""
         self.assertAlmostEqual(abs(float(found["carrier_hz"])), self.CARRIER, delta=30)
         self.assertEqual(found["conjugate"], "yes")
 

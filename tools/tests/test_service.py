@@ -1,6 +1,6 @@
-"""A listening as a service: it goes on, ends in order, has its file moved away, and uses no more memory with time.
+"""`listen` as a service: it continues, ends in order, has its file moved away, and uses no more memory with time.
 
-CDMA_LISTEN_KILLS asks for more kills of a listening to a recording than 4, as 20.
+CDMA_LISTEN_KILLS sets how often it is killed while it listens to a recording (default 4).
 """
 
 from __future__ import annotations
@@ -69,13 +69,13 @@ def wait_for(condition: Any) -> None:
 
 
 def followers_of(pid: int) -> list[int]:
-    """The processes that a process has begun."""
+    """Returns the processes that a process has started."""
     with open(f"/proc/{pid}/task/{pid}/children", encoding="ascii") as file:
         return [int(child) for child in file.read().split()]
 
 
 def read(path: str) -> bytes:
-    """The bytes of a file; none where it isn't there."""
+    """Returns the bytes of a file; none if it doesn't exist."""
     try:
         with open(path, "rb") as file:
             return file.read()
@@ -85,7 +85,7 @@ def read(path: str) -> bytes:
 
 @unittest.skipUnless(PROGRAM, NO_PROGRAM)
 class StreamTest(test_listen.OneRecording):
-    """A stream that is the first seconds of a recording, as a process hears it."""
+    """A stream of the first seconds of a recording, as a process receives it."""
 
     parted, seconds = True, 8
 
@@ -94,7 +94,7 @@ class StreamTest(test_listen.OneRecording):
         self.begun = read(self.short)
 
     def start(self, *words: str) -> subprocess.Popen[bytes]:
-        """A listening to standard input that hears interrupts."""
+        """Starts to listen to standard input, and receives interrupts."""
         command = [*TOOL, *STREAM, *NEAR, *HANDSET, "-", *words]
         pipe = subprocess.PIPE
         run = subprocess.Popen(
@@ -105,14 +105,14 @@ class StreamTest(test_listen.OneRecording):
         return run
 
     def send(self, run: subprocess.Popen[bytes], data: bytes) -> None:
-        """Gives bytes to a listening, which takes all of them at once."""
+        """Sends bytes to a process that listens, which takes all of them at once."""
         assert run.stdin is not None
         run.stdin.write(data)
         run.stdin.flush()
         time.sleep(0.5)
 
     def whole(self, data: bytes, *words: str) -> bytes:
-        """What is heard of a stream that ends by itself."""
+        """Returns what is decoded from a stream that ends by itself."""
         status, lines, said = test_listen.listen(*STREAM, *NEAR, *HANDSET, "-", *words, data=data)
         self.assertEqual((status, said), (0, ""))
         return lines
@@ -189,7 +189,7 @@ class StreamTest(test_listen.OneRecording):
         self.assertEqual(full, (1, b"", "listen: /dev/full: No space left on device\n"))
 
     def test_killed_again_and_again(self) -> None:
-        """A listening to a recording that is killed at random moments writes each line once, in order."""
+        """Listening to a recording, killed at random moments, writes each line once, in order."""
         draws, wanted = random.Random(86), self.lines
         command = [*TOOL, *STREAM, self.path, *HANDSET, *test_listen.PARTS, "--out", self.out]
         for size in sorted(draws.randrange(len(wanted)) for _ in range(KILLS)):
@@ -219,7 +219,7 @@ class AppendTest(unittest.TestCase):
             file.write(data)
 
     def listen(self, *words: str) -> tuple[int, str]:
-        """A listening that hears nothing."""
+        """Starts a run that decodes nothing."""
         status, _, said = run_inside("listen", *"--type ci8 --rate 1228800 --program /bin/true".split(), *words)
         return status, said
 
@@ -261,13 +261,13 @@ class AppendTest(unittest.TestCase):
 
 @unittest.skipUnless(PROGRAM, NO_PROGRAM)
 class KilledRunTest(unittest.TestCase):
-    """Runs of `follow` that are killed: another one takes their place, and no line is lost or told twice."""
+    """Runs of `follow` that are killed: another one replaces them, and no line is lost or written twice."""
 
     seconds = 12
     LASTS = 14.0  # seconds
 
     def heard(self, kills: dict[int, str], seams: tuple[float, ...] = (9.0,)) -> tuple[list[str], list[str]]:
-        """Lines and remarks of a cell, the current run or the next one of which is killed after some tenths of it."""
+        """Returns lines and remarks of a cell; the current run or the next one is killed after some tenths of it."""
         first = -64 * PN % PERIOD
         parts, heard = made_cell(PROGRAM or "", self.LASTS), Collected()
         wanted = [first + int(CHIP_RATE * seam) for seam in seams]
@@ -299,7 +299,7 @@ class KilledRunTest(unittest.TestCase):
 
     @staticmethod
     def remark(name: str) -> str:
-        """What is said of a run that was killed."""
+        """Returns the remark on a run that was killed."""
         return f"a run of cdma_replay follow was ended by {name}: another one replaces it"
 
     def test_runs_that_are_killed_again_and_again(self) -> None:
@@ -328,67 +328,67 @@ class KilledRunTest(unittest.TestCase):
 
 @dataclass(frozen=True)
 class SparseChips(Chips):
-    """So many chips without their parts: a day of them needs no room."""
+    """`count` chips without their I and Q values: a day of them needs no room."""
 
     count: int = 0
 
     @property
     def end(self) -> int:
-        """The number of the chip after the last one."""
+        """Returns the number of the chip after the last one."""
         return self.first + self.count
 
 
 class FakeRun:
-    """A run that tells a frame for each piece of chips."""
+    """A run that reports a frame for each piece of chips."""
 
     def __init__(self, handset: Handset, begin: int) -> None:
-        """Nothing was heard."""
+        """Nothing has been decoded."""
         self.handset, self.begin, self.end = handset, begin, begin
         self.told = [Event(begin, f"pilot phase={begin % PERIOD} energy=1")]
         self.sets: list[tuple[int, Sets]] = []
         self.phase: int | None = begin % PERIOD
 
     def feed(self, chips: Chips) -> None:
-        """Tells a frame at their end."""
+        """Reports a frame at their end."""
         if chips.end > self.end:
             self.end = chips.end
             frame = "rate=1200 good=1 bits=0: commands=0000000000000000"
             self.told.append(Event(self.end, f"frame at={self.end - self.begin} {frame}"))
 
     def sets_at(self, _: int) -> None:
-        """No sets are told."""
+        """Reports no sets."""
 
     def __getattr__(self, _: str) -> Any:
-        """All else does nothing."""
+        """Does nothing else."""
         return lambda *_: None
 
 
 class FakeLock:
-    """A lock that gives some seconds of chips for each piece of data."""
+    """A lock that returns some seconds of chips for each piece of data."""
 
     origin, cut, seconds = 0, 0, 0.0
 
     def __init__(self, _: LockOptions) -> None:
-        """Nothing has come."""
+        """Nothing has arrived."""
         self.end = 0
 
     def instant(self) -> tuple[float, float]:
-        """The clock is right."""
+        """Returns the chip of a time: the clock is exact."""
         return float(self.end), float(self.end)
 
     def feed(self, _: bytes) -> list[Chips]:
-        """The next chips."""
+        """Returns the next chips."""
         first, self.end = self.end, self.end + PIECE_SECONDS * CHIP_RATE
         return [SparseChips(first, b"", PIECE_SECONDS * CHIP_RATE)]
 
 
 class DayTest(unittest.TestCase):
-    """A day's listening with some seconds of chips as one number: what is kept of them doesn't grow."""
+    """A day of listening, with some seconds of chips as one number: what is kept of them doesn't grow."""
 
     seconds = 10
 
     def memory(self, keeps_anchors: bool, hours: int) -> list[int]:
-        """The bytes that are there after each hour."""
+        """Returns the bytes in use after each hour."""
         found = []
         with (
             unittest.mock.patch("cdma_tools.listening.listening.StreamLock", FakeLock),
@@ -413,21 +413,21 @@ class DayTest(unittest.TestCase):
         self.assertLess(max(found[2:]) - min(found[2:]), 50_000, found)
 
     def test_what_would_grow_is_seen(self) -> None:
-        """The anchors that a part of a recording keeps are seen to grow."""
+        """The test detects the growth of the anchors that a part of a recording keeps."""
         found = self.memory(True, 4)
         self.assertGreater(found[-1] - found[1], 100_000, found)
 
 
 class Air:
-    """Samples that come as time goes on, by a clock that only what a search takes moves on."""
+    """Samples that arrive as time passes, by a clock that only the time of a search moves on."""
 
     def __init__(self, costs: float | None = None) -> None:
-        """A slice takes so many seconds, or else what this process takes."""
+        """Takes the seconds of a slice, by default what this process takes."""
         self.idle, self.costs, self.count = 0.0, costs, 0
         self.begun = time.process_time()
 
     def now(self) -> float:
-        """The time."""
+        """Returns the time."""
         taken = time.process_time() - self.begun if self.costs is None else self.costs * self.count
         return self.idle + taken
 
@@ -436,7 +436,7 @@ class Air:
         self.count += 1
 
     def lag(self, lock: StreamLock, seconds: float) -> float:
-        """By how many seconds a lock is behind the air at most, in so many seconds."""
+        """Returns the greatest lag of a lock behind the air, in seconds, within `seconds` seconds."""
         noise, most = random.Random(1).randbytes(2 * int(0.05 * RATE)), 0.0
         while lock.seconds < seconds:
             behind = self.now() - lock.seconds
@@ -452,7 +452,7 @@ class NoiseTest(unittest.TestCase):
     seconds = 6
 
     def live(self, search: float) -> StreamLock:
-        """The lock of a live stream, whose carrier is searched so many Hz to each side."""
+        """Returns the lock of a live stream, whose carrier is searched this many Hz to each side."""
         return StreamLock(LockOptions("ci8", RATE, search=search, is_live=True))
 
     def test_whatever_the_search_takes(self) -> None:
@@ -468,7 +468,7 @@ class NoiseTest(unittest.TestCase):
                     self.assertGreater(air.count, 5)
 
     def test_what_it_takes_a_processor(self) -> None:
-        """Time goes on as this process uses a processor, so that other processes don't count."""
+        """Time passes as this process uses a processor, so that other processes don't count."""
         with unittest.mock.patch("cdma_tools.radio.acquisition.WORKERS", 1):
             for search in (21_000.0, 88_000.0, MOST_SEARCH):
                 air = Air()
@@ -521,7 +521,7 @@ class NoiseTest(unittest.TestCase):
 
     @unittest.skipUnless(PROGRAM, NO_PROGRAM)
     def test_a_pilot_is_found_where_a_file_finds_it(self) -> None:
-        """The first search of a stream finds a pilot as far off as that of a file does, in either spectrum."""
+        """A stream's first search finds a pilot as far away as a file's does, in either spectrum."""
         chips = made_cell(PROGRAM or "", 2.5).reshape(-1, 2).astype(numpy.float32)
         samples = (chips[:, 0] + 1j * chips[:, 1]).repeat(2)
         turned = samples * numpy.exp(2j * numpy.pi * 12_345 / (2 * CHIP_RATE) * numpy.arange(len(samples)))
@@ -541,7 +541,7 @@ class NoiseTest(unittest.TestCase):
 
 
 class UnitTest(unittest.TestCase):
-    """The unit of systemd in examples/."""
+    """The systemd unit in examples/."""
 
     def test_its_command_is_right(self) -> None:
         unit = configparser.RawConfigParser(strict=False)

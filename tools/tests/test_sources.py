@@ -36,14 +36,14 @@ PARTS = numpy.random.default_rng(1).integers(-3_000, 3_000, 2_000)
 
 
 def wave(fields: bytes, data: bytes, more: bytes = b"", size: int | None = None, head: bytes = b"RIFF") -> bytes:
-    """A WAV file of a 'fmt ' chunk, of more chunks and of samples."""
+    """Returns a WAV file of a 'fmt ' chunk, of more chunks and of samples."""
     body = b"fmt " + struct.pack("<I", len(fields)) + fields + more
     body += b"data" + struct.pack("<I", len(data) if size is None else size) + data
     return head + struct.pack("<I", 4 + len(body)) + b"WAVE" + body
 
 
 def fields_of(form: int, bits: int, channels: int = 2) -> bytes:
-    """A 'fmt ' chunk of 16 bytes."""
+    """Returns a 'fmt ' chunk of 16 bytes."""
     block = channels * bits // 8
     return struct.pack("<HHIIHH", form, channels, RATE, RATE * block, block, bits)
 
@@ -53,14 +53,14 @@ class Stored(unittest.TestCase):
         self.folder = temporary_folder(self.addCleanup)
 
     def kept(self, name: str, data: bytes) -> str:
-        """The path of a file with these bytes."""
+        """Returns the path of a file with these bytes."""
         path = os.path.join(self.folder, name)
         with open(path, "wb") as file:
             file.write(data)
         return path
 
     def parts(self, stored: sources.Stored) -> NDArray[Any]:
-        """All parts of a recording."""
+        """Returns all I and Q values of a recording."""
         with Recording(stored.path, stored.kind, float(stored.rate)) as recording:
             return recording.read(0, recording.count).view(numpy.float32)
 
@@ -113,11 +113,11 @@ class Stored(unittest.TestCase):
             sources.stored_of(self.kept("x.wav", wave(fields_of(1, 16), data)), Fraction(RATE))
 
     def meta(self, captures: list[dict[str, Any]], **more: Any) -> dict[str, Any]:
-        """The object of a recording of 16 bits."""
+        """Returns the object of a recording of 16 bits."""
         return {"global": {"core:datatype": "ci16_le", "core:sample_rate": RATE, **more}, "captures": captures}
 
     def archive(self, names: dict[str, bytes]) -> str:
-        """The path of an archive of these files."""
+        """Returns the path of an archive of these files."""
         path = os.path.join(self.folder, "x.sigmf")
         with tarfile.open(path, "w") as file:
             for name, data in names.items():
@@ -198,13 +198,13 @@ class Tools(Recordings):
 
 class Live(unittest.TestCase):
     def source(self, address: str, kind: str = "ci16_le", tuning: Tuning = Tuning()) -> live.LiveSource:
-        """The live source of an address."""
+        """Returns the live source of an address."""
         scheme = live.scheme_of(address)
         assert scheme is not None
         return live.LiveSource(address, scheme, kind, Fraction(RATE), tuning)
 
     def items(self, source: live.LiveSource) -> list[Any]:
-        """All that a source puts into a backlog, up to its end, and why it was refused."""
+        """Returns everything that a source puts into a backlog, up to its end, and why it was refused."""
         backlog = Backlog()
         made: list[Any] = []
         reader = threading.Thread(target=source.begin(backlog), daemon=True)
@@ -219,7 +219,7 @@ class Live(unittest.TestCase):
         return made
 
     def server(self, data: bytes, waits: float = 0.0) -> str:
-        """The address of a server that sends bytes once, waits, and ends."""
+        """Returns the address of a server that sends bytes once, waits, and ends."""
         listener = socket.create_server(("127.0.0.1", 0))
         self.addCleanup(listener.close)
 
@@ -305,7 +305,7 @@ class Live(unittest.TestCase):
         self.assertFalse(reader.is_alive())
 
     def soapy(self, reads: list[int]) -> tuple[types.ModuleType, list[tuple[Any, ...]]]:
-        """A stand-in for SoapySDR whose radio answers reads by these numbers, and the calls that it gets."""
+        """Returns a stand-in for SoapySDR whose radio returns these numbers from reads, and the calls that it gets."""
         calls: list[tuple[Any, ...]] = []
 
         class Device:
@@ -318,7 +318,7 @@ class Live(unittest.TestCase):
                 return lambda *words: calls.append((name, *words))
 
             def readStream(self, stream: Any, blocks: list[NDArray[Any]], count: int, timeoutUs: int) -> Any:
-                """Samples of 1, or what is wrong."""
+                """Writes samples of 1, or returns an error."""
                 number = reads.pop(0)
                 blocks[0][: max(0, number)] = 1
                 return types.SimpleNamespace(ret=number)

@@ -1,4 +1,5 @@
-"""Which rules are whose, which of them each case rests on, and what `conformance/run --standard` asks and compares."""
+"""The owner of each rule, the rules on which each case rests, and what `conformance/run --standard` runs and compares.
+"""
 
 from __future__ import annotations
 
@@ -23,7 +24,7 @@ ZEROS = "16:0000"
 
 
 class Table(unittest.TestCase):
-    """The table of rules is docs/LINK.md's, and each case names what it rests on."""
+    """The table of rules is docs/LINK.md's, and each case names the rules on which it rests."""
 
     def setUp(self) -> None:
         with open(os.path.join(ROOT, "docs", "LINK.md"), encoding="utf-8") as file:
@@ -55,7 +56,7 @@ class Table(unittest.TestCase):
 
 
 class Distinct(unittest.TestCase):
-    """Which frames no codeword of another rate comes near."""
+    """Frames to which no codeword of another rate comes near."""
 
     def test_bits_without_a_pattern_are(self) -> None:
         for speed, bits in ((9_600, BITS), (4_800, OTHER), (2_400, "40:0a59e4b440"), (1_200, "16:d87d")):
@@ -73,7 +74,7 @@ class Distinct(unittest.TestCase):
 
 
 class Compared(unittest.TestCase):
-    """Receivers that are scripts of the shell, over a case of the standard."""
+    """Receivers that are shell scripts, over a case of the standard."""
 
     def setUp(self) -> None:
         self.folder = temporary_folder(self.addCleanup)
@@ -90,7 +91,7 @@ class Compared(unittest.TestCase):
         ]
 
     def case(self, *more: str, words: str = "follow", text: list[str] | None = None, checks: int = 0) -> cases.Case:
-        """A case of a cell that sends three frames."""
+        """Writes a case of a cell that sends three frames."""
         frames = [f"9600 {BITS}", f"1200 {ZEROS}", f"4800 {OTHER}"]
         script = [f"cell pn=4 checks={checks}", "link re=0 im=1"]
         script += [f"frame {frame} 0101010101010101" for frame in frames]
@@ -101,7 +102,7 @@ class Compared(unittest.TestCase):
         return cases.Case("one")
 
     def said(self, lines: list[str], status: int = 0) -> list[str]:
-        """What differs where a receiver writes these lines."""
+        """Returns what differs if a receiver writes these lines."""
         wrote = "".join(line + "\n" for line in lines).encode("ascii")
         return standard.differences(self.case(), cases.Answer(status, wrote, b"chatter\n", 0))
 
@@ -157,7 +158,8 @@ class Compared(unittest.TestCase):
                 self.assertIn(why, standard.reason(case()))
 
     def test_the_real_ones(self) -> None:
-        """Most of the cases of follow are asked, and each with noise within the margins that hears a channel."""
+        """Most of the cases of follow are run, among them each with noise within the margins in which a channel is
+        received."""
         cases.CASES = os.path.join(ROOT, "conformance", "cases")
         asked = [name for name in cases.names_of_cases() if not standard.reason(cases.Case(name))]
         self.assertGreaterEqual(len(asked), 50)
@@ -167,7 +169,7 @@ class Compared(unittest.TestCase):
 
 @unittest.skipUnless(PROGRAM, NO_PROGRAM)
 class OfTheProgram(unittest.TestCase):
-    """The program, and one that writes each place otherwise and no pilot: right by the standard, not by the cases."""
+    """The program, and one with other places and no pilot: right by the standard, not by the cases."""
 
     def test_places_are_not_asked_for(self) -> None:
         path = os.path.join(temporary_folder(self.addCleanup), "receiver")

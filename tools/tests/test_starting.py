@@ -1,4 +1,4 @@
-"""How each tool begins: an interrupt ends it with one line while it still imports, and a closed pipe with none."""
+"""How each tool begins: an interrupt during its imports ends it with one line, and a closed pipe with none."""
 
 from __future__ import annotations
 
@@ -33,7 +33,7 @@ FIRST_OF_COMMAND = 25  # an import that comes after those of `start`, and before
 
 
 def told_at_import(way: str, number: int, count: int, text: str = "") -> tuple[int, str]:
-    """How a tool ends whose import of this count is met by a signal: its status, and what it says."""
+    """Sends a signal to a tool at its import of this count; returns its status and its standard error."""
     path = os.path.join(ROOT, way)
     if not text:
         with open(path, encoding="utf-8") as file:
@@ -44,12 +44,12 @@ def told_at_import(way: str, number: int, count: int, text: str = "") -> tuple[i
 
 
 def name_of(way: str) -> str:
-    """What a tool calls itself."""
+    """Returns the name that a tool gives itself."""
     return called(named_by(os.path.join(ROOT, way)))
 
 
 class Imports(unittest.TestCase):
-    """An interrupt at a certain import, whatever the machine's speed is."""
+    """An interrupt at a certain import, whatever the machine's speed."""
 
     parted, seconds = True, 20
 
@@ -83,7 +83,7 @@ class Imports(unittest.TestCase):
 
 
 class Instants(unittest.TestCase):
-    """An interrupt some time after a tool has begun to hear them: it ends so, or has done what it was asked for."""
+    """An interrupt some time after a tool begins to receive them: the tool is interrupted, or has done its work."""
 
     seconds = 20
 
@@ -104,7 +104,7 @@ class Instants(unittest.TestCase):
 
 
 class ClosedPipes(unittest.TestCase):
-    """A help whose reader takes a line, or none."""
+    """Help output whose reader takes one line, or none."""
 
     def test_head(self) -> None:
         for way in ("tools/report", "tools/curve", "conformance/run"):
@@ -126,7 +126,7 @@ class ClosedPipes(unittest.TestCase):
 
 
 def wait_until_heard(child: subprocess.Popen[str]) -> None:
-    """Waits until a tool hears interrupts, as a Python by itself doesn't hear SIGTERM."""
+    """Waits until a tool receives interrupts: Python by itself does not catch SIGTERM."""
     until = time.monotonic() + SECONDS
     while child.poll() is None and time.monotonic() < until:
         with open(f"/proc/{child.pid}/status", encoding="ascii") as file:
@@ -137,7 +137,7 @@ def wait_until_heard(child: subprocess.Popen[str]) -> None:
 
 
 def hear() -> None:
-    """Lets a process hear interrupts, though the tests themselves may run under a shell that has them ignored."""
+    """Makes a process receive interrupts, even if the tests run under a shell that ignores them."""
     signal.signal(signal.SIGINT, signal.SIG_DFL)
 
 

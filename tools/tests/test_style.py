@@ -1,4 +1,5 @@
-"""The English of pages, help texts and docstrings: no patterns of translated prose, and no sentence too long."""
+"""The English of pages, help texts, docstrings and errors: no patterns of translated prose, and no sentence too long.
+"""
 
 import argparse
 import importlib
@@ -182,7 +183,7 @@ class Captured(Exception):
 
 
 def capture(parser: argparse.ArgumentParser, *_: object) -> None:
-    """Raises `Captured` with a parser, in place of reading arguments with it."""
+    """Raises `Captured` with a parser instead of reading arguments with it."""
     raise Captured(parser)
 
 
@@ -199,7 +200,7 @@ def parser_of(name: str) -> argparse.ArgumentParser:
 
 
 def modules_below(folder: str) -> Iterator[str]:
-    """Yields the modules of a folder, as places of the checkout."""
+    """Yields the modules of a folder, as paths of the checkout."""
     for path, _, names in os.walk(os.path.join(ROOT, folder)):
         for name in sorted(names):
             if name.endswith(".py"):
@@ -207,7 +208,7 @@ def modules_below(folder: str) -> Iterator[str]:
 
 
 class Style(unittest.TestCase):
-    """Every text that is held."""
+    """Every text that is checked."""
 
     seconds = 40
 

@@ -1,4 +1,4 @@
-"""The pilots of a survey, as what was heard explains them: cdma_tools.report.surveyed."""
+"""The pilots of a survey, explained by what was decoded: cdma_tools.report.surveyed."""
 
 import unittest
 
@@ -12,7 +12,8 @@ FLOOR = 0.01
 
 
 def explained(heard: Heard, *pilots: tuple[int, int]) -> list[tuple[int, int]]:
-    """Offsets and delays of pilots that stand out of noise, as they are explained; the first is the strongest."""
+    """Returns offsets and delays of pilots that stand out of noise, as they are explained; the first is the strongest.
+    """
     given = [Surveyed(pn, late, 1 / (number + 2), number) for number, (pn, late) in enumerate(pilots)]
     return [(pilot.pn, pilot.late) for pilot in explained_pilots(given, FLOOR, heard)]
 

@@ -1,8 +1,8 @@
-"""The figures of every tool against the truth, over recordings of cells that are drawn with a seed.
+"""The figures of every tool against the truth, over recordings of cells that are drawn from a seed.
 
 The cells' offsets, identities and gains are drawn, and so are types, rates, carriers, clocks, delays and levels; the
-truth stands in each .sigmf-meta, as tools/channel writes it. Three recordings are tried; with EVERY_TRUTH=1 ten, and
-the table of all figures is printed.
+truth is in each .sigmf-meta, as tools/channel writes it. Three recordings are tried, or ten with EVERY_TRUTH=1, which
+also prints the table of all figures.
 """
 
 import json
@@ -42,7 +42,7 @@ class Truth:
 
 
 def recorded(folder: str, number: int) -> Truth:
-    """The recording of a number, with its truth as its .sigmf-meta tells it."""
+    """Returns the recording of a number, with its truth from its .sigmf-meta."""
     draws = random.Random(f"{SEED} {number}")
     offsets = draws.sample(range(512), 2 if number % 3 == 1 else 1)
     cells = tuple(drawn_cell(draws, pn, tuple(other for other in offsets if other != pn)) for pn in offsets)
@@ -72,7 +72,7 @@ def recorded(folder: str, number: int) -> Truth:
 
 
 def decibels(ratio: float) -> float:
-    """A ratio of powers in dB."""
+    """Returns a ratio of powers in dB."""
     return 10 * math.log10(ratio)
 
 
@@ -85,12 +85,12 @@ class Truths(unittest.TestCase):
         self.table: list[str] = []
 
     def near(self, tool: str, name: str, found: float, wanted: float, most: str) -> None:
-        """Adds a figure to the table, and says if it lies too far from the truth."""
+        """Adds a figure to the table, and reports it if it is too far from the truth."""
         self.table.append(f"{tool:<16}{name:<22}{found:>14.3f}{wanted:>14.3f}{found - wanted:>+10.3f}")
         self.assertAlmostEqual(found, wanted, delta=MOST[most], msg=f"{tool}: {name}")
 
     def import_holds(self, truth: Truth) -> None:
-        """The line of a lock, and the table of cells."""
+        """Checks the line of a lock, and the table of cells."""
         status, wrote, said = run_main(
             "import_capture", "--lock", "--cells", len(truth.cells), "--json", "--program", PROGRAM, truth.path,
             os.path.join(self.folder, "out.is95"),
@@ -112,7 +112,7 @@ class Truths(unittest.TestCase):
             self.near("--cells", f"PN {cell.pn} carrier", row["carrier_difference_hz"], 0.0, "carrier")
 
     def scan_holds(self, truth: Truth) -> None:
-        """What a scan sees."""
+        """Checks the lines of a scan."""
         status, wrote, said = run_main("scan", "--json", truth.path)
         self.assertEqual(status, 0, said)
         (seen,) = json.loads(wrote)
@@ -122,7 +122,7 @@ class Truths(unittest.TestCase):
         self.assertEqual(seen["conjugate"], truth.is_conjugate)
 
     def domain_holds(self, truth: Truth) -> None:
-        """The rows of the strongest cell against its pilot, and the pilot against all power."""
+        """Checks the rows of the strongest cell against its pilot, and the pilot against the total power."""
         out = os.path.join(self.folder, "domain.json")
         status, _, said = run_main("domain", truth.path, "--program", PROGRAM, "--json", out)
         self.assertEqual(status, 0, said)

@@ -1,5 +1,5 @@
-"""Samples of cells that the built program makes, against values that were worked out elsewhere, by the standard's
-description of each channel."""
+"""Samples of cells that the built program makes, against values worked out elsewhere from the standard's description
+of each channel."""
 
 import unittest
 
@@ -106,19 +106,19 @@ WITHIN_A_BLOCK = {0: (-100, -500), 702: (500, -100), 703: (-350, 70), 704: (350,
 @unittest.skipUnless(PROGRAM, NO_PROGRAM)
 class WorkedCells(unittest.TestCase):
     def samples(self, cell: str, link: str, start: int, count: int, lines: list[str]) -> list[tuple[int, int]]:
-        """The samples of a cell from a local chip on."""
+        """Returns the samples of a cell from a local chip on."""
         script = "\n".join([cell, f"link {link} start={start} samples={count}", PILOT, *lines, ""])
         status, made = run_program("make", data=script.encode())
         self.assertEqual(status, 0)
         return taken_apart(made)[2]
 
     def symbols(self, samples: list[tuple[int, int]], chips: int, loud: set[int]) -> str:
-        """The symbols that last `chips` chips each, as hex digits: 0 if the first chip has the sum of the gains."""
+        """Returns the symbols of `chips` chips each, as hex digits: 0 if the first chip has the sum of the gains."""
         bits = "".join(str(int(abs(i) not in loud)) for i, _ in samples[::chips])
         return f"{int(bits, 2):0{len(bits) // 4}x}"
 
     def expect_samples(self, samples: list[tuple[int, int]], wanted: dict[int, tuple[int, int]], beside: int) -> None:
-        """Each part is as far from what is wanted as that."""
+        """Asserts that each part is as far as this from what is expected."""
         for place, (i, q) in wanted.items():
             found = [abs(part - other) for part, other in zip(samples[place], (i, q))]
             self.assertEqual(found, [beside, beside], place)
@@ -129,7 +129,7 @@ class WorkedCells(unittest.TestCase):
             self.assertEqual(self.symbols(samples, SYNC_SYMBOL, {390}), wanted)
 
     def test_a_whole_sending(self) -> None:
-        """The sum of the gains is 130, of which the parts of the link and of a code's point make one or five times."""
+        """The sum of the gains is 130; the parts of the link and of a code's point make one or five times that."""
         sending = "".join(2 * symbols for symbols in SENDING)
         samples = self.samples(FAR, "re=2 im=-3", 98_240, 11 * SYNC_FRAME, [LONG])
         self.assertEqual(self.symbols(samples, SYNC_SYMBOL, {130, 650}), sending)
