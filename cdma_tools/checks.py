@@ -12,7 +12,7 @@ from cdma_tools.sample_header import HEADER, header
 
 # The flags: the 30-bit checks of sync and paging messages, and the 16-bit ones of traffic channels, are complemented.
 COMPLEMENT_30, COMPLEMENT_16 = 1, 2
-# Where the flags stand in a header, and how many bytes they have.
+# The place of the flags in a header, and their number of bytes.
 FLAGS_PLACE, FLAGS_BYTES = 6, 2
 PIECE = 1 << 20
 

@@ -24,11 +24,11 @@ SILENT = logging.CRITICAL + 1
 # none.
 CONNECT = 10
 FIRST_WORKER = LAST_WORKER = 60
-# What a worker process that is started here gets, besides the settings of dask: the C library keeps freed memory up to
-# so many bytes. By dask's own setting it gives each large array back, and takes as long again to have its pages anew.
+# Settings of a worker process that is started here, besides dask's own: the C library keeps up to this many bytes of
+# freed memory. By dask's setting it returns each large array, and takes as long again to get new pages.
 KEEP_FREED = {"distributed.nanny.pre-spawn-environ.MALLOC_TRIM_THRESHOLD_": 1 << 28}
 LOOPBACK = "127.0.0.1"
-# The address of a status page: dask starts one in each process, on all interfaces if it isn't told otherwise.
+# The address of a status page: dask starts one in each process, by default on all interfaces.
 STATUS_PAGE = f"{LOOPBACK}:0"
 # The beginning of the name of a folder for workers, and the name of the file in it that its run holds.
 FOLDER, HELD = "cdma-workers-", "held"

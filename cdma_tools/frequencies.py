@@ -6,7 +6,7 @@ from typing import NamedTuple
 
 from cdma_tools.arguments import Within, decimal, whole_within
 
-# Hz by which a carrier may lie beside a channel's middle: 5 millionths at 1.9 GHz.
+# Hz by which a carrier may differ from a channel's middle: 5 millionths at 1.9 GHz.
 NEAR = 10_000.0
 MOST_FREQUENCY, MOST_CHANNEL = 4_294_967_295, 1_199
 FREQUENCY_OPTIONS = ("frequency", "channel", "band")

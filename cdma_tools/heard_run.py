@@ -4,7 +4,7 @@ from typing import Any, Iterable, NamedTuple
 
 from cdma_tools.lines import GROUPS
 
-CHIP_RATE = 1_228_800  # chips a second, and so many samples
+CHIP_RATE = 1_228_800  # chips a second, and as many samples
 FRAME = 24_576  # chips of a frame of the traffic channel: 20 ms (7.1.3.1.1)
 GROUP = FRAME // GROUPS  # chips of a power control group: 1.25 ms (7.1.3.1.7)
 FOLLOWED = ("pilot", "sync", "paging", "frame", "traffic", "sets", "raw")  # how the lines of follow begin

@@ -16,7 +16,7 @@ from cdma_tools.lines import begins_line
 from cdma_tools.places import TOP
 from cdma_tools.starting import INTERRUPTED, called
 
-# Command lines with the names of files of a room; OUT, or PICTURE, stands for the output.
+# Command lines with the names of a folder's files; OUT or PICTURE is the output.
 RAW = "--type ci8 --rate 2457600"
 LINES = (
     f"import_capture {RAW} input OUT",
@@ -218,7 +218,7 @@ def sockets(folder: str, _: random.Random) -> tuple[str, str]:
 
 
 Kind = Callable[[str, random.Random], tuple[str, str]]
-# The kinds of ends, each as often as it stands here.
+# The kinds of endings, each as often as it is listed here.
 KINDS: tuple[Kind, ...] = (*4 * (interrupted,), *2 * (same_file,), *2 * (pipes_and_devices,), growing_file)
 SOCKETS_ONE_IN = 40
 

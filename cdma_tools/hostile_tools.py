@@ -24,10 +24,10 @@ from cdma_tools import hostile_ends
 from cdma_tools.commands import scan, status_of
 from cdma_tools.sample_header import HEADER, header
 
-# What stands for a file that is read: most of them are there.
+# Names for a file that is read, most of which exist.
 INPUTS = ["input", "input", "cell.is95", "cell.is95", "input.sigmf-meta", "survey.txt", "it.script", "none", ""]
 SECONDS, MOST_WAIT = 60, 600  # of a processor, and in all, in which each run has to end
-MOST_CARRIERS = 1_000  # that a scan may ask for here, where it may try more elsewhere: that takes half a minute
+MOST_CARRIERS = 1_000  # that a scan may search here: more would take half a minute
 ENDS_ONE_IN = 3  # runs of which one is a process whose end is looked at
 MORE_ARGUMENTS = (0, 0, 1, 1, 2, 6)  # than those that a run needs
 NUMBERS = [
@@ -130,7 +130,7 @@ LINES = [
     "[[",
     "é",
 ]
-# Of each tool: the options that take a number, a text and nothing, and what stands without a name.
+# For each tool: the options that take a number, a text and nothing, and its positional arguments.
 OPTIONS: dict[str, tuple[str, str, str, tuple[str, ...]]] = {
     "import_capture": (
         "--rate --offset --shift --scale --skip --count --format --version --fingers --search --cell --pn",
@@ -161,7 +161,7 @@ OPTIONS: dict[str, tuple[str, str, str, tuple[str, ...]]] = {
     "make_capture": ("--phase --amplitude --noise --seed", "", "", ("output",)),
     "gate_times": ("", "--root", "", ("input",)),
 }
-# What every tool takes without being told: so that runs get beyond the first missing argument, and end soon.
+# Arguments that every run of a tool gets, so that runs get beyond the first missing argument, and end soon.
 GIVEN: dict[str, list[str]] = {
     "import_capture": ["--type", "ci8", "--rate", "2457600"],
     "channel": ["--seconds", "0.01"],
@@ -184,7 +184,7 @@ ONE_LINE = {
     "gate_times",
 }
 STATUSES = {"report": range(11)}  # those of follow, 9 and 10 (its --help)
-FAILED = {"report": (2, 9)}  # the statuses of a run that writes nothing, where they aren't 1 and 2
+FAILED = {"report": (2, 9)}  # the statuses of a run that writes nothing, if they aren't 1 and 2
 
 
 class Ran(NamedTuple):

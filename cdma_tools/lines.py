@@ -20,7 +20,7 @@ from typing import Any, Callable, Iterator, NamedTuple
 
 TIME_NAME = "time_utc"  # under which the objects of a listening have the time of their `at`, besides the line's fields
 MOST_COUNT = 2**64 - 1  # what the program counts in is 64 bits wide
-MOST_EXACT = 2**53  # below it a floating-point number tells each whole number
+MOST_EXACT = 2**53  # below it a floating-point number represents each whole number
 MOST_BITS = 8 * 148  # a capsule has at most 148 octets (7.7.1, 7.7.2, 7.7.3)
 RATES = (9_600, 4_800, 2_400, 1_200)  # of rate set 1, in bits a second (7.1.3.5)
 RATES2 = (14_400, 7_200, 3_600, 1_800)  # of rate set 2
@@ -395,7 +395,8 @@ SHAPES = (
         + counts(("frames", "traffic channel frames"), ("good", "good ones of these frames")),
     ),
 )
-# A line that no run of the program writes, but a listening that adds to a file of another one: `at` counts anew after it.
+# A line that no run of the program writes, but `listen` when it appends to another run's file: after it `at` counts
+# from 0 again.
 ORIGIN = "origin"
 ORIGIN_SHAPE = Shape(ORIGIN, (Field("utc", UTC, "the time in UTC from which the lines after it count"),))
 BY_WORDS = {(shape.line, shape.word): shape for shape in (*SHAPES, ORIGIN_SHAPE)}

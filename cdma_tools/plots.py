@@ -40,7 +40,7 @@ def title_of(text: str) -> str:
             if is_math_text(text):
                 MathTextParser("path").parse(text)
         except ImportError:
-            pass  # that it is missing is said where a picture is drawn
+            pass  # if it is missing, drawing a picture reports that
         except ValueError:
             raise wrong("matplotlib can't read the mathematics between its dollar signs", text) from None
     return text
@@ -68,5 +68,5 @@ def save(figure: Any, path: str, **settings: Any) -> None:
     form = form_of(path)
     metadata = {"Software": None} if form == "png" else {"Date": None}
     with write_out(path) as file, warnings.catch_warnings():
-        warnings.simplefilter("ignore")  # of letters that the font hasn't: a box stands for them
+        warnings.simplefilter("ignore")  # of letters that the font lacks: they are shown as a box
         figure.savefig(file, format=form, **{"metadata": metadata, **settings})

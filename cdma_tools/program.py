@@ -16,7 +16,7 @@ NAME = "cdma_replay"
 LONGEST_RUN = 600  # seconds that a run over a sample file may take
 VARIABLE = "CDMA_REPLAY"
 
-# Where the program is looked for that nobody names, and what is said if it isn't there: in a checkout, and installed.
+# Where the program is searched by default, and the error if it isn't there: in a checkout, and installed.
 IN_CHECKOUT = "the one built in this checkout"
 BESIDE = "the one next to this command"
 NOT_FOUND = (

@@ -15,7 +15,7 @@ class Kind(NamedTuple):
     """How a sample type stores one part of a sample."""
 
     form: str  # numpy's name for it
-    zero: int  # the whole number that stands for 0
+    zero: int  # the whole number that means 0
     middle: float  # the true middle of the converter's range
 
     @property

@@ -26,7 +26,7 @@ from cdma_tools.recordings import TYPES, SamplePath
 ARCHIVE, WAVE = ".sigmf", ".wav"
 DESCRIBED = (sigmf.META, ARCHIVE, WAVE)
 MOST_CAPTURES = 1_000_000
-# Formats of a WAV file, by their number and their bits, and the number that says that another place has it.
+# Formats of a WAV file, by their number and their bits, and the number that refers to another place.
 PCM, FLOATING, EXTENSIBLE = 1, 3, 0xFFFE
 WAVE_TYPES = {
     (PCM, 8): "cu8", (PCM, 16): "ci16_le", (PCM, 32): "ci32_le", (FLOATING, 32): "cf32_le", (FLOATING, 64): "cf64_le",

@@ -36,7 +36,7 @@ def hear_interrupts() -> None:
 @contextlib.contextmanager
 def held_interrupts() -> Iterator[None]:
     """Holds Ctrl-C back until this context is left; processes started in it don't get it at all."""
-    resource_tracker.ensure_running()  # which would let the thread that first starts a process hear Ctrl-C again
+    resource_tracker.ensure_running()  # which would make the thread that first starts a process receive Ctrl-C again
     with noted_interrupts(signal.SIGINT):
         signal.pthread_sigmask(signal.SIG_BLOCK, {signal.SIGINT})
         try:

@@ -14,7 +14,7 @@ from typing import IO
 from cdma_tools.errors import Refused
 from cdma_tools.overwriting import STANDARD
 
-# Names in these folders stand for devices and for files that are open already, but for those in shared memory.
+# Names in these folders are devices and files that are already open, except those in shared memory.
 OPEN_FILES, SHARED_MEMORY = ("/dev/", "/proc/"), "/dev/shm/"
 # Seconds for which a FIFO is waited for that nobody reads yet, and from one try to the next.
 READER_WAIT, READER_AGAIN = 30.0, 0.05

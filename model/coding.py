@@ -77,7 +77,7 @@ def check_bits(check: Check, bits: Bits) -> Bits:
     return spelled(check.degree, register)
 
 
-# ---- the rates of traffic channels (7.1.3.1.1 to 7.1.3.1.5; rate set 2 as docs/LINK.md has it)
+# ---- the rates of traffic channels (7.1.3.1.1 to 7.1.3.1.5; rate set 2 by docs/LINK.md)
 
 TAIL = 8
 """Zeros after a traffic frame's bits: they bring the encoder back to state zero."""

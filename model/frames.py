@@ -66,7 +66,7 @@ def end_of(fingers: list[Finger], form: Form, start: int) -> int:
     return start + form.chips() - min(finger.delta for finger in fingers)
 
 
-# ---- frames whose encoder goes on: the sync and the paging channel
+# ---- frames whose encoder continues: the sync and the paging channel
 
 
 class Stream(NamedTuple):
@@ -136,7 +136,7 @@ def stream_frames(capture: Capture, stream: Stream, taken: int) -> Iterator[tupl
         yield index, stream.end(span[-1]), bits[index]
 
 
-# ---- frames of traffic channels, each a codeword of its own
+# ---- frames of traffic channels, each a codeword by itself
 
 
 class Decoded(NamedTuple):

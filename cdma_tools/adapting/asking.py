@@ -18,7 +18,7 @@ from cdma_tools.lines import NoLine, spell_line
 
 STATUS, ERROR = "status", "error"
 MOST_STATUS = 255
-SIGNALLED = 128  # and the signal's number: the status of a receiver that a signal ended, as a shell tells it
+SIGNALLED = 128  # and the signal's number: the status of a receiver that a signal ended, as in a shell
 CONNECT_SECONDS = 10
 PIECE = 1 << 16
 
@@ -131,7 +131,7 @@ def ask_command(words: Sequence[str], arguments: Sequence[str], source: IO[bytes
         command = filled(words, arguments, files)
         has_file = OUTPUT in files
         given: IO[bytes] | int = subprocess.DEVNULL if INPUT in files else source
-        # What a receiver with a file of its own for lines says on standard output is meant for a reader.
+        # If a receiver writes its lines to a file, its standard output is for readers.
         said: IO[str] | int = sys.stderr if has_file else subprocess.PIPE
         try:
             child = subprocess.Popen(command, stdin=given, stdout=said)

@@ -28,7 +28,7 @@ class CellFacts:
     pn: int | None
     ec_io_db: float  # of all power that was received, the other cells with it
     seconds: float  # over which Ec/Io was taken
-    phase: int  # the code phase at the first chip that was heard
+    phase: int  # the code phase at the first received chip
     delay_chips: float | None  # against the first cell, on top of the offsets
     carrier_hz: float
     carrier_difference_hz: float  # against the first cell

@@ -24,16 +24,16 @@ from cdma_tools.radio.paths import Way
 from cdma_tools.radio.second_pass import Piece, chips_of
 from cdma_tools.recordings import Recording
 
-# Paths of a cell that are heard and sent again, and rounds in which each cell is heard again with the others off.
+# Paths of a cell that are received and regenerated; rounds in which each cell is received again without the others.
 MOST_PATHS, ROUNDS = 4, 2
 # Chips between the codes of neighbouring offsets: two cells differ by more, but for what their ways differ.
 OFFSET = 64
-# Standard deviations by which an echo's symbols are those of its cell. Those of two cells have nothing in common.
+# Standard deviations above which an echo's symbols are those of its cell. Those of two cells are uncorrelated.
 LEAST_ECHO = 12.0
 # Chips of which the power of a cell without the others is taken: a fifth of a second.
 POWER_CHIPS = 245_760
-# Hz round the first cell's carrier in which the others' are looked for: base stations keep theirs within 50 Hz, and a
-# moving radio turns them by 200 at most.
+# Hz around the first cell's carrier in which the others' are searched: base stations keep theirs within 50 Hz, and a
+# moving radio shifts them by 200 at most.
 NEXT_SEARCH = 1_000.0
 # The most cells, with echoes, that are looked for.
 MOST_CELLS = 12
@@ -115,7 +115,7 @@ def common_symbols(cell: Cell, other: Cell) -> float:
     """Returns the standard deviations by which the symbols of two cells are the same, where their codes meet the same
     chips."""
     one, two = cell.symbols[0], other.symbols[0]
-    # Chips are numbered from each lock's own period on; the times of both tell how many periods lie between.
+    # Chips are numbered from each lock's own period; the times of both give the number of periods between them.
     fit, others = cell.held.pieces[0].fit, other.held.pieces[0].fit
     time = float(fit.times(one.base))
     periods = PERIOD * round((others.chip_at(time) - one.base) / PERIOD)

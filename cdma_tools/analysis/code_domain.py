@@ -50,7 +50,7 @@ SMOOTHED = 3
 # Standard deviations of noise from which a row counts as in use, and the least share in dB: 64 rows of noise pass six
 # of them once in ten million times, and the pulse's sides make rows of -45 dB.
 LEAST_SIGMA, LEAST_SHARE = 6.0, -33.0
-# Parts of the chips whose own rho tell its spread.
+# Parts of the chips, whose values of rho give its spread.
 PARTS = 16
 # The least spread of noise that is reckoned with, as a part of all power: made files have none.
 LEAST_SPREAD = 1e-7
@@ -70,9 +70,9 @@ class Row:
     """What one Walsh row shows; its phase and its time are relative to the pilot's."""
 
     row: int
-    db: float  # of all power, without the noise in it; -99 where that leaves nothing
+    db: float  # of all power, without the noise in it; -99 if nothing is left
     total_db: float  # of all power, with the noise in it: the standard's code domain power
-    sigma: float  # standard deviations of noise by which its power stands out
+    sigma: float  # its power above the noise, in standard deviations
     is_used: bool
     degrees: float
     chips: float
@@ -89,7 +89,7 @@ class CodeDomain:
     pilot_share: float  # the pilot's part of all power
     pilot_only_rho: float | None  # the standard's waveform quality where only the pilot is sent
     chips: int  # that were measured
-    time_left: float  # chips by which the pilot comes later than the chips were taken
+    time_left: float  # delay of the pilot, in chips, against the instants of the chips
     carrier_left: float  # Hz
     peak_db: float  # the greatest power of a chip over the mean
     in_rows: float  # the power of the rows in use over that of all chips

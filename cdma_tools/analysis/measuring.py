@@ -25,7 +25,7 @@ from cdma_tools.sample_file import SampleFile
 
 # Rows of paging channels (7.1.3.1.8).
 PAGING_ROWS = range(1, 8)
-# Chips of a file's beginning by which its pilot is found and its pulse is told: at most a second.
+# Chips at a file's beginning from which its pilot and its pulse are found: at most a second.
 BEGIN_CHIPS = CHIP_RATE
 # The part of the work that the lock, the file and the measuring reach.
 STEPS = (0.5, 0.8, 1.0)
@@ -36,7 +36,7 @@ class Timing:
     """A recording's carrier, clock and time, against the cell's."""
 
     carrier_hz: float  # above the middle, half way
-    clock_ppm: float  # by which the radio's clock is slow
+    clock_ppm: float  # of the radio's clock; positive if it is slow
     time_chips: float  # by the radio's clock, at which the period of the code begins that is nearest to the middle
     is_conjugate: bool
     has_equaliser: bool

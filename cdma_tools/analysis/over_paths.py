@@ -42,10 +42,10 @@ from cdma_tools.radio.tracking import SEGMENT, SUM
 MARGIN = 6
 # Segments of 13 ms that are added at most, spread over the recording: 5 seconds.
 MOST_SEGMENTS = 375
-# The part of the matched pulse's greatest spectrum below which there is no signal, but noise: 0.0002 of a pulse.
+# The part of the matched pulse's greatest spectrum below which there is only noise: 0.0002 of a pulse.
 LEAST_SPECTRUM = 0.01
-# By how much more of the pilot has to arrive than the strongest path's, beside so many standard deviations of noise,
-# where only one path was found: paths within a chip have one peak.
+# By how much the received pilot must exceed the strongest path's, in addition to this number of standard deviations of
+# noise, if only one path was found: paths within a chip have one peak.
 LEAST_MORE, LEAST_SIGMA = 0.003, 3.0
 
 

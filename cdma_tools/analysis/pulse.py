@@ -15,8 +15,8 @@ from scipy import fft
 
 from cdma_tools.radio.air import pulse_spectrum
 
-# Chips to each side to which the pulse's values reach, and those to which its slopes are taken: what lies further off
-# is below a hundredth of the steepest. The pulse is drawn at so many samples a chip, and so many in all.
+# The reach of the pulse's values to each side, in chips, and of its slopes: beyond it they are below a hundredth of the
+# steepest. The pulse is drawn at this number of samples a chip, and of samples in all.
 REACH, SLOPES_REACH, OVER, SIZE = 12, 7, 8, 4_096
 
 

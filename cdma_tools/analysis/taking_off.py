@@ -26,7 +26,7 @@ WINDOW, WINDOWS_AT_ONCE = 6_144, 16
 COPIES = (-0.5, 0.0, 0.5)
 # The part of the mean power that is added to the squares' matrix, since copies are much alike.
 RIDGE = 1e-3
-# Chips at both ends of what was heard whose waves aren't whole.
+# Chips at both ends of what was received whose waves are incomplete.
 MARGIN = 32
 # Samples between which places in chips are drawn straight, and those between which the carrier's phase is.
 PLACES_STEP, PHASE_STEP = 4_096, 256
@@ -54,7 +54,7 @@ class Waves:
     def __init__(self, front: Front, fit: Fit, symbols: Symbols, ways: list[Way]) -> None:
         self.front, self.fit, self.symbols = front, fit, symbols
         self.copies = [Copy(number, way.delay + half) for number, way in enumerate(ways) for half in COPIES]
-        # The conjugate: the equaliser as the base station has it.
+        # The conjugate: the base station's own equaliser.
         self.response = front.response.conj() * numpy.float32(front.samples / front.chips)
 
     @property

@@ -17,7 +17,7 @@ from cdma_tools.places import TOP
 from cdma_tools.starting import called
 
 FAILED = 1
-# The statuses of commands in which 1 says something else.
+# The statuses of commands in which 1 has another meaning.
 FAILED_AS = {
     "report": 9,
     "adapt": 9,

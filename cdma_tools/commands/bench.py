@@ -47,7 +47,7 @@ DECODINGS = [
     ("192 between zeros", 192, "decodes_192_bits_between_zeros_300_times", 300),
     ("4 of 192 bits", 192, "lists_4_of_192_bits_100_times", 100),
 ]
-# Tests that read or write a message so many times, and one that takes next to no time.
+# Tests that read or write a message this many times, and one that takes almost no time.
 MESSAGE_TESTS = os.path.join(TOP, "crates", "message_tests", "out", "message_tests_tests")
 MESSAGE_TIMER = "message_timing_tests"
 MESSAGE_SHORT_TEST = "a_message_is_written"

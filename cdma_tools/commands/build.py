@@ -57,7 +57,7 @@ def crates_in(root: str, name: str) -> dict[str, Crate]:
     """The crates of a checkout, of which one has this name."""
     try:
         crates = crates_of(root)
-        longest_chain(stands_on(crates))  # which tells of a circle
+        longest_chain(stands_on(crates))  # which refuses a cycle
     except (NoList, Refused) as why:
         raise WrongArguments(f"{root} is not a checkout with crates: {why}") from None
     if name not in crates:

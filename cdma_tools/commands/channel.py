@@ -56,7 +56,7 @@ DOPPLER = number_within(0, 100_000)  # Hz
 ROW, BITS = whole_within(0, 63), whole_within(1, 1_228_800)
 
 
-# Options of one number each, which are told as they are.
+# Options of one number each, which are reported unchanged.
 NUMBERS = ("carrier", "drift", "clock", "clock_drift", "delay", "dc")
 
 

@@ -73,7 +73,7 @@ from cdma_tools.sources import add_capture_option, is_described, stored_of
 from cdma_tools.starting import called
 from cdma_tools.writing import write_out
 
-# Options that go with a recording alone.
+# Options that go only with a recording.
 LOCK_OPTIONS = ("skip", "shift", "search", "conjugate", "equaliser")
 RECORDING_ONLY = (*LOCK_OPTIONS, "capture", *CELL_OPTIONS, *FREQUENCY_OPTIONS)
 

@@ -346,7 +346,7 @@ def take_by_lock(
 
     `look` gets the lock while its samples are still open, unless a weaker cell is taken.
     """
-    from cdma_tools.radio.locking import lock  # scipy takes half a second to load, and is wanted here alone
+    from cdma_tools.radio.locking import lock  # scipy takes half a second to load, and only this needs it
 
     kind, rate, path = recording_told(options)
     hints = assumed(options, kind, path)

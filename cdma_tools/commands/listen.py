@@ -298,7 +298,7 @@ def source_of(options: argparse.Namespace) -> Stream | Recording:
             return Stream(kind, rate, file=open(path, "rb", buffering=0))
     except OSError as why:
         raise Refused(f"{path}: {why.strerror}") from None
-    # A worker may stand in another folder.
+    # A worker may have another working directory.
     return Recording(absolute(path), sample_count(path, kind), lock_options(options, kind, rate))
 
 

@@ -235,7 +235,7 @@ def signs_in(path: str, cell: Cell, name: str, heard: Heard, names: dict[int, st
 def main(arguments: list[str] | None = None) -> int:
     """Runs the tool, and returns the exit status."""
     options = parser().parse_args(arguments)
-    # No command of the program has --json, so it is this tool's wherever it stands.
+    # No command of the program has --json, so it is this tool's at any place.
     command = [argument for argument in options.command if argument != "--json"]
     try:
         sys.stdout.write(report(options.script, command, options, options.json or command != options.command))

@@ -60,7 +60,7 @@ from cdma_tools.writing import write_out
 MOST_SECONDS = MOST_CHIPS[1] / CHIP_RATE
 NOT_IMPORTED = 10  # the status of a page that says why
 SPANS = {str(span) for span in range(64, 32_769)}  # as follow takes them
-SPAN = 2_048  # samples of the search, where --span tells no other (docs/FORMATS.md)
+SPAN = 2_048  # samples of the search by default (--span, docs/FORMATS.md)
 MOST_CELLS = 12
 MOST_NOTES = 40  # of a recording's own
 # The options of follow, as docs/FORMATS.md has them.

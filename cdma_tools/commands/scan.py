@@ -59,7 +59,7 @@ from cdma_tools.starting import called
 
 MOST_CENTRES = 100_000
 LOCK_SEARCH = 1_000.0  # Hz to each side of a pilot that was found
-MOST_CARRIERS = 2_000_000  # that are tried round all centres; each takes some 7 ms
+MOST_CARRIERS = 2_000_000  # that are tried around all centres; each takes some 7 ms
 
 
 class Told(NamedTuple):

@@ -38,7 +38,7 @@ KEYS = (
     + ["near", "change", "cut", "add", "sha256", "output"]
 )
 NEEDED = ["purpose", "words", "status"]
-# Keys that may stand without a value: no argument, and nothing on standard error.
+# Keys that may have no value: no argument, and nothing on standard error.
 MAYBE_EMPTY = {"words", "error"}
 INPUTS = ["samples", "script", "nothing", "directory", "dropped"]
 SINKS = ["closed", "full"]

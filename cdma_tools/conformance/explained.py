@@ -47,7 +47,7 @@ NAMES = {
     "quality": "step 6, the quality indicator as it should be",
 }
 LAST = "step 7, the fields of the bits"
-MOST_FRAMES = 64  # that stand before one line, and are looked at
+MOST_FRAMES = 64  # before one line that are examined
 
 
 @dataclasses.dataclass(frozen=True)

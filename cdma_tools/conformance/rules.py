@@ -63,7 +63,7 @@ RULES = (
     Rule("clean_link", "A clean link", "own", OWN, "what is received of what was sent"),
     Rule("noise", "A link with noise", "own", OWN, "noise that a channel bears in the worst case"),
 )
-# docs/FORMATS.md specifies files, arguments, lines and statuses, which are no rules of the air interface.
+# docs/FORMATS.md specifies files, arguments, lines and statuses, which are not rules of the air interface.
 FORMATS = "formats"
 
 CELL = {"samples", "pilot_codes", "walsh", "cell"}

@@ -13,7 +13,7 @@ KINDS = ("sync", "paging", "frame")
 PLACE = re.compile(r" at=\d+")
 FRAME = re.compile(r"frame rate=(\d+) good=1 bits=(\d+:[0-9a-f]*) ")
 ANY_FRAME = ""  # of a frame that the standard doesn't fix
-# So many symbols of a frame are lost to power control bits.
+# Symbols of a frame that are lost to power control bits.
 REPLACED = 32
 
 

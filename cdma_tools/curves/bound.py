@@ -130,7 +130,7 @@ def weights_left(rate: int) -> NDArray[numpy.float64]:
     Each sent symbol is taken to be lost to a power control bit with probability 1 in 12, independently. So k of a
     word's w symbols are left with the binomial probability.
     """
-    from scipy.stats import binom  # takes more than half a second to load, and is wanted here alone
+    from scipy.stats import binom  # takes more than half a second to load, and only this needs it
 
     words = frame_weights(rate)
     weights = numpy.flatnonzero(words)

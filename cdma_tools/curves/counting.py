@@ -62,7 +62,7 @@ class Count:
 
 Counts = dict[str, Count]
 Messages = dict[tuple[str, str], list[int]]
-# From the first of so many samples to the one after the last.
+# From the first sample to the one after the last.
 Span = tuple[int, int]
 
 

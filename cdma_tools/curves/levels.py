@@ -16,11 +16,11 @@ from cdma_tools.errors import Refused
 from cdma_tools.scripts import SYNC_ROW, Script, Traffic
 
 CHIP_RATE = 1_228_800
-# A power control bit takes 2 of the 24 symbols of a group (7.1.3.1.7), at the channel's own gain, at every rate:
-# the power control subchannel is no part of the traffic channel's Ec.
+# A power control bit takes 2 of the 24 symbols of a group (7.1.3.1.7), at the channel's own gain, at every rate: the
+# power control subchannel does not count towards the traffic channel's Ec.
 TRAFFIC_SHARE = 22 / 24
 SYNC_RATE = 1_200
-# The paging channel that receivers hear where their arguments name none.
+# The paging channel that receivers decode by default.
 FIRST_PAGING = 1
 PAGING_RATES = {0: 9_600, 1: 4_800}
 ROUNDING = 2 / 12

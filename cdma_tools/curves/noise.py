@@ -12,7 +12,7 @@ from cdma_tools.errors import Refused
 LEAST, GREATEST = -32_768, 32_767
 # Parts that are made noisy at once: 8 MiB of floating point.
 BLOCK = 1 << 20
-# So many standard deviations lie within the range of samples, so that fewer than one part in 10,000 is cut.
+# Standard deviations that must fit into the range of samples, so that fewer than one part in 10,000 is clipped.
 MARGIN = 4
 
 

@@ -15,7 +15,7 @@ from cdma_tools.scripts import Traffic
 VERSION = 1
 # More than any sample file or its lines have.
 MOST_BYTES = 1 << 28
-# The commands that hear a traffic channel, and the arguments that name it.
+# The commands that decode a traffic channel, and the arguments that name it.
 COMMANDS = {"frame": ("follow", "list"), "frame2": ("rate2",)}
 NO_SYNC = 1
 

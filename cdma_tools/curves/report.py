@@ -199,7 +199,8 @@ def draw_line(axes: Any, line: Sequence[Row], name: str, color: str, marker: str
 
 
 Bound = Callable[[int, float], float]
-# What is drawn beside curves in each kind of air: the name, the form of the line, and the share at a rate and a ratio.
+# What is drawn next to curves in each kind of channel: the name, the form of the line, and the share at a rate and a
+# ratio.
 DRAWN: dict[AirKind, list[tuple[str, str, Bound]]] = {
     AirKind.WHITE: [("union bound", "--", frame_bound)],
     AirKind.RAYLEIGH: [

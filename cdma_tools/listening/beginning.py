@@ -10,18 +10,18 @@ from numpy.typing import NDArray
 from cdma_tools.listening.seams import KeptChips
 from cdma_tools.radio.air import CHIP_RATE, PERIOD, short_code
 
-# So many stretches of a run's first chips are compared, and one counts as strong whose pilot has this part of their
-# mean energy, in each of its parts.
+# This number of stretches of a run's first chips is compared. A stretch counts as strong if its pilot has this part of
+# their mean energy in each of its parts.
 START_CHIPS, START_STRETCHES, START_PARTS, STRONG = 2_048, 32, 2, 0.5
 START = START_CHIPS * START_STRETCHES
-# The energy over the noise's mean that a pilot has in a stretch of its own so that the program finds it there: noise
-# has more at one of the code's 32,768 phases once in 270 stretches.
+# The energy over the noise's mean in a pilot's stretch from which the program finds it there: noise has more at one of
+# the code's 32,768 phases once in 270 stretches.
 FOUND = 16.0
-# The mean energy of stretches over the noise's by which a pilot is there, and isn't the noise that one stretch was
-# chosen for, which leaves 1.4 in 32 of them.
+# The mean energy of stretches over the noise's from which there is a pilot: the noise for which one stretch was chosen
+# leaves a mean of only 1.4 over 32 stretches.
 THERE = 3.0
-# Chips after which a run begins even where the lock's pilot isn't heard: a lock gives up after two seconds without it,
-# and one that goes on for longer follows something else, which the run's search then tells.
+# Chips after which a run begins even if the lock's pilot isn't received: a lock gives up after two seconds without it,
+# and one that continues for longer follows something else, which the run's search then finds.
 WAIT = 5 * CHIP_RATE // 2
 # Chips after the beginning of a run that found noise at which the next one may begin.
 AGAIN = CHIP_RATE // 2

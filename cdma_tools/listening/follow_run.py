@@ -20,13 +20,13 @@ from cdma_tools.sample_header import MOST_CHIPS, header
 VERSION = 1
 # Chips that a run can take: as many as its file may have.
 MOST = MOST_CHIPS[VERSION]
-# The program's statuses where it read all that it was given: 1 says that no sync message was heard, and 3 that fewer
-# samples came than the header tells, which is so of every stream.
+# The program's statuses if it read all of its input: 1 means that no sync message was received, and 3 that fewer
+# samples arrived than the header says, which holds for every stream.
 READ_ALL = (0, 1, 3)
 LARGEST_COUNT = 4_294_967_295
-# Signals that a run doesn't hear: whoever feeds it decides when it ends, also where a whole group gets them.
+# Signals that a run ignores: the process that feeds it decides when it ends, also if the whole group gets them.
 UNHEARD = {*INTERRUPTS, signal.SIGHUP}
-# The line that tells the phase of the code at a run's first chip, by the pilot that it heard.
+# The line with the code phase at a run's first chip, by the pilot that it found.
 PILOT = re.compile(r"pilot phase=(\d+) ")
 
 
@@ -40,7 +40,7 @@ class Handset:
     esn: str | None = None
     row: int | None = None
     offset: int = 0
-    is_raw: bool = False  # whether messages are told as they came, too
+    is_raw: bool = False  # whether messages are also reported as received
     flags: int = 0
 
     def on_row(self, row: int | None) -> "Handset":
@@ -92,7 +92,7 @@ class FollowRun:
         self.told: list[Event] = []  # lines that came and weren't taken yet
         self.sets: list[tuple[int, Sets]] = []
         self.last: int | None = None  # the chip of the last line that came
-        self.phase: int | None = None  # of the code at its first chip, as it told it; None once that was looked at
+        self.phase: int | None = None  # of the code at its first chip, as it reported it; None once that was checked
         self.said = tempfile.TemporaryFile()
         blocked = signal.pthread_sigmask(signal.SIG_BLOCK, UNHEARD)  # which the process takes over
         try:

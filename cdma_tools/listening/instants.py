@@ -13,8 +13,8 @@ from cdma_tools.radio.tracking import Point
 
 # Points over which energies are averaged with equal weights, a minute of them; older ones are forgotten slowly.
 MEMORY = 1_024
-# Chips by which instants are moved from one node to the next at most, 0.05 a second; and those within which they are
-# moved at all, since between paths further apart nothing is held.
+# The most chips by which instants move from one node to the next, 0.05 a second; and the most by which they move at
+# all, since between paths further apart no pilot is held.
 STEP, NEAR = 0.005, 0.5
 
 

@@ -15,7 +15,7 @@ from cdma_tools.listening.system_time import SystemTime, time_told
 from cdma_tools.starting import called
 from cdma_tools.wireshark.stream import PacketStream
 
-# What each of the options that count hears, by the first words of lines.
+# What each of the counting options counts, by the first words of lines.
 TAPS = {
     "pilots": ("pilot", "sets"),
     "messages": ("sync", "paging", "traffic"),
@@ -36,9 +36,9 @@ class Already:
     same: Counter[str] = field(default_factory=Counter)  # lines with that `at`, by their option
     unplaced: int = 0  # lines without one after it
     times: dict[int, int] = field(default_factory=dict)  # of sync messages: `at` by SYS_TIME
-    offset: int | None = None  # PILOT_PN as the last of them told it
-    sets: list[Event] = field(default_factory=list)  # lines that tell pilot sets, by `at`
-    has_origin: bool = False  # whether a line tells another origin: then they are lines of streams
+    offset: int | None = None  # PILOT_PN as the last of them gave it
+    sets: list[Event] = field(default_factory=list)  # lines of pilot sets, by `at`
+    has_origin: bool = False  # whether a line gives another origin: then they are lines of streams
 
     @property
     def lines(self) -> int:
@@ -76,7 +76,7 @@ class LineWriter:
         self.already = already or Already()
         self.counts = Counter(self.already.counts)
         self.origin = 0
-        self.began = ""  # the time from which lines count, if a line is to tell it
+        self.began = ""  # the time from which lines count, if a line must give it
         self.written = 0  # lines
         self.time: SystemTime | None = None
         self.packets: PacketStream | None = None  # which gets each line's packet too

@@ -13,7 +13,7 @@ from cdma_tools.radio.air import CHIP_RATE, PERIOD
 
 # Seconds without a pilot from one remark on it to the next, and from one anchor to the next.
 SILENCE, ANCHORS = 60.0, 1.0
-# Chips by which a clock may go astray while the pilot fades.
+# Chips by which a clock may drift while the pilot fades.
 MOST_ASTRAY = 4
 
 

@@ -39,7 +39,7 @@ RTL_TCP, TCP, UDP, ZMQ, SOAPY = "rtl_tcp", "tcp", "udp", "zmq", "soapy"
 # The type that each sends, unless it sends any; and whether it can be tuned.
 SENT_TYPES = {RTL_TCP: "cu8", ZMQ: "cf32_le", SOAPY: "cf32_le"}
 FIXED_TYPES, TUNED = (RTL_TCP, SOAPY), (RTL_TCP, SOAPY)
-# Samples that are taken of a radio at once, and what SoapySDR answers where samples were lost, and where none came.
+# Samples read from a radio at once; what SoapySDR returns if samples were lost, and if none arrived.
 SOAPY_SAMPLES, SOAPY_OVERFLOW, SOAPY_TIMEOUT = 1 << 15, -4, -1
 MICROSECONDS = 1_000_000
 
@@ -57,7 +57,7 @@ class LiveSource:
     @property
     def place(self) -> tuple[str, int]:
         """The host and the port of the address; refuses one that names none."""
-        # An underscore is none of a scheme's letters, so the scheme is taken away before.
+        # A scheme can't contain an underscore, so the scheme is removed first.
         try:
             parts = urlsplit(self.address.removeprefix(f"{self.scheme}:"))
             port = parts.port

@@ -37,7 +37,7 @@ class Figures:
     locked_air: float = 0.0  # seconds of the recording after the first chips came
     locked_seconds: float = 0.0  # of the processor, for those
     first_seconds: float = 0.0  # of the processor, up to the first chips
-    late: float = 0.0  # seconds by which chips came after their samples, at most
+    late: float = 0.0  # the greatest lag of chips after their samples, in seconds
     megabytes: float = 0.0
 
 

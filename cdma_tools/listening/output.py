@@ -17,9 +17,9 @@ from cdma_tools.listening.line_writer import TAP_OF, Already
 from cdma_tools.listening.system_time import time_told
 from cdma_tools.writing import is_written_through, open_through
 
-# How the object of a line begins, and where its `at` stands.
+# The beginning of a line's object, and the place of its `at`.
 JSON_LINE, JSON_AT = re.compile(r'\{"line":"([a-z]+)"'), re.compile(r'"at":(\d+)')
-# Lines that are read whole where a listening goes on: they tell the time, and the row of the traffic channel.
+# Lines that are read in full when `listen` continues: they give the time, and the row of the traffic channel.
 READ_WHOLE = ("sync", "sets")
 # Lines at a file's beginning, and at its end, whose every field is looked at; of the others the first word is.
 CHECKED = 1_000

@@ -176,7 +176,7 @@ class Joiner:
         self.offset: int | None = None  # PILOT_PN
         self.events: list[Event] = []  # of the last part in which there were any
         self.first_row = row  # on which that part began
-        self.told: dict[int, int] = {}  # of sync messages that stand already: `at` by SYS_TIME
+        self.told: dict[int, int] = {}  # of sync messages already in the file: `at` by SYS_TIME
 
     def resume(self, part: Part, times: dict[int, int], sets: list[Event], offset: int) -> None:
         """Continues with a part, if existing lines have times and the pilot sets, by `at`."""

@@ -18,7 +18,7 @@ STRIDE = EVERY * SEGMENT
 TOGETHER = 2
 # Chips before a place whose points still count there.
 KEPT = DELAY_PAST + STRIDE
-# Points before a loss by which the timing up to it is fitted.
+# Points before a loss to which the timing is fitted.
 POINTS_A_LOSS = 24
 # The pilot's code, conjugate, twice: a segment is a part of it wherever it begins.
 CODE_TWICE = numpy.concatenate([short_code(), short_code()]).conj()
@@ -32,7 +32,7 @@ class Pursuit(Tracker):
         super().__init__(front, found, 1, clock, lambda _: None)
         self.streaming = front
         self.next = found.phase  # the first chip of the next segment
-        self.heard = float(found.phase)  # the chip after the last segment that was heard
+        self.heard = float(found.phase)  # the chip after the last received segment
         self.taken = 0
         self.timeline: Timeline | None = None  # there once the instants are chosen
 

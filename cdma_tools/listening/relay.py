@@ -17,10 +17,10 @@ from cdma_tools.listening.system_time import SystemTime, time_told
 from cdma_tools.program import NAME
 from cdma_tools.radio.air import CHIP_RATE, PERIOD
 
-# Chips that are kept besides the overlap, so that a run can still be started anew when its seam has passed.
+# Chips that are kept besides the overlap, so that a run can still be restarted once its seam has passed.
 MORE_KEPT = 16 * PERIOD
-# Zeros after the stream's end, which let the last frames out; of what is told then, lines of these kinds were heard
-# where they were known up to a frame after the end, since they wait for the frame that follows theirs.
+# Zeros after the stream's end, which flush the last frames. Lines of these kinds then count if they were known up to a
+# frame after the end, since they wait for the next frame.
 TAIL = 3 * PERIOD
 LATE = {"sync": PERIOD, "paging": FRAME, "raw": PERIOD}
 # Zeros that are fed at once, where chips were lost.
@@ -28,9 +28,9 @@ ZEROS = 1 << 16
 # Chips that the code of a run's pilot may lie from its first chip's number: a finger adds as many at most, and the
 # pilots of two cells are 64 apart.
 ASTRAY = 32
-# Seconds without a line after which a run is taken to have heard nothing yet.
+# Seconds without a line after which a run has presumably received nothing yet.
 PATIENCE = 5.0
-# Runs that may be killed one after the other before one tells a line.
+# Runs that may be killed one after the other before one writes a line.
 MOST_KILLED = 3
 # Seams that are remembered.
 SEAMS_KEPT = 64
@@ -54,10 +54,10 @@ class Relay:
         self.seam = 0  # the seam at which it gives over
         self.time: SystemTime | None = None
         self.has_moved = False  # whether the time has moved against the chips
-        self.row = handset.row  # that of the traffic channel, as it was told last
+        self.row = handset.row  # that of the traffic channel, as last reported
         self.seams: deque[int] = deque(maxlen=SEAMS_KEPT)
-        self.told: int | None = None  # the chip of the last line that was told
-        self.killed = 0  # runs that were killed since a line was told
+        self.told: int | None = None  # the chip of the last line passed on
+        self.killed = 0  # runs that were killed since a line was passed on
 
     # What comes in
 
@@ -288,7 +288,7 @@ class Relay:
         rows = [row for pn, row in sets.active if pn == offset] if sets else []
         return rows[0] if rows else run.handset.row
 
-    # What is told
+    # Lines that are passed on
 
     def tell(self, run: FollowRun) -> None:
         """Tells the current run's lines up to its seam; those after it are the next run's."""

@@ -19,10 +19,10 @@ FRAME = 24_576
 # Chips from a run's start to the chip at which it takes over, and the fewest: a sending of the sync channel that is
 # under way and the next one, of 13 superframes each, four superframes to the mark, and a run of pages of 8,192 bits.
 OVERLAP, LEAST_OVERLAP = 10 * CHIP_RATE, 43 * CHIP_RATE // 10
-# Chips that a run is fed after it gave over: where its input ends within a piece of 4,096 it drops all of the piece.
+# Chips that a run is fed after its seam: if its input ends within a piece of 4,096 chips it drops the whole piece.
 AFTER = 8_192
-# Chips before the end of what a run can take, at which it gives over: in a file's last frame an event is told a frame
-# earlier, as no frame follows it.
+# Chips before the end of what a run can take, at which the next one takes over: in a file's last frame an event is
+# reported a frame earlier, as no frame follows it.
 RESERVE = PERIOD + AFTER
 # The distance of events, counted from the mark, and the place between two of them.
 GRID, OFF_GRID = 512, 496

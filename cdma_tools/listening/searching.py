@@ -34,13 +34,13 @@ from cdma_tools.radio.tracking import clock_error
 # Chips that a search for a pilot looks at, and the parts of them at which it looks in turn.
 WINDOW = int(1.2 * CHIP_RATE)
 PARTS = (0.0, 0.45)
-# Chips from a search that found nothing to the next one: while the conjugate is tried too a search takes longer than
-# the air does, and a live stream would fall behind. Of what lies between nothing is looked at.
+# Chips from a search that found nothing to the next one: with the conjugate too, a search takes longer than real time,
+# and a live stream would fall behind. The chips between are skipped.
 PAUSE = 2 * WINDOW
 # Rounds in which the carrier is made finer.
 ROUNDS = 2
-# A live stream: bins of a slice, which a processor searches in some 0.1 s, and seconds after which no further slice is
-# begun, so that the search is never as far behind the air as samples are kept for it.
+# For a live stream: bins of a slice, which a processor searches in some 0.1 s, and seconds after which no further slice
+# is begun, so that the search never lags further than the samples kept for it.
 SLICE_BINS, MOST_SEARCH = 33, 1.5
 NEIGHBORS = STEP * numpy.arange(-4, 5)
 

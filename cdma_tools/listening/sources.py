@@ -58,7 +58,7 @@ class Tuning:
 
     frequency: float | None = None  # Hz of its middle
     gain: float | None = None  # dB; with has_agc the radio sets it by itself
-    ppm: int | None = None  # millionths by which its crystal is corrected
+    ppm: int | None = None  # correction of its crystal, in millionths
     has_bias_tee: bool = False  # whether it feeds an amplifier at the antenna
     has_agc: bool = False
 

@@ -38,12 +38,12 @@ from cdma_tools.radio.tracking import CLOSE
 
 # Chips from one node of the timing to the next, 107 ms, and those after a node whose points it waits for.
 NODE, LOOK_AHEAD = 2 * STRIDE, 2 * STRIDE
-# Chips after the place found, by whose points the instants, the equaliser and the scale are chosen, and the heard
-# points without which the pilot was none, there and after a loss.
+# Chips after the place found, whose points choose the instants, the equaliser and the scale; and the received points
+# without which there was no pilot, there and after a loss.
 SETTLE, LEAST_POINTS, LEAST_AGAIN = int(0.9 * CHIP_RATE), 8, 4
-# Chips without the pilot after which it is searched near by, and after which it is searched anew.
+# Chips without the pilot after which it is searched near by, and after which the search restarts.
 MISSED, GONE = CHIP_RATE // 4, 2 * CHIP_RATE
-# Hz by which the carrier may lie off the filter's middle before the filter is centred again: two bins of the front.
+# Hz by which the carrier may differ from the filter's middle before the filter is centred again: two bins of the front.
 MOST_OFF = 2_500.0
 # Chips at the stream's beginning and end that the filter needs.
 EDGE = 8
@@ -58,7 +58,7 @@ class LockOptions:
     kind: str
     rate: float  # samples a second
     fingers: int = 1  # of the receiver, for which the instants are chosen
-    shift: float = 0.0  # Hz round which the first carrier is searched
+    shift: float = 0.0  # Hz around which the first carrier is searched
     search: float | None = None  # Hz to each side; None for those of the policy
     conjugate: str = "try"  # whether the spectrum is inverted: yes, no, try
     equaliser: str = "try"  # whether the base station sends through its phase equaliser
@@ -77,7 +77,7 @@ class State(Enum):
     SETTLING = auto()  # a pilot is followed, its instants aren't chosen yet
     FOLLOWING = auto()
     MISSING = auto()  # the pilot was lost, and is searched near by
-    RETURNING = auto()  # it is heard again, by too few points yet
+    RETURNING = auto()  # it is received again, so far at too few points
 
 
 class StreamLock:
@@ -101,7 +101,7 @@ class StreamLock:
         self.origin: int | None = None  # the number of the chip at the stream's start
         self.pursuit: Pursuit | None = None
         self.missing: SearchNear | None = None  # the pilot that was lost
-        self.is_gone = False  # whether `missing` is searched anew
+        self.is_gone = False  # whether `missing` is searched again
 
     @property
     def now(self) -> float:

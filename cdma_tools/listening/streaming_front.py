@@ -15,8 +15,8 @@ from cdma_tools.radio.front import GUARD, Front
 from cdma_tools.radio.second_pass import ramps
 from cdma_tools.recordings import Recording
 
-# Blocks that are transformed at once. With 64 and more their arrays are so large that the C library maps each of them
-# anew, and the faults of their pages take as long as all of the work.
+# Blocks that are transformed at once. With 64 or more their arrays are so large that the C library maps each of them
+# again, and the page faults take as long as all of the work.
 AT_ONCE = 40
 
 

@@ -11,7 +11,7 @@ from cdma_tools.radio.air import CHIP_RATE, PERIOD
 # Chips of a superframe of the sync channel, 80 ms, in which the system time counts; and the frames and body bits of
 # one.
 SUPERFRAME, SUPERFRAME_BITS, FRAME_BITS = 98_304, 93, 31
-# Superframes from the end of a message to the time that it tells.
+# Superframes from the end of a message to the time that it gives.
 AHEAD = 4
 # Bits of a message without its reserved ones: length, fields and check; and those of CDMA_FREQ.
 MESSAGE_BITS, FREQUENCY_BITS = 197, 11
@@ -35,7 +35,7 @@ class SystemTime:
 
     base: int
     leap_seconds: int
-    offset: int  # PILOT_PN of the base station that told it
+    offset: int  # PILOT_PN of the base station that sent it
     told: int  # SYS_TIME of the message
 
     def utc(self, chip: int) -> str:

@@ -29,7 +29,7 @@ class Node(NamedTuple):
     offset: float  # its nominal time, less its number
     rate: float  # the carrier in turns a nominal chip
     turns: float  # the carrier's phase
-    shift: float  # the chips by which instants are later than the offset has them
+    shift: float  # delay of the instants against the offset, in chips
 
 
 class Instants(NamedTuple):

@@ -36,7 +36,7 @@ class Option(NamedTuple):
 
     names: list[str]
     told: str
-    value: str  # empty where it takes none
+    value: str  # empty if it takes none
     choices: list[str]
     is_repeated: bool
 

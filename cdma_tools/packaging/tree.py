@@ -25,7 +25,7 @@ PLAIN, EXECUTABLE = 0o644, 0o755
 FOLDERS = ("cdma", "cdma_tools", "model", "conformance", "examples")
 # Pages outside docs/ to which those that are installed lead, each at its place in the checkout.
 PAGES = ("README.md", "CONTRIBUTING.md", "CHANGELOG.md", "conformance/README.md")
-# What a command is: it finds the package beside it, wherever the prefix lies, and leaves nothing behind.
+# An installed command: it finds the package next to it, whatever the prefix, and leaves no files.
 COMMAND = """#!/usr/bin/python3 -S
 \"\"\"The command `{module}` of the package cdma_tools.\"\"\"
 import sys

@@ -12,7 +12,7 @@ from model.coding import TAIL, code_symbols
 
 BITS = 192
 GREATEST_SOFT = 2_047
-# The generator of the decoder's tests, as receiver_tests has it: its state, its step, and what a draw gives.
+# The generator of the decoder's tests in receiver_tests: its state, its step, and the value of a draw.
 SEED, FACTOR, ADDED, WRAP = 8, 6_364_136_223_846_793_005, 1_442_695_040_888_963_407, 1 << 64
 SHIFT, DRAWN = 24, 1 << 40
 SPAN = 2_048

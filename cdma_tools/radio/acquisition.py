@@ -29,10 +29,10 @@ MOST_STRETCHES = LOOKS[-1]
 # Hz of a bin of a transform of 32,768 chips, and bins of a step: half of the width of a stretch's line.
 BIN = CHIP_RATE / PERIOD
 STEP = PERIOD // STRETCH // 2
-# A recording without a pilot is taken for one with a pilot once in so many.
+# One in this many recordings without a pilot is taken for one with a pilot.
 ONE_IN = 1e6
-# Times the median magnitude to which a chip is cut: noise exceeds it once in 500 chips, so a pilot loses nothing, and
-# a strong pulse of some chips, which many stretches of the code are like, can't stand out.
+# Multiple of the median magnitude to which a chip is clipped: noise exceeds it once in 500 chips, so a pilot loses
+# nothing, and a strong pulse of some chips, to which many stretches of the code are similar, can't stand out.
 PULSE = 3.0
 # Bins of a batch of transforms, 4 MB of numbers, and those that are searched at once, whose energies take 17 MB.
 BATCH, MOST_BINS = 16, 256

@@ -31,7 +31,7 @@ WINDOW = 1_536
 AT_ONCE, MEASURED_AT_ONCE = 64, 1 << 20
 RATE = 2_400_000
 MINUTES = 10
-# The link of recordings of several cells, beside what a case tells.
+# The link of recordings of several cells, besides that of a case.
 CELLS_LINK = ("--carrier", "1500", "--clock", "3", "--delay", "0.3")
 
 
@@ -333,7 +333,7 @@ def print_times(bench: Bench) -> None:
 
 STREAM_HEAD = """| Case | Recording | Link | Sent | File | Stream | File dB | Stream dB | Last, file | Stream | x air | Late s | MB |
 |---|---|---|---|---|---|---|---|---|---|---|---|---|"""
-# Seconds of a recording; those at its end, when many fades have told a stream its instants; and those of lines.
+# Seconds of a recording; those at its end, when many fades have shown a stream its instants; and those of lines.
 STREAM_SECONDS, LAST_SECONDS, MINUTE = 12, 4, 60
 
 

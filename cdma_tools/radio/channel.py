@@ -32,7 +32,7 @@ AT_ONCE = 1 << 18
 LEVELS = {name: -12.5 if kind.size == 2 else -20.0 for name, kind in TYPES.items()}
 # The root mean square of the ideal receiver's chips.
 IDEAL_LEVEL = 2_000.0
-# By how much chips may come faster before some are missing at the end, where the clock isn't slower than that.
+# By how much faster chips may arrive before some are missing at the end, unless the clock is slower than that.
 SLACK = 50e-6
 
 
@@ -57,7 +57,7 @@ class Radio(NamedTuple):
     kind: str
     carrier: float = 0.0  # Hz above the middle
     drift: float = 0.0  # Hz a second
-    clock: float = 0.0  # millionths by which the radio's clock is slow
+    clock: float = 0.0  # of the radio's clock, in millionths; positive if it is slow
     clock_drift: float = 0.0  # millionths a second
     delay: float = 0.0  # chips
     direct: float = 0.0  # the offset of both branches, as a part of the root mean square
@@ -66,7 +66,7 @@ class Radio(NamedTuple):
     level: float | None = None  # dB below full scale
     is_conjugate: bool = False
     has_equaliser: bool = False  # of the base station's
-    losses: tuple[tuple[int, int], ...] = ()  # samples at which so many are lost
+    losses: tuple[tuple[int, int], ...] = ()  # places in samples, and the number lost there
 
 
 class Fading:
@@ -299,7 +299,7 @@ def write_ideal(link: Link, chips: int, file: IO[bytes], tell: Callable[[int], N
     """
     draws = numpy.random.default_rng([link.seed, 7])  # another noise than the recording's
     table = pulse_table(False, is_matched=True)
-    # A pulse that arrives on time is one chip alone: an ideal receiver has no interference of neighbours.
+    # A pulse that arrives on time affects only one chip: an ideal receiver has no interference of neighbours.
     table[0], table[-1] = numpy.arange(2 * REACH) == REACH - 1, numpy.arange(2 * REACH) == REACH
     scale = numpy.float32(IDEAL_LEVEL / numpy.sqrt(link.power + link.noise))
     count, start = chips - 2 * REACH, link.paths[0].delay

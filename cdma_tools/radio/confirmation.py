@@ -25,7 +25,7 @@ COARSE_STEP, FINE_STEP = 4e-6, 0.5e-6
 SHORT, LONG = 8, 24
 # Starts of lines in chips, as acquisition is exact to a half, and as the first look is.
 FIRST_STARTS, NEXT_STARTS = numpy.arange(-4, 5) / 4, numpy.arange(-6, 7) / 8
-# Half chips to each side of the line that the second look has; the outer two of each side tell the noise's spread.
+# Half chips to each side of the line in the second look; the outer two of each side give the noise's spread.
 NEAR = 6
 # Groups of sums whose peaks make the line exact to some hundredths of a chip, and by how many chips they may move it.
 GROUPS, MOST_MOVED = 6, 0.5
@@ -64,7 +64,7 @@ class Confirmation(NamedTuple):
 
     slope: float = 0.0  # of the pilot's delay, in chips a chip
     late: float = 0.0  # chips at the place found
-    sigma: float = 0.0  # standard deviations by which the line stands out of noise
+    sigma: float = 0.0  # the line above the noise, in standard deviations
 
     @property
     def is_pilot(self) -> bool:
@@ -164,7 +164,7 @@ def confirm(front: Front, found: Found) -> Confirmation:
     near = numpy.arange(-2 * COARSE_STEP, 2 * COARSE_STEP + FINE_STEP / 2, FINE_STEP)
     long = energies_of(front, found, parts_beside(front, found, LONG), line, NEAR)
     more, energy = best_line(long, near, NEXT_STARTS)
-    # The noise's own spread beside the line: bursts have more than white noise, whose energies spread by 1.
+    # The noise's own spread next to the line: bursts have more than white noise, whose energies spread by 1.
     spread = max(float(long.rows[:, [0, 1, -2, -1]].std()), 1.0)
     sigma = energy / (spread * numpy.sqrt(len(long.rows)))
     if sigma >= LEAST:

@@ -19,8 +19,8 @@ DELAY_KNOTS, CARRIER_KNOTS = 2.0, 0.4
 POINTS_A_KNOT, POINTS_A_SPLINE = 8, 8
 # Rounds in which points far from the curve lose weight.
 ROUNDS = 4
-# The gain in squared energies from which the inverse of the phase equaliser is taken: any. A single path gains 13 parts
-# in 100 where the transmitter has one, and loses 12 where it has none; two paths gain 1 or more, and lose 6 or more.
+# The gain in squared energies from which the inverse of the phase equaliser is applied: any. A single path gains 13
+# parts in 100 if the transmitter has one, and loses 12 if it has none; two paths gain 1 or more, and lose 6 or more.
 EQUALISED = 1.0
 # Half chips at which sums watch the pilot, in chips, and the finer grid of delays: sixteenths of a chip.
 COARSE_DELAYS = numpy.arange(-REACH, REACH + 1) / 2

@@ -22,8 +22,8 @@ from cdma_tools.recordings import Samples
 GUARD = 24
 # The lengths of block, in chips, among which the exact one is sought; near 1,024 the transforms fit into a cache.
 SHORTEST, LONGEST, WANTED = 768, 1_600, 1_024
-# The part by which a block may be longer than its samples: at its ends that is 1/50 of a chip, and the first
-# derivative takes it away; the error that is left is of its square.
+# The part by which a block may be longer than its samples: at its ends that is 1/50 of a chip, which the first
+# derivative corrects; the remaining error is of second order.
 MOST_STRETCH = 4e-5
 # Chips: below this the derivative isn't taken. A sample so far off loses 10^-5 of its power.
 LEAST_DELAY = 0.002
@@ -74,7 +74,7 @@ class Front:
         self.recording = recording
         self.ratio = recording.rate / CHIP_RATE
         self.chips, self.samples = block_size(self.ratio)
-        # A rate that is no ratio of small numbers leaves a block that lasts longer, or less, than its chips.
+        # A rate that is not a ratio of small numbers leaves a block slightly longer or shorter than its chips.
         self.stretch = self.samples / self.chips / self.ratio
         self.coarse = 0
         self.set_filter(False)

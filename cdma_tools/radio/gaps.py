@@ -14,9 +14,10 @@ from cdma_tools.radio.fitting import Fit
 from cdma_tools.radio.front import GUARD, Front, turn
 from cdma_tools.radio.tracking import SEGMENT, SUM, code_at
 
-# Chips that the clock may have gone astray while nothing was heard: so many fewer than before aren't a whole period less.
+# Chips by which the clock may have drifted while nothing was received: that many fewer than before are not a whole
+# period less.
 ASTRAY = 64
-# The longest step, in periods, from one try to hear the pilot again to the next: a fifth of a second.
+# The longest step, in periods, from one try to find the pilot again to the next: a fifth of a second.
 LONGEST_STEP = 8
 # Tries that the threshold allows for: a recording of 27 seconds in steps of a fifth.
 TRIES = 128

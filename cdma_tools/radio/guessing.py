@@ -14,9 +14,9 @@ from cdma_tools.recordings import first_byte, sample_bytes
 
 # Bytes of a piece that is looked at, and pieces, spread over the file.
 PIECE, PIECES = 1 << 14, 16
-# Doublings by which the numbers of floating point spread round their median; a Gaussian's spread by 1.6.
+# Spread of floating-point numbers around their median, in doublings; a Gaussian's is 1.6.
 MOST_SPREAD = 4.0
-# The part by which the bytes of even and of odd places differ from which they are the two bytes of one number.
+# The difference between the bytes at even and at odd places from which they are the two bytes of one number.
 LEAST_UNLIKE = 0.2
 LEAST_BYTES = 1 << 12
 # By how many times the bytes' power has to be less about the one middle than about the other.

@@ -21,9 +21,10 @@ from cdma_tools.sample_file import MOST_CHIPS, header
 
 # Chips at both ends of the recording that the filter needs.
 EDGE = 8
-# A strong start is looked for in so many seconds, and in so much of the recording: a short one shouldn't lose a message.
+# A strong start is searched in this number of seconds, and in this part of the recording, so that a short one doesn't
+# lose a message.
 START_SECONDS, START_PART = 1.0, 0.02
-# Segments in which a pilot has to be heard, where the recording has that many.
+# Segments in which a pilot must be received, if the recording has that many.
 LEAST_POINTS = 4
 # The part of the work that each step is, as it is shown: acquisition, the first pass, the second.
 STEPS = (0.05, 0.4, 1.0)
@@ -35,7 +36,7 @@ class Options(NamedTuple):
     kind: str
     rate: Fraction  # samples a second
     skip: int = 0  # samples
-    shift: float = 0.0  # Hz round which the carrier is searched
+    shift: float = 0.0  # Hz around which the carrier is searched
     search: float | None = None  # Hz to each side; None for those of the policy
     conjugate: str = "try"  # yes, no, try
     equaliser: str = "try"
@@ -67,12 +68,12 @@ class Locked(NamedTuple):
     scale: float
     gaps: list[Gap]
     cut: int
-    begin: float  # seconds of the recording, from which and up to which the pilot is heard
+    begin: float  # in seconds; the pilot is received from here up to `end`
     end: float
     seconds: float
     is_part: bool  # whether the pilot is lost before the beginning or after the end
-    said: tuple[str, ...] = ()  # what else was taken or seen on the way
-    pilot_power: float = 0.0  # of a chip, as the samples have it
+    said: tuple[str, ...] = ()  # further remarks on the way
+    pilot_power: float = 0.0  # of a chip, in the units of the samples
 
     def line(self) -> str:
         """The figures as name=value."""

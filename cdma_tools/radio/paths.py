@@ -52,7 +52,7 @@ def mean_energies(front: Front, fit: Fit) -> NDArray[numpy.float64]:
 
 def peaks(energies: NDArray[numpy.float64]) -> list[Way]:
     """Returns the peaks within 10 dB of the greatest among energies at delays of half chips, around 0."""
-    from scipy.signal import find_peaks  # takes half a second to load, and is wanted here alone
+    from scipy.signal import find_peaks  # takes half a second to load, and only this needs it
 
     reach = len(energies) // 2
     fine = numpy.arange(-reach * FINE // 2, reach * FINE // 2 + 1) / FINE

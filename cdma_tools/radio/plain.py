@@ -19,7 +19,7 @@ from cdma_tools.sources import is_described, kept_input, stored_of
 
 # The ratio up to which a rate is resampled at once: scipy's filter has some 20 taps for each unit of it.
 LARGEST_RATIO = 100_000
-# The type that is told by the samples' own bytes.
+# The type that is guessed from the samples' bytes.
 AUTO = "auto"
 TYPE_CHOICES = (*TYPES, AUTO)
 
@@ -62,7 +62,7 @@ def with_hints(lines: list[str]) -> Iterator[None]:
 def resampled(branch: NDArray[Any], up: int, down: int) -> NDArray[numpy.float64]:
     """Samples of one branch at up / down times their rate."""
     try:
-        from scipy.signal import resample_poly  # takes half a second to load, and is wanted here alone
+        from scipy.signal import resample_poly  # takes half a second to load, and only this needs it
     except ImportError as missing:
         raise Refused(f"{missing}: to resample, install the package python3-scipy") from None
     return resample_poly(branch.astype(numpy.float64), up, down)
@@ -77,7 +77,7 @@ class Plan:
         if ratio < 1:
             raise Refused(f"{text_of(rate)} samples a second are fewer than the chip rate, {CHIP_RATE}")
         self.is_whole = ratio.denominator == 1
-        self.multiple = ratio.numerator  # samples of a chip, where that is whole
+        self.multiple = ratio.numerator  # samples of a chip, if that is whole
         self.up, self.down = ratio.denominator, ratio.numerator
         self.offset = options.offset or 0
         self.has_sum = options.sum

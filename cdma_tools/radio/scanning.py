@@ -13,8 +13,8 @@ from cdma_tools.radio.tracking import SUM
 
 # The usual raster of centre frequencies, in Hz.
 RASTER = 1_250_000.0
-# Of a channel, in Hz from its middle: what has to lie in the recording on a raster, and where all is tried. A half of a
-# channel shows its pilot by 3 dB less.
+# Of a channel, in Hz from its middle: the part that must be in the recording on a raster, and with --all. Half of a
+# channel shows its pilot 3 dB weaker.
 WHOLE, HALF = 614_400.0, 300_000.0
 # Parts of the recording at which each centre is tried: two, since a scan is to be quick, and one may lie in a fade. The
 # carriers further off are tried at the first.
@@ -36,8 +36,8 @@ class Seen(NamedTuple):
     seconds: float
     is_conjugate: bool
     is_pilot: bool
-    sigma: float  # standard deviations by which it stands out of noise in the chips beside that place
-    clock: float  # millionths by which the recording's clock is slow
+    sigma: float  # its level above the noise of the chips around that place, in standard deviations
+    clock: float  # of the recording's clock, in millionths; positive if it is slow
 
 
 def raster(rate: float, step: float = RASTER) -> list[float]:

@@ -27,7 +27,7 @@ WIDE_PLACES = PLACES[::2]
 TRIES = {"yes": (True,), "no": (False,), "try": (False, True)}
 # Bands of the further carriers, each of which takes about as long as the near step.
 BANDS = 3
-# The names of the options by which the policy is changed.
+# The names of the options that change the policy.
 SEARCH_OPTIONS = ("search", "conjugate")
 # How a refusal names the spectra that were searched.
 SPECTRA = {(False,): "the spectrum as it is", (True,): "the inverted spectrum", (False, True): "both spectra"}

@@ -21,9 +21,9 @@ from cdma_tools.radio.tracking import SUM
 
 # Chips later up to which the correlation of chips is taken: the pulse's greatest side lies at 4.
 LAGS = 6
-# Chips of a run of which the correlation is taken, of each that is added: it is wanted to some hundredths alone.
+# Chips of each run whose correlation is added: an accuracy of some hundredths suffices.
 CORRELATED = 32_768
-# What is told where there is no pilot or no power, in dB.
+# The value in dB if there is no pilot or no power.
 NOTHING = -99.0
 
 

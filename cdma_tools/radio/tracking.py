@@ -22,12 +22,12 @@ SEGMENT = SUMS * SUM
 REACH = 8
 # Half chips to each side of the expected place in which the path is chosen, before and after the eighth point.
 FIRST_REACH, NEXT_REACH, SETTLED = 3, 2, 8
-# The energy over noise of a segment's mean that counts as heard, in standard deviations of that mean.
+# The energy over noise, in standard deviations of a segment's mean, from which the segment counts as received.
 HEARD = 4
 # Chips without a pilot after which it counts as lost: longer than the fades of a walking handset.
 PATIENCE = CHIP_RATE // 4
-# Segments that stand close to each other, before one of every four is enough: 53 ms, in which a clock that was found
-# to be within a millionth goes 0.07 chips astray.
+# Segments that are close to each other, before one of every four is enough: 53 ms, in which a clock found to within a
+# millionth drifts by 0.07 chips.
 CLOSE, EVERY = 16, 4
 # Segments over which energies are averaged to choose a path: a tenth of a second or two.
 SMOOTHED = 8
@@ -36,8 +36,8 @@ DELAY_MEMORY, CARRIER_MEMORY = 38, 20
 # How far a line trusts its slope: the error of a point over what the slope is known to be near to. A delay is exact to
 # 0.3 chips in the worst fade and the clock known to 1.5 millionths; a carrier to 20 Hz, and it drifts by 100 Hz a second.
 DELAY_STIFFNESS, CARRIER_STIFFNESS = 0.3 / 1.5e-6, 20 / (100 / CHIP_RATE)
-# The clock's first error: the slopes that are tried round a multiple of a coarse step, and the segments that are added
-# up. A segment slips by half a chip at most in half a coarse step, which leaves its energy at one delay.
+# The first clock error: the slopes tried around a multiple of a coarse step, and the segments that are summed. In half
+# a coarse step a segment slips by half a chip at most, so its energy stays at one delay.
 MOST_REST, CLOCK_STEP, CLOCK_SEGMENTS, COARSE_CLOCK = 35e-6, 1e-6, 24, 60e-6
 
 
@@ -47,7 +47,7 @@ class Point(NamedTuple):
     chip: float  # the number of the chip in its middle; modulo 32,768 it is the code's
     time: float  # the nominal time at which that chip was expected
     late: float  # by how many chips the pilot comes later
-    snr: float  # its energy over the noise's in a sum of 512 chips; 0 where it wasn't heard
+    snr: float  # its energy over the noise's in a sum of 512 chips; 0 if it wasn't received
     hertz: float  # the carrier
     power: float  # the mean power of a chip
     sums: NDArray[numpy.complex64]  # (2 REACH + 1, SUMS), in the phase of the coarse carrier

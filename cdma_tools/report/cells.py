@@ -29,7 +29,7 @@ from cdma_tools.report.figures import BLUE, GREY, HIDDEN_TEXT, INK, Plot, styled
 from cdma_tools.report.gathering import Ran, run_program
 from cdma_tools.sample_file import HEADER
 
-# Arguments of follow that go for every cell: the traffic channel is the strongest one's alone.
+# Arguments of follow that apply to every cell: the traffic channel is only the strongest one's.
 SHARED_WORDS = ("span", "workers", "fingers", "paging")
 
 

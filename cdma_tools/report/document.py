@@ -33,7 +33,7 @@ from cdma_tools.sample_file import GREATEST
 
 HERE = os.path.dirname(os.path.abspath(__file__))
 NO_SYNC, BAD_FILE = 1, 3  # statuses of follow (docs/FORMATS.md)
-FOUND = {  # what an import tells by name, and its unit
+FOUND = {  # what an import reports by name, and its unit
     "carrier_hz": ("Carrier", "Hz above the recording's middle"),
     "drift": ("Carrier's drift", "Hz a second"),
     "clock_ppm": ("Clock", "ppm slower than the base station's"),
@@ -255,7 +255,7 @@ def found_card(gathered: Gathered) -> Markup:
     rows = []
     for name, value in gathered.imported.found.items():
         if name == "ec_io_db":
-            continue  # it stands in the card of the signal
+            continue  # it is in the card of the signal
         told, unit = FOUND.get(name, (name, ""))
         rows.append((told, f"{value} {unit}".strip()))
     rows += [("Said", line) for line in gathered.imported.said]
@@ -393,7 +393,7 @@ def lines_section(gathered: Gathered) -> Markup:
         count = element("span", f"{len(ran.lines)} lines", class_="count")
         told = f" · {' '.join(ran.words)} · status {ran.status} · "
         head = element("summary", joined([ran.words[0], element("span", told, class_="note"), count]))
-        # The first line feed after <pre> is dropped by HTML, so one stands there.
+        # HTML drops the first line feed after <pre>, so one is added.
         text = Markup("\n") + PageMarkup("\n").join(line.text for line in ran.lines)
         body = element("pre", text, class_="lines", data_command=ran.words[0], tabindex="0")
         is_open = " open" if ran.words[0] == "follow" else ""

@@ -21,7 +21,7 @@ BLUE, GREEN, RED, ORANGE, GREY, INK = "#1f6fb2", "#2a8c4a", "#c0392b", "#d9822b"
 MESSAGE_COLORS = {"sync": "#6a4fb3", "paging": BLUE, "traffic": "#0f7f86"}
 FONT = "system-ui, -apple-system, 'Segoe UI', Roboto, 'Helvetica Neue', Arial, sans-serif"
 PLACES = 7  # digits after the point of a second: a chip is 0.8 microseconds
-LEAST_RATIO = 1e-5  # -50 dB, below all that a search can tell
+LEAST_RATIO = 1e-5  # -50 dB, below anything that a search can resolve
 MARK = {"size": 11, "line": {"width": 1.6}}
 HIDDEN_TEXT = "<extra></extra>"
 

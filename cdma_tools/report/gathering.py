@@ -14,10 +14,10 @@ from cdma_tools.progress import bar
 from cdma_tools.sample_header import HEADER, SAMPLE_BYTES
 
 PIECE = 1 << 20  # bytes of a sample file that are given at once
-BAD_WORDS = 2  # the program's status where its arguments are wrong (docs/FORMATS.md)
+BAD_WORDS = 2  # the program's status for wrong arguments (docs/FORMATS.md)
 SEARCH = ("span", "workers")  # arguments of follow that find and survey take too
 PERIOD = 32_768  # phases of the pilot's code (7.1.3.1.9)
-WIDTH = 31  # chips on each side of its own phase on which each pilot is surveyed: the most, 25 microseconds
+WIDTH = 31  # chips to each side of its own phase in which each pilot is surveyed: the most, 25 microseconds
 STEP = 64  # chips between the codes of neighboring offsets (7.1.3.1.9)
 
 

@@ -16,13 +16,13 @@ from cdma_tools.radio.air import CHIP_RATE, PERIOD, ROWS, short_code
 from cdma_tools.sample_header import FORM, HEADER, MAGIC
 
 PIECE = 1 << 20  # samples that are measured at once
-# How often an energy must be that of noise to stand out. The greatest of 32,768 phases in noise passes 20 times its
-# mean with a chance below 32,768 exp(-20), 1 in 14,000.
+# Multiple of the noise's mean from which an energy stands out. The greatest of 32,768 phases in noise passes 20 times
+# its mean with a chance below 32,768 exp(-20), 1 in 14,000.
 STANDING_OUT = 20
 WINDOW = 40  # chips on each side of the best phase that are shown: 33 microseconds, 10 km of way
 SYNC_FRAME = 32_768  # chips of a frame of the sync channel, and of the pilot's code (7.1.3.1.1)
 SYMBOL = 256  # chips of a modulation symbol of the sync channel: 4,800 a second (7.1.3.1.4)
-PILOT_SUM = 1_024  # chips over which the pilot is summed to turn the symbols round them
+PILOT_SUM = 1_024  # chips over which the pilot is summed to derotate the symbols around them
 SYNC_ROW = hadamard(ROWS)[32]  # Walsh row 32 (7.1.3.1.8)
 MOST_FRAMES = 16  # sync frames whose symbols are shown: 2,048 points
 

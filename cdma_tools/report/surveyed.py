@@ -17,7 +17,7 @@ from cdma_tools.report.gathering import STEP, Gathered, Ran
 from cdma_tools.report.meaning import WINDOW_CHIPS
 
 OFFSETS = 512  # pilot offsets (7.1.3.1.9)
-SURE = 3.0  # chips by which a survey's phase may lie beside a cell that was heard: a half, and a clock that is left
+SURE = 3.0  # chips by which a survey's phase may differ from a received cell's: a half, and a remaining clock error
 MOST_STEPS = 4  # offsets to each side to which a pilot may be moved: 256 chips, half of the widest window
 # The widths of windows in chips without System Parameters: as wide as the survey's own.
 DEFAULT_WINDOW = 2 * 31

@@ -32,7 +32,7 @@ JOBS_OF_PROGRAM = 2  # of its build: by three or four they end at different time
 OF_FREE = 0.85  # of the memory that is free, so much is planned with, as `rt ci` does
 LAST_LINES = 12  # of the log of a run that failed
 SECONDS_TO_END = 10.0
-# What a copy has none of: what was built, and edits, which no build reads.
+# What a copy leaves out: build output, and edits, which no build reads.
 LEFT_OUT = {"out", "must-fail"}
 COPIED = ("crates.txt", "HANDLES")
 MEMORY_INFO, GROUP_LIMIT, GROUP_HELD = "/proc/meminfo", "/sys/fs/cgroup/memory.max", "/sys/fs/cgroup/memory.current"
@@ -202,7 +202,7 @@ class Builder:
         with (
             open(source if has_source else os.devnull, "rb") as read,
             open(log, "wb") as write,
-            noted_interrupts(signal.SIGINT, signal.SIGTERM),  # so that no process is begun that `running` hasn't
+            noted_interrupts(signal.SIGINT, signal.SIGTERM),  # so that no process starts without an entry in `running`
         ):
             child = subprocess.Popen(
                 command_of(self.root, name, jobs),

@@ -13,7 +13,7 @@ from cdma_tools.repository.crate_list import SIDES, chains, side_of
 
 KINDS = ("code", "contracts", "definitions", "proofs")
 COLOURS = ("#2f6f9f", "#d08a2a", "#6a9a3b", "#a9a9b5")
-# What a contract begins with in a .rt file; it goes on until its brackets are closed.
+# The beginning of a contract in a .rt file; it continues until its brackets are closed.
 CONTRACT = re.compile(r"\s*(ghost|requires|ensures)\b")
 COMMENTS = {".rt": "//", ".antt": "--"}
 OPENING, CLOSING = "({[", ")}]"

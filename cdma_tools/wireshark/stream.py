@@ -13,7 +13,7 @@ from cdma_tools.wireshark.pcapng import MOST_TIME, interface_block, packet_block
 
 APPLICATION = f"cdma_replay tools {__version__}"
 SECOND = 1_000_000_000  # nanoseconds
-MOST_LATE = 256  # chips by which a finger may lie after the reference path
+MOST_LATE = 256  # the greatest delay of a finger after the reference path, in chips
 Interface = tuple[Cell | None, Channel]
 
 

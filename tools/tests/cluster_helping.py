@@ -9,7 +9,7 @@ from typing import Any
 
 from tools.tests.helping import PYTHON, ROOT
 
-# A worker's or a scheduler's command, as docs/CURVES.md has it.
+# A worker's or a scheduler's command, as shown in docs/CURVES.md.
 SERVER = [PYTHON, "-B", "-m"]
 # Seconds that anything takes at most.
 SECONDS = 240

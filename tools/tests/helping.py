@@ -28,9 +28,9 @@ PROGRAM = os.environ.get("CDMA_REPLAY")
 NO_PROGRAM = "CDMA_REPLAY names no built program"
 HEADER = struct.Struct(">4sHHQ")
 PYTHON = "/usr/bin/python3"
-# The warnings that a Python by itself doesn't tell.
+# The warnings that Python doesn't print by default.
 UNSAID = (DeprecationWarning, PendingDeprecationWarning, ImportWarning, ResourceWarning)
-# A way to run a tool: it takes a name, arguments and data, and answers a status and what was written on both outputs.
+# A way to run a tool: it takes a name, arguments and data, and returns a status and both outputs.
 ToolRun = Callable[..., tuple[int, bytes, str]]
 # Names the folder of what the processes of one run of all tests share.
 SHARED = "CDMA_TOOLS_TESTS_SHARED"

@@ -126,7 +126,7 @@ class Owed:
     at: int
     begin: int
     text: str
-    mark: int = 0  # of a sync message: the chip at which a handset that heard it begins with the other channels
+    mark: int = 0  # of a sync message: the chip at which a handset that received it begins with the other channels
 
 
 class Sent:

@@ -38,14 +38,14 @@ from tools.tests.listening_cell import (
 SEED, PRAT = 1, 1
 # A piece's script begins at a chip below 2^32, so a recording ends there.
 LEAST_SECONDS, MOST_SECONDS = 20, (1 << 32) // CHIP_RATE
-# Samples a second, of which a chip has two, and as they are told: 4 millionths fewer.
+# Samples a second, two per chip, and the rate given to the tool: 4 millionths lower.
 RATE, TOLD_RATE = 2 * CHIP_RATE, round(2 * CHIP_RATE * (1 - 4e-6))
 CARRIER, DRIFT = 3_000.0, 1.0  # Hz, and Hz a second
-# The fraction of a chip by which samples lie beside the chips.
+# The delay of the samples against the chips, as a fraction of a chip.
 DELAY = 0.3
 # dB of all the cell's power over the noise in a chip's band; parts of a cell and of the noise together, of 8 bits.
 SIGNAL, LEVEL = 0.0, 30.0
-# In each so many seconds: when the signal fades, and when samples are lost, and how many.
+# The period in seconds; within it when the signal fades, when samples are lost, and how many.
 EVERY, FADE, LOSS, LOST = 100.0, (9.0, 9.6), 14.0, 4_000
 # Chips that are made at once, rows of chips in which the carrier is steady, and samples of noise that are drawn.
 AT_ONCE, ROW, DRAWN = 1 << 15, 512, 1 << 23
@@ -144,7 +144,7 @@ def listened(program: str, seconds: int, path: str) -> Ran:
         ran = subprocess.Popen(command, stdin=subprocess.PIPE, stdout=file, stderr=said, env=environment)
         assert ran.stdin is not None
         memory = 0.0
-        with contextlib.suppress(BrokenPipeError):  # it has ended, and its status and what it said tell why
+        with contextlib.suppress(BrokenPipeError):  # it has ended: its status and its standard error say why
             for data in recording(program, seconds):
                 ran.stdin.write(data)
                 memory = max(memory, most_memory(ran.pid))

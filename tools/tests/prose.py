@@ -41,9 +41,9 @@ BEFORE_ELSE = (
     "or", "anything", "everything", "nothing", "something", "anyone", "everyone", "nobody", "somebody", "what", "who",
     "anywhere", "everywhere", "nowhere", "somewhere",
 )  # fmt: skip
-CODE = "`x`"  # stands for code in a sentence
+CODE = "`x`"  # replaces code in a sentence
 SENTENCE_ENDS = re.compile(r"(?<=[.!?])(?<!e\.g\.)(?<!i\.e\.)[\"')]*\s+(?=[\"'(`A-Z0-9]|--)")
-STATUS_ENDS = re.compile(r"(?<=[,;]) (?=\d+ )")  # a list of statuses is no sentence
+STATUS_ENDS = re.compile(r"(?<=[,;]) (?=\d+ )")  # a list of statuses is not a sentence
 
 
 @dataclass(frozen=True)

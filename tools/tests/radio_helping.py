@@ -15,7 +15,7 @@ from tools.tests.helping import HEADER, PYTHON, TOOLS, run_inside, temporary_fol
 CHIP_RATE = 1_228_800
 PERIOD = 32_768
 PHASE = 12_345
-# Amplitudes of a cell's Walsh rows: a pilot of -3.6 dB of the whole, as base stations have it or a little more.
+# Amplitudes of a cell's Walsh rows: a pilot of -3.6 dB of the whole, as in base stations or a little more.
 GAINS = {0: 100, 32: 40, 1: 80, 10: 70}
 
 

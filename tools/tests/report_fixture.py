@@ -16,7 +16,7 @@ SAMPLES = 120_000  # three whole frames of the sync channel after its first begi
 SPAN = 2_048
 FOLLOWED = (
     f"pilot phase={PHASE} energy=167772160000",
-    # GPS second 1,167,264,018 was 2017-01-01 00:00:00 UTC, 18 leap seconds behind it; 54 is -10 half hours.
+    # GPS second 1,167,264,018 was 2017-01-01 00:00:00 UTC, 18 leap seconds later; 54 is -10 half hours.
     "sync at=294848 prev=5 min=1 sid=4139 nid=65535 pn=300 lc=00000000010 time=14590800225 lp=18 ltm=54 daylt=0 prat=0"
     " freq=283 rest=0:",
     "frame at=712704 rate=9600 good=1 bits=172:80000000000000000000000000000000000000000000 commands=0000000000000011",

@@ -13,8 +13,8 @@ from cdma_tools.repository.building import Room, free_memory, jobs_for
 from cdma_tools.repository.plan import Crate, work_ahead
 from tools.tests.helping import PYTHON, ROOT, temporary_folder
 
-SECONDS = 120  # that a run may take on a machine that is busy with other things; alone it takes less than one
-# `short` is little work, but `long`, which stands on it, is much; so it comes before `wide`.
+SECONDS = 120  # the longest time of a run on a busy machine; on an idle one it takes less than one
+# `short` is little work, but `long`, which depends on it, is much; so `short` comes before `wide`.
 CRATES = """core: thiserror
 wide: core
 short: core
@@ -23,9 +23,9 @@ top: wide long
 apart: core
 """
 LINES = {"core": 10, "wide": 300, "short": 10, "long": 400, "top": 5, "apart": 7}
-# It tells where it was begun, with how many jobs and as which process; waits where the test says so; and tells that it
-# ended. Those that MEET names wait for one another, as no two of them could that run one after the other.
-STANDS_FOR_RT = """#!/bin/sh
+# It records its folder, its number of jobs and its process; waits if the test says so; and records its end. Those named
+# by MEET wait for one another, which they could not do if they ran one after the other.
+STAND_IN_FOR_RT = """#!/bin/sh
 name=${PWD##*/}
 echo "begun $name $PWD $$ $*" >> "$EVENTS"
 read -r line && echo "read $name $line" >> "$EVENTS"
@@ -71,7 +71,7 @@ class Checkout(unittest.TestCase):
             self.write(f"it/crates/{name}/out/made.rt", "made")
         self.write("it/crates/top/args", "find\n--all\n")
         self.write("it/crates/top/stdin", "some samples\n")
-        os.chmod(self.write("bin/rt", STANDS_FOR_RT), 0o700)
+        os.chmod(self.write("bin/rt", STAND_IN_FOR_RT), 0o700)
 
     def write(self, place: str, text: str) -> str:
         """Makes a file."""

@@ -59,7 +59,7 @@ class Recorded(Recordings):
     def test_a_chip_is_where_it_is_sent(self) -> None:
         clean = self.samples()
         share = GAINS[0] ** 2 / sum(gain**2 for gain in GAINS.values())
-        # At the chip's own instant the pulse alone is met, at half a chip before and after little of it.
+        # At the chip's own instant there is only the pulse, at half a chip before and after little of it.
         prompt = abs(self.pilot(clean)) ** 2 * 2
         self.assertGreater(prompt, 0.8 * share)
         self.assertGreater(abs(self.pilot(clean)), 1.4 * max(abs(self.pilot(clean, 0.5)), abs(self.pilot(clean, -0.5))))

@@ -19,8 +19,8 @@ import psutil
 from cdma_tools import cluster
 from cdma_tools.workers import quietly
 
-SECONDS = 120  # that anything takes at most
-# A cluster of so many workers, which says when it is there and ends when its input does.
+SECONDS = 120  # the longest wait
+# A cluster of n workers, which writes a line once it is ready and ends when its input does.
 CLUSTER = """
 import sys
 from cdma_tools.cluster import connected, remove_own_folders

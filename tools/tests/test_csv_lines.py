@@ -12,7 +12,7 @@ from tools.tests.test_lines import LINES, text_of
 
 HANDOFF = "traffic at=7 ack=0 seq=1 req=0 enc=0 handoff use=1 action=39 hdm=0 extra=0: records=%s rest=5:00\n"
 FRAME = "frame at=9 rate=1200 good=1 bits=16:df67 commands=0000110001101101\n"
-# Tables as RFC 4180 has them: rows end with CR LF, and a cell with a comma stands in quotation marks.
+# Tables by RFC 4180: rows end with CR LF, and a cell with a comma is in quotation marks.
 TABLES = {
     ("survey", "survey pn=211 delta=-6 energy=18446744073709551615\n"): (
         "pn,delta,energy\r\n211,-6,18446744073709551615\r\n"

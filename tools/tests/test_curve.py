@@ -31,7 +31,7 @@ from tools.tests import fake_receiver  # noqa: E402
 
 CURVE = os.path.join(TOOLS, "curve")
 FAKE = os.path.join(ROOT, "tools", "tests", "fake_receiver.py")
-# A file of the stand-in has six frames to be heard; a run has 36 frames at each of two points, and so 12 batches.
+# A file of the stand-in has six frames; a run has 36 frames at each of two points, and so 12 batches.
 SAMPLES = 200_000
 FRAMES_A_FILE = 6
 FRAMES = 36

@@ -34,7 +34,7 @@ CHIPS = 500_000
 RATE = Fraction(2_400_000)
 FRAME = 24_576
 SENT = Frame("frame", 9_600, "8:aa")
-# A lock whose pilot is heard throughout.
+# A lock whose pilot is received throughout.
 FOUND = Locked(
     0.0, 0.0, 0.0, 0, -9.0, [], False, False, 0, 900_000, 1.0, [], 0,
     begin=0.0, end=0.7, seconds=0.8, is_part=False,
@@ -144,7 +144,8 @@ class Losses(unittest.TestCase):
         counts: counting.Counts = {}
         spans = [(ends[0] - 5, ends[0] + 1), (ends[3], ends[3] + 9)]
         counting.count_frames(sent, lines, counts, spans)
-        # The first errs not, the second meets the first span, the third none; the fourth ends where the last begins.
+        # The first has no error, the second touches the first span, the third none; the fourth ends where the last
+        # begins.
         self.assertEqual(counts, {"frame 9600": Count(4, lost=1, marked_bad=1, unlocked=1)})
         self.assertEqual(counts["frame 9600"].errors(), 3)
 

@@ -244,7 +244,7 @@ class Turned(Imports):
         self.assertEqual(self.taken(recorded(SIXTEEN, "ci16_le"), "ci16_le", "--shift", "0")[2], SIXTEEN)
 
 
-# Captures that a radio was tuned anew between.
+# Captures between which the radio was retuned.
 SEVERAL: list[dict[str, object]] = [
     {"core:sample_start": 0, "core:frequency": 878_490_000},
     {"core:sample_start": 2, "core:frequency": 881_520_000},

@@ -239,7 +239,7 @@ class Program(unittest.TestCase):
             import pandas
         except ImportError as missing:
             self.skipTest(f"{missing}: install the package python3-pandas")
-        # A state and power control bits of decimal digits alone, which no reader may take for other numbers.
+        # A state and power control bits of only decimal digits, which a reader must not take for numbers.
         first = "sync at=294848 prev=3 min=1 sid=1 nid=2 pn=511 lc=00000000010 time=1007 lp=13 ltm=0 daylt=0 prat=0 rest=3:00"
         heard = [line for line in LINES if line.split()[0] in ("pilot", "frame", "paging", "sets", "traffic")]
         large = [line for line in heard if read_line(line).get("energy", 0) >= 2**53]

@@ -147,7 +147,7 @@ class OneRecording(unittest.TestCase):
         for place, text in result.missing:
             begin, end = spans[place] / CHIP_RATE, (place + 2 * FRAME) / CHIP_RATE
             self.assertTrue(any(begin < high + 0.1 and low - 0.1 < end for low, high in spoilt), (place, text[:80]))
-        # In what zeros stand for the handset hears frames that weren't sent, each in place of one that was.
+        # In the chips replaced by zeros the handset decodes frames that weren't sent, each instead of one that was.
         for place, text in result.excess:
             self.assertTrue(text.startswith("frame") and place in {at for at, _ in result.missing}, (place, text[:80]))
         self.assertGreater(result.owed.total(), 50 * (seconds - 5))
@@ -532,8 +532,8 @@ class RuleTest(unittest.TestCase):
         options = LockOptions("cu8", float(RATE))
         parts = parts_of(Recording("-", 80 * RATE, options), 20.0, 20.0)
         for direction, asked in (
-            (5.0, [(0, 10), (1, 12), (2, 12), (3, 12)]),  # before the second part begins to hear
-            (15.0, [(0, 10), (1, 10), (2, 12), (3, 12)]),  # when it hears already: it takes the direction itself
+            (5.0, [(0, 10), (1, 12), (2, 12), (3, 12)]),  # before the second part begins to receive
+            (15.0, [(0, 10), (1, 10), (2, 12), (3, 12)]),  # when it receives already: it obeys the direction itself
             (25.0, [(0, 10), (1, 10), (2, 12), (3, 12)]),
             (30.0, [(0, 10), (1, 10), (2, 10), (3, 12)]),
             (55.0, [(0, 10), (1, 10), (2, 10), (3, 10)]),

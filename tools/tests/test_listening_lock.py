@@ -33,7 +33,7 @@ from cdma_tools.sample_file import SampleFile
 
 CHIP_RATE = 1_228_800
 RATE = 2_400_000
-BLOCK = 480_000  # bytes that are fed at once, where it doesn't matter
+BLOCK = 480_000  # bytes that are fed at once, if it doesn't matter
 # The pilot's energy over noise and the other rows' at the shared recording's Ec/Io; chips at a wrong place have none.
 LEAST_SIGNAL = -4.0
 

@@ -29,7 +29,7 @@ from cdma_tools.listening.system_time import time_told
 from cdma_tools.radio.air import short_code
 
 PERIOD = 32_768
-GAIN = 60  # by which chips of 8 bits are made louder, as those of a lock are
+GAIN = 60  # factor by which chips of 8 bits are amplified, to the level of a lock's chips
 STEP = 122_880  # chips that are fed at once
 SEAMS = int(os.environ.get("CDMA_LISTEN_SEAMS", "16"))
 
@@ -293,7 +293,7 @@ class FadeTest(unittest.TestCase):
         begin, end = self.BEGIN - 0.1, self.BEGIN + 0.7
         with unittest.mock.patch("cdma_tools.listening.beginning.strong_stretch", return_value=0):
             lines = self.lines(self.faded(begin, end), [self.SEAM])
-        # The second run and the third, half a second later, hear noise; the fourth doesn't.
+        # The second run and the third, half a second later, lock to noise; the fourth doesn't.
         self.assertEqual(self.begun.call_count, 4)
         noise = "a run locked to noise instead of the pilot, and is restarted"
         self.assertEqual(self.remarks(), [noise, self.late(1.0)])
@@ -309,7 +309,8 @@ class FadeTest(unittest.TestCase):
         begin, end = self.BEGIN - 0.1, self.SEAM + 0.2
         lines = self.lines(self.faded(begin, end), [self.SEAM])
         self.check_missing(lines, begin, end + self.LATEST)
-        # A run begins without a pilot after 2.5 seconds, and then 3 seconds later; both hear noise, and a third is heard.
+        # A run begins without a pilot after 2.5 seconds, and another 3 seconds later; both lock to noise, and a third
+        # to the pilot.
         self.assertEqual(self.begun.call_count, 4)
         gone = "the pilot is in a fade: no run has begun that could take over from the one that ends here"
         noise = "a run locked to noise instead of the pilot, and is restarted"
@@ -387,7 +388,7 @@ class PhaseTest(unittest.TestCase):
     """The pilot that a run reports, against the numbers of its chips."""
 
     def test_another_pilot_is_told(self) -> None:
-        # Where the numbers aren't the pilot's, so that it isn't found by them, the run begins 2.5 seconds later.
+        # If the numbers aren't the pilot's, so that they don't find it, the run begins 2.5 seconds later.
         late = "the pilot was in a fade when a run was due: it begins 2.5 s late"
         parts = made_cell(PROGRAM or "", 2.7)
         # Numbers that are some chips off, as another path's would be, and those of pilots 64 and 7 x 64 chips away.
@@ -436,7 +437,7 @@ class RuleTest(unittest.TestCase):
 
     def test_the_time_of_a_sync_message(self) -> None:
         # A cell whose chip 0 is system time 1,000 sends a message of 200 bits with its pilot's offset of 64 chips: 7
-        # frames in 3 superframes, known when the eighth has ended, and it tells the time 4 superframes after the third.
+        # frames in 3 superframes, known when the eighth has ended. It gives the time 4 superframes after the third.
         line = "sync at=1 prev=3 min=1 sid=1 nid=2 pn=1 lc=102a1d2e508 time=1007 lp=13 ltm=0 daylt=0 prat=0 rest=3:00"
         for late in (0, 31):
             time = time_told(Event(64 + 8 * PERIOD + late - 64, line))

@@ -188,7 +188,7 @@ class Written(Recordings):
         note = meta["annotations"][labels.index("IS-95 pilot")]
         self.assertEqual(figures(note["core:comment"]), found)
         self.assertLess(note["core:sample_start"], 100_000)
-        # A raw recording gets a .sigmf-meta of its own, which can be read again.
+        # A raw recording gets its own .sigmf-meta, which can be read again.
         raw = self.recorded("--type", "ci8", "--ec-io", -9, name="raw.ci8")
         self.locked(raw, "--type", "ci8", "--rate", 2_400_000, "--meta", self.at("new.sigmf-meta"))
         again = self.locked(self.at("new.sigmf-meta"))
@@ -233,7 +233,7 @@ class Losses(Recordings):
                 if end is not None:
                     self.assertAlmostEqual(heard[1], end, delta=0.06)
                 self.assertEqual(found["lost"], "0")
-        # Between two parts with a pilot the noise is kept, and the timing goes on.
+        # Between two parts with a pilot the noise is kept, and the timing continues.
         numpy.concatenate([raw[:2_000_000], noise[:1_600_000], raw[3_600_000:]]).tofile(data)
         found = self.locked(path)
         self.assertLess(int(found["lost"]), 2)

@@ -35,9 +35,9 @@ from tools.tests.radio_helping import run_main  # noqa: E402
 
 WAYS = [f"tools/{name}" for name in sorted(os.listdir(os.path.join(ROOT, "tools"))) if name != "tests"]
 WAYS += [f"conformance/{name}" for name in ("check", "run", "run_recordings", "write")]
-SECONDS = 300  # that a tool may take on a machine that is busy with other things; alone it takes a few
+SECONDS = 300  # the longest time of a tool on a busy machine; on an idle one it takes a few
 SURVEY = b"survey pn=511 delta=0 energy=1509949440000\nsurvey pn=4 delta=-2 energy=15099494400\n"
-# A pilot that stands alone: +-1 on both branches would do, and so does any other sample file that isn't zeros.
+# Only a pilot: +-1 on both branches would do, as would any other sample file that isn't zeros.
 CELL = sample_file([(100, -100), (-100, 100)] * 400)
 ZEROS = sample_file([(0, 0)] * 800)
 

@@ -274,7 +274,7 @@ class RecordingTest(Folder):
         os.rename(samples, self.at("radio.bin"))
         for tool, words, output in self.lines(meta, self.at("radio.bin")):
             if words[-1] == meta and self.at("radio.bin") in words[:-1]:
-                continue  # only the metadata's own name tells of it
+                continue  # only the metadata's own name refers to it
             with self.subTest(" ".join([tool, *words])), self.unchanged(meta, self.at("radio.bin")):
                 self.refused(tool, words, output)
 

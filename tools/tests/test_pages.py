@@ -24,7 +24,7 @@ IS_WHOLE = os.environ.get("ROLVENST_PAGES") == "all"
 MARK = re.compile(r"<!-- (not run|by hand|status): (.+) -->")
 LEFT_OUT = ".. and "
 SECONDS = 900
-# What the radio of a reader records: `-` is standard output, and else the last argument is the file.
+# What the reader's radio records: `-` is standard output; otherwise the last argument is the file.
 RADIO = '#!/bin/sh\nfor file; do :; done\nif [ "$file" = - ]; then cat "$AIR"; else cat "$AIR" > "$file"; fi\n'
 
 

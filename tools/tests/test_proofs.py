@@ -29,7 +29,7 @@ GROUP = re.compile(r"\(((?:[^()`]|`[^`]*`)*)\)")
 LAW = re.compile(r"(?ms)^pub fn (\w+)\((.*?)^\{")
 CLAUSE = re.compile(r"(?m)^    ensures (\w+) \{")
 TEST = re.compile(r"(?m)^ *(?:def|class) (\w+)")
-# The toolchain's commands, which are no part of the tree.
+# The toolchain's commands, which are not part of the tree.
 OUTSIDE = re.compile(r"rt \w+")
 
 

@@ -280,7 +280,7 @@ class Confirmations(unittest.TestCase):
         return front.Front(Given(chips, CHIP_RATE)), acquisition.Found(at, phase, 0.0, 2.0)
 
     def test_the_chips_beside_a_place(self) -> None:
-        # After it where the recording goes on, before it where that ends, on both sides of a short one; no chip twice.
+        # After it if the recording continues, before it if that ends, on both sides of a short one; no chip twice.
         for count, at, after, before in ((800_000, 1_000, 768, 0), (310_000, 299_000, 5, 583), (PERIOD, 12_000, 24, 23)):
             parts = confirmation.parts_beside(*self.place(-10, count, at), 24)
             self.assertEqual(sum(part.sums for part in parts if part.shift > 0), after)
@@ -328,7 +328,7 @@ class Lines(unittest.TestCase):
         self.assertLess(abs(line.at(100)[1]), 1e-3)
 
     def test_the_clock_is_the_slope_of_most_energy(self) -> None:
-        # A path that goes away by 12 millionths, silent for a third of the time, and one that stands still and is weaker.
+        # A path that recedes by 12 millionths, silent for a third of the time, and a weaker one at rest.
         middles = tracking.SEGMENT * (numpy.arange(24) + 0.5)
         delays = numpy.arange(-34, 35) / 2
         rows = [

@@ -20,7 +20,7 @@ RUNNER = "conformance_recordings"
 MODEL = """#!/bin/sh
 cd %s && exec %s -B -m model "$@"
 """ % (ROOT, PYTHON)
-# A receiver that hears nothing of the second message.
+# A receiver that misses the second message.
 DEAF = """#!/bin/sh
 "%s" "$@" | grep -v time=3280387025
 """

@@ -16,7 +16,7 @@ LINES = {
     "LINK": "link re=0 im=-3 start=0 samples=1228800",
     "PILOT": "pilot gain=100",
     "SYNC": "sync gain=30 prev=3 min=1 sid=1 nid=2 lp=13 ltm=0 daylt=0 prat=0 rest=3:00",
-    # Sync channels that tell paging channels of 4800 bits a second, and the two rates that there are no more.
+    # Sync channels that announce paging channels of 4800 bits a second, and the two rates that no longer exist.
     "SYNC_4800": "sync gain=30 prev=3 min=1 sid=1 nid=2 lp=13 ltm=0 daylt=0 prat=1 rest=3:00",
     "SYNC_2400": "sync gain=30 prev=3 min=1 sid=1 nid=2 lp=13 ltm=0 daylt=0 prat=2 rest=3:00",
     "SYNC_1200": "sync gain=30 prev=3 min=1 sid=1 nid=2 lp=13 ltm=0 daylt=0 prat=3 rest=3:00",
@@ -44,7 +44,7 @@ LINES = {
     "FRAME2": "frame2 1800 22:5a5a58 0101010101010101",
 }
 
-# Lines that can't stand in the place of a cell's.
+# Lines that can't replace a cell's.
 FAULTY_CELLS = [
     "",
     "cell",
@@ -450,8 +450,8 @@ MIXED_FRAMES = [
     (9, "CELL LINK PILOT SYNC TRAFFIC FRAME2 ROW_9 FRAME FRAME2", ""),
 ]
 
-# Plans that can't be sent: the first fault, what stands in place of the cell's lines, the channels after them, and the
-# width of the samples.
+# Plans that can't be sent: the first fault, what replaces the cell's lines, the channels after them, and the width of
+# the samples.
 ONE = {"LINK": "link re=1 im=0 start=0 samples=1"}
 LOUD_LINK = {"LINK": "link re=32767 im=-3 start=0 samples=1228800"}
 LONG_LINK = {"LINK": "link re=0 im=-3 start=0 samples=33554433"}
@@ -516,7 +516,7 @@ FAULTY_PLANS: list[tuple[str, dict[str, str], str, int]] = [
     ("too long 33554433", LONG_LINK, "PAGING HALF TRAFFIC FRAME ROW_9 FRAME", 16),
 ]  # fmt: skip
 
-# The same of cells with a pilot alone: the link, the pilot, and the width of the samples.
+# The same for cells with only a pilot: the link, the pilot, and the width of the samples.
 FAULTY_PILOT_PLANS = [
     ("too loud 32768", "link re=1 im=0 start=0 samples=1", "pilot gain=32768", 16),
     ("too loud 32768", "link re=-1 im=1 start=0 samples=1", "pilot gain=16384", 16),
@@ -580,7 +580,7 @@ LAWFUL_TRAFFICS = [
     "TRAFFIC FRAME2 FRAME2 ROW_9 FRAME FRAME",
     "TRAFFIC FRAME ROW_9 FRAME2",
 ]
-# Pages, and frames, that stand alone after their channel's line.
+# Pages, and frames, that are alone after their channel's line.
 LAWFUL_PAGES = ["page half 10:FfC0", "page half 42:030000000000"]
 LAWFUL_FRAMES = [
     "frame 2400 40:00000000fF 1111111111111111",
@@ -669,7 +669,7 @@ class RefusedScripts(unittest.TestCase):
             self.expect_fault(script_of(f"{HEAD} {channels}", instead), fault, bits)
         for fault, link, pilot, bits in FAULTY_PILOT_PLANS:
             self.expect_fault(script_of("CELL LINK PILOT", {"LINK": link, "PILOT": pilot}), fault, bits)
-        # What can't be sent is told only of a script whose lines all stand where they can.
+        # A plan that can't be sent is reported only if all lines of the script are at their places.
         self.expect_fault(script_of("CELL LINK PILOT", NO_PILOT) + "\n", "line 4")
         self.expect_fault(script_of("CELL LINK", {"LINK": "link re=1 im=0 start=0 samples=67108865"}), "line 3", 8)
 

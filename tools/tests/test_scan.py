@@ -47,7 +47,7 @@ class Scans(Recordings):
         self.assertEqual(lines[0]["conjugate"], "no")
         self.assertGreater(float(lines[0]["sigma"]), 50)
         self.assertAlmostEqual(float(lines[0]["clock_ppm"]), 4, delta=2)
-        # The carrier that it tells is one that the lock takes.
+        # The reported carrier is one that the lock takes.
         found = self.locked(path, "--shift", lines[0]["carrier_hz"], "--search", 500)
         self.assertAlmostEqual(float(found["carrier_hz"]), 1_250_300, delta=10)
 
@@ -86,7 +86,7 @@ class Scans(Recordings):
         self.assertRegex(wrote, r"^no pilot round 0 Hz, excess=0\.\d\d\n$")
 
     def test_what_stands_out_is_tracked_first(self) -> None:
-        # A band, a sweep and noise in bursts: the threshold of white noise passes what is none of a pilot.
+        # A band, a sweep and noise in bursts: the threshold for white noise passes places without a pilot.
         for number in (9, 18, 19) if not os.environ.get("EVERY_FALSE_PILOT") else range(20):
             samples = without_pilot(number, 1_200_000)
             scaled = samples / numpy.sqrt(numpy.mean(numpy.abs(samples) ** 2)) * 2_000

@@ -19,7 +19,7 @@ from tools.tests import test_refused_scripts as refused
 from tools.tests import test_refused_words as refused_words
 from tools.tests.helping import EXAMPLES, NO_PROGRAM, PROGRAM, temporary_folder
 
-# The tables of lines that can't stand, with the lines before them.
+# The tables of misplaced lines, with the lines before them.
 TABLES = {
     "FAULTY_CELLS": "",
     "FAULTY_LINKS": "CELL",

@@ -49,7 +49,7 @@ from cdma_tools.listening.stream_lock import LockOptions, StreamLock
 from cdma_tools.radio.acquisition import bins_within
 from cdma_tools.radio.search_policy import MOST_SEARCH
 
-# Where the pilot of the recording lies: the first slice of a live search finds it, however busy the machine is.
+# The place of the recording's pilot: the first slice of a live search finds it, however busy the machine is.
 NEAR = ["--shift", "3000", "--conjugate", "no"]
 KILLS = int(os.environ.get("CDMA_LISTEN_KILLS", "4"))
 HOURS, PIECE_SECONDS = 24, 4
@@ -135,7 +135,7 @@ class StreamTest(test_listen.OneRecording):
         os.kill(followers_of(run.pid)[0], signal.SIGSTOP)  # it never ends by itself
         until = time.monotonic() + SECONDS
         while run.poll() is None and time.monotonic() < until:
-            run.send_signal(signal.SIGTERM)  # signals that come before the first one is heard are one
+            run.send_signal(signal.SIGTERM)  # signals that arrive before the first one is handled count as one
             time.sleep(2)
         _, said = run.communicate(timeout=SECONDS)
         self.assertEqual((run.returncode, said), (130, b"listen: broken off\n"))
@@ -174,7 +174,7 @@ class StreamTest(test_listen.OneRecording):
         self.send(run, self.begun[len(self.begun) * 7 // 8 :])
         _, said = run.communicate(timeout=SECONDS)
         self.assertEqual((run.returncode, said), (0, b""))
-        # On a busy machine all lines may be written before the signal is heard.
+        # On a busy machine all lines may be written before the signal is handled.
         self.assertTrue(read(moved) + read(self.out) == wanted)
 
     def test_outputs_that_are_no_files(self) -> None:
@@ -251,7 +251,7 @@ class AppendTest(unittest.TestCase):
         with contextlib.closing(GrowingFile(self.out, False)) as file:
             file.write(LINE)
             file.reopen()
-            file.write(LINE)  # nothing was moved: it goes on
+            file.write(LINE)  # nothing was moved: it continues
             os.rename(self.out, self.out + ".1")
             file.write(LINE)
             file.reopen()

@@ -12,7 +12,7 @@ import unittest
 from cdma_tools.starting import called, named_by
 from tools.tests.helping import PYTHON, ROOT
 
-SECONDS = 300  # that a tool may take on a machine that is busy with other things; alone it takes less than one
+SECONDS = 300  # the longest time of a tool on a busy machine; on an idle one it takes less than one
 WAYS = [f"tools/{name}" for name in sorted(os.listdir(os.path.join(ROOT, "tools"))) if name != "tests"]
 WAYS += [f"conformance/{name}" for name in ("check", "run", "run_recordings", "write")]
 # Runs a text as a process's own, and gets a signal when a certain import is about to be made.

@@ -29,7 +29,7 @@ needs("numpy", "scipy", "matplotlib", "plotly", "tqdm", "distributed", "markupsa
 
 # Folders whose docstrings are held.
 FOLDERS = ("cdma", "cdma_tools", "model")
-# Where a pattern is right. Each exception is needed, or a test fails.
+# Sentences in which a pattern is right. A test fails for an exception that is not needed.
 ALLOWED: tuple[Allowed, ...] = ()
 # Sentences that read as if translated word by word, as pages and docstrings had them; none may come back.
 GONE = (

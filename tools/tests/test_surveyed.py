@@ -20,7 +20,7 @@ def explained(heard: Heard, *pilots: tuple[int, int]) -> list[tuple[int, int]]:
 
 class Explained(unittest.TestCase):
     def test_a_cell_that_was_heard_is_at_its_own_offset(self) -> None:
-        # 55.4 chips late, PN 411 stands in the survey at PN 412, 8.6 chips early.
+        # 55.4 chips late, PN 411 is in the survey at PN 412, 8.6 chips early.
         heard = Heard(serving=100, cells={100: 0.0, 220: 12.3, 411: 55.4})
         self.assertEqual(explained(heard, (100, 0), (220, 12), (412, -9)), [(100, 0), (220, 12), (411, 55)])
 

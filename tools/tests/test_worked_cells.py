@@ -9,8 +9,8 @@ from tools.tests.helping import NO_PROGRAM, PROGRAM, run_program, taken_apart
 NEAR = "cell pn=0 time=1000 lc=20000000000 checks=2"
 FAR = "cell pn=511 time=34359738368 lc=00000000001 checks=1"
 PILOT = "pilot gain=100"
-# Sync channels: with a message of 25 octets; with one of 27 octets, with a frequency, which tells paging channels of
-# 4800 bits a second; and one that can hardly be heard.
+# Sync channels: with a message of 25 octets; with one of 27 octets, with a frequency, which announces paging channels
+# of 4800 bits a second; and one that is almost too weak.
 SHORT = "sync gain=30 prev=3 min=1 sid=1 nid=2 lp=13 ltm=0 daylt=0 prat=0 rest=3:00"
 LONG = "sync gain=30 prev=3 min=1 sid=16569 nid=65535 lp=13 ltm=40 daylt=1 prat=1 freq=283 rest=8:b2"
 FAINT = "sync gain=1 prev=3 min=1 sid=1 nid=2 lp=13 ltm=0 daylt=0 prat=0 rest=3:00"
@@ -84,8 +84,8 @@ TRAFFIC = [
     }),
 ]  # fmt: skip
 
-# Samples at places after two starts, where a paging channel is sent: at the full rate beside a pilot alone, and at the
-# half rate beside a sync channel too.
+# Samples at places after two starts, with a paging channel: at the full rate next to only a pilot, and at the half rate
+# next to a sync channel too.
 FULL_RATE = {
     0: {0: (-480, 480), 1: (120, -120), 63: (120, -120), 64: (-480, 480), 777: (120, -120), 24_575: (480, 480),
         24_576: (-120, 120), 30_000: (480, 480)},
