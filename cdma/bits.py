@@ -17,7 +17,7 @@ ANY_COUNT = BitText(lambda count: None)
 def bits(text: str) -> NDArray[numpy.uint8]:
     """Returns the bits of a text N:HEX as an array of 0 and 1, shape (N,), the first bit first.
 
-    Raises `cdma.ParameterError` if the text is no such text.
+    Raises `cdma.ParameterError` if the text has another form.
 
     >>> cdma.bits("10:ffc0")
     array([1, 1, 1, 1, 1, 1, 1, 1, 1, 1], dtype=uint8)

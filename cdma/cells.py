@@ -284,7 +284,7 @@ def frame_line(frame: FrameBody) -> str:
     names = [name for name, sizes in statements.FRAME_BITS.items() if rate in sizes]
     if not names:
         rates = ", ".join(f"{one:,}" for sizes in statements.FRAME_BITS.values() for one in sizes)
-        raise ParameterError("frames", f"{rate} is no rate of a frame ({rates})")
+        raise ParameterError("frames", f"{rate} is not a rate of a frame ({rates})")
     size = statements.FRAME_BITS[names[0]][rate]
 
     def why_not(count: int) -> str | None:

@@ -98,7 +98,7 @@ def whole_parts(array: NDArray[Any], name: str) -> NDArray[Any]:
         array = array.astype(numpy.int16)
     most = MOST_CHIPS[VERSIONS[array.dtype.newbyteorder("=")]]
     if len(array) > most:
-        raise ParameterError(name, f"{len(array):,} samples, and a file has at most {most:,}")
+        raise ParameterError(name, f"{len(array):,} samples, but a file has at most {most:,}")
     return array if array.dtype.isnative else array.astype(array.dtype.newbyteorder("="))
 
 
@@ -140,7 +140,7 @@ def read_samples(file: IO[bytes]) -> Chips:
 def load(path: str | os.PathLike[str]) -> Chips:
     """Returns the chips of a sample file.
 
-    Raises `cdma.FileError` if the file is no complete sample file, and `cdma.Error` if it can't be read.
+    Raises `cdma.FileError` if the file is not a complete sample file, and `cdma.Error` if it can't be read.
 
     >>> cdma.load(examples / "pilot_in_noise.is95")
     <Chips: 4,096 samples of 16 bits, 0.00333 s, checks=0>

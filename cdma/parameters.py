@@ -62,7 +62,7 @@ def option_words(command: str, values: Mapping[str, object]) -> list[str]:
 
 
 def parsed(parser: Any, words: list[str]) -> argparse.Namespace:
-    """Returns the options that a command's parser reads; raises ParameterError in place of ending the process."""
+    """Returns the options that a command's parser reads; raises ParameterError instead of ending the process."""
 
     def refuse(message: str) -> NoReturn:
         named = re.search(r"--([a-z][a-z0-9-]*)", message)

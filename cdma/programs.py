@@ -39,7 +39,7 @@ _chosen: list[Program] = []  # empty: the program that is found
 
 
 def use_model() -> None:
-    """Runs the Python model in place of the program from now on, in this process.
+    """Runs the Python model instead of the program from now on, in this process.
 
     The model has the program's results and takes longer. It needs no program.
 

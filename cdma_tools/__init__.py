@@ -1,12 +1,12 @@
-"""Tools in Python beside `cdma_replay`, of which nothing is proved.
+"""Tools in Python for `cdma_replay`, of which nothing is proved.
 
 | Module | Has |
 |---|---|
 | `sample_header`, `sample_file` | the form of sample files; reading them in any place |
 | `recordings` | raw samples of each type, read in any place |
-| `sigmf` | what a SigMF recording tells of itself, and notes that are added to it |
+| `sigmf` | the metadata of a SigMF recording, and notes that are added to it |
 | `lines` | the fields of the program's lines in one table, by which every tool reads lines |
-| `heard_run` | what lines of `follow` say that a handset heard |
+| `heard_run` | what lines of `follow` say that a handset received |
 | `scripts` | what is read of a script of a cell |
 | `correlation` | the correlation of samples with the pilot's code |
 | `plots` | matplotlib without a screen |

@@ -153,7 +153,7 @@ class Within:
         return f"{bound_text(self.least)} to {bound_text(self.most)}"
 
     def __call__(self, text: str) -> Any:
-        """Returns the number of a text; raises a fault for argparse if it is no number, or out of bounds."""
+        """Returns the number of a text; raises a fault for argparse if it is not a number, or out of bounds."""
         number = read_by(self.form, text, "not a whole number" if self.form is int else "not a number")
         if number != number or not self.least <= number <= self.most or self.is_above and number == self.least:
             raise wrong(f"not {self.told()}", text)

@@ -9,7 +9,7 @@ MOST_BYTES = max(Header(version, 0, count).file_bytes for version, count in MOST
 
 
 def read_whole(path: str, span: int) -> Capture:
-    """Returns the samples of a file; Refused if it is no whole sample file, or has fewer samples than `span`."""
+    """Returns the samples of a file; Refused if it is not a complete sample file, or has fewer samples than `span`."""
     try:
         with open(path, "rb") as file:
             capture = read_capture(file.read(MOST_BYTES + 1), span)  # of what is longer, one byte more is enough

@@ -75,7 +75,7 @@ def remove_own_folders() -> None:
 
 
 def remove_left_folders() -> None:
-    """Removes folders of this user's runs that were killed: nobody holds their files any more."""
+    """Removes folders of this user's runs that were killed: nobody holds their files now."""
     place = tempfile.gettempdir()
     for name in os.listdir(place):
         folder = os.path.join(place, name)

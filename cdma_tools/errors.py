@@ -20,7 +20,7 @@ def printable(text: str) -> str:
 
 
 def said(name: str, text: str) -> None:
-    """Writes a line of a command to standard error; it is lost if nobody reads it."""
+    """Writes a line of a command to standard error; it is lost if nothing reads it."""
     try:
         print(f"{name}: {printable(text)}", file=sys.stderr, flush=True)
     except OSError:

@@ -74,7 +74,7 @@ def started(words: list[str], folder: str) -> subprocess.Popen[bytes]:
 
 
 def launcher_of(tool: str) -> list[str]:
-    """Returns the command of a tool in a checkout: its launcher hears an interrupt from its first line on."""
+    """Returns the command of a tool in a checkout: its launcher catches an interrupt from its first line on."""
     return [os.path.join(TOP, "tools", tool)]
 
 

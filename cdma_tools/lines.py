@@ -442,7 +442,7 @@ class Tokens:
                 self.take_field(field, into)
 
     def take_shape(self, first: str) -> Shape:
-        """The shape of a line of a first word, by the word that tells its kind."""
+        """Returns the shape of a line with this first word, by the word that gives its kind."""
         word = self.take()
         if (first, word) not in BY_WORDS:
             raise NoLine(f"{word[:30]!r} is not a kind of {first}")
@@ -476,7 +476,7 @@ class BrokenTokens(Tokens):
         super().take_part(part, into)
 
     def take_shape(self, first: str) -> Shape:
-        """The shape of a line of a first word, by the word that tells its kind."""
+        """Returns the shape of a line with this first word, by the word that gives its kind."""
         self.end_at(*(word for line, word in BY_WORDS if line == first and word is not None))
         return super().take_shape(first)
 

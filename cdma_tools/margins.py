@@ -1,6 +1,6 @@
 """How much noise a script's cell can take, whatever the noise is (docs/LINK.md, "A link with noise").
 
-Let each part of each sample differ by at most e from what the cell sends. A channel of gain g beside a pilot of gain
+Let each part of each sample differ by at most e from what the cell sends. A channel of gain g with a pilot of gain
 g0, over a link of factor h, keeps the sign of each of its symbols if for each unit u of 1, j, -1 and -j, with
 w = g0 h - e u,
 
@@ -45,7 +45,7 @@ class Margin:
 
 
 def is_borne(re: int, im: int, pilot: int, gain: int, e: int) -> bool:
-    """Returns whether a channel of this gain, beside a pilot over a link of this factor, bears noise of the size e."""
+    """Returns whether a channel of this gain, with a pilot over a link of this factor, bears noise of the size e."""
     for x, y in ((1, 0), (0, 1), (-1, 0), (0, -1)):
         real, imaginary = pilot * re - e * x, pilot * im - e * y
         if e * max(abs(real), abs(imaginary)) >= gain * (real * re + imaginary * im):

@@ -1,7 +1,7 @@
 """Progress of a tool: one bar on standard error, if that is a terminal.
 
-The bar is that of tqdm (Debian's package python3-tqdm). If standard error is no terminal, or tqdm is missing, there is
-none, and nothing is written. So the output of a tool is the same in a pipe, in a file and in a test.
+The bar is that of tqdm (Debian's package python3-tqdm). If standard error is not a terminal, or tqdm is missing, there is
+no bar, and nothing is written. So the output of a tool is the same in a pipe, in a file and in a test.
 """
 
 import sys

@@ -69,7 +69,7 @@ class Reader:
         self.traffic: list[tuple[dict[str, str], list[Frame]]] = []
 
     def take(self, line: str) -> None:
-        """Takes a line; raises KeyError, ValueError or IndexError if it hasn't the form of its first word."""
+        """Takes a line; raises KeyError, ValueError or IndexError if it doesn't have the form of its first word."""
         name, *words = line.split(" ")
         fields = fields_of(words)
         if name == "link":

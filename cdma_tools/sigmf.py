@@ -80,7 +80,7 @@ def fields_of(path: str, meta: dict[str, Any]) -> dict[str, Any]:
 
 
 def type_told(path: str, fields: dict[str, Any]) -> str:
-    """The type of the samples that the fields tell."""
+    """Returns the type of the samples that the fields give."""
     told = fields.get("core:datatype")
     kind = type_named(told) if isinstance(told, str) else told
     if not isinstance(kind, str) or kind not in TYPES:
@@ -128,7 +128,7 @@ def extent_of(path: str, meta: dict[str, Any], samples: str, size: int, number: 
 
 
 def frequency_in(meta: dict[str, Any], number: int | None = None) -> float | None:
-    """The frequency in Hz of the middle of a capture, by default the first; None if it isn't told."""
+    """The frequency in Hz of the middle of a capture, by default the first; None if it isn't given."""
     captures = meta.get("captures", [])[(number or 1) - 1 :]
     told = captures[0].get("core:frequency") if captures else None
     return float(told) if isinstance(told, (int, float)) and not isinstance(told, bool) else None

@@ -2,7 +2,7 @@
 
 The law asks for nothing but signs, so it holds for a file of any origin: with noise, other cells, other paths, or from
 a radio. The file has as many samples as the script's cell sends, and the script's flags; the search finds the cell's
-phase; and one finger hears the file. A frame is covered if each of its soft values has the sign that its symbol was
+phase; and one finger receives the file. A frame is covered if each of its soft values has the sign that its symbol was
 sent with: above 0 for a 0 and below 0 for a 1, before descrambling, power control bits included.
 
 The law asks about each frame of the sync channel that lies in the file, and about the frames of the other channels from

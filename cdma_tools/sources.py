@@ -1,8 +1,8 @@
 """Recordings in files, by their names: SigMF, SigMF archives, WAV files of radio programs, and raw samples.
 
-| Name | What it tells |
+| Name | What it contains |
 |---|---|
-| `x.sigmf-meta` | type, rate and frequency of the samples beside it; of several captures one can be chosen |
+| `x.sigmf-meta` | type, rate and frequency of the samples next to it; of several captures one can be chosen |
 | `x.sigmf` | the same, with the samples in one archive (a plain tar) |
 | `x.wav` | type and rate, and the frequency of its `auxi` chunk, as SDR programs write it |
 | any other | nothing: its type and rate have to be given |
@@ -42,7 +42,7 @@ MOST_CHUNK = 1 << 16  # bytes of a chunk, but for the samples', that are read
 
 @dataclass(frozen=True)
 class Stored:
-    """Samples in a file: their type, their rate, their place, and the frequency of their middle in Hz, if told."""
+    """Samples in a file: their type, their rate, their place, and the frequency of their middle in Hz, if known."""
 
     kind: str
     rate: Fraction
@@ -51,7 +51,7 @@ class Stored:
 
 
 def is_described(path: str) -> bool:
-    """Whether a recording tells its type and its rate by itself."""
+    """Whether a recording has its own type and rate."""
     return path.endswith(DESCRIBED)
 
 
@@ -66,7 +66,7 @@ def add_capture_option(words: argparse._ActionsContainer) -> None:
 
 
 def stored_of(path: str, rate: Fraction | None, capture: int | None = None) -> Stored:
-    """The samples of a recording that tells its type; `rate` is given only if it tells none."""
+    """Returns the samples of a recording that has its own type; `rate` is given only if it has no rate."""
     if path.endswith(WAVE):
         if rate is not None:
             raise Refused(f"{path}: a WAV file has its own rate; --rate can't be given too")
@@ -152,7 +152,7 @@ def wave_in(path: str, file: BinaryIO, total: int) -> Stored:
 
 
 def wave_format(path: str, data: bytes) -> tuple[str, int]:
-    """The type and the rate that a 'fmt ' chunk tells."""
+    """Returns the type and the rate in a 'fmt ' chunk."""
     form, channels, rate, _, _, bits = FORMAT.unpack_from(data)
     if form == EXTENSIBLE and len(data) >= SUBFORMAT_PLACE + 2:
         form = struct.unpack_from("<H", data, SUBFORMAT_PLACE)[0]

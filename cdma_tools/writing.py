@@ -1,4 +1,4 @@
-"""Writing a whole file, or none; and what is no plain file, as it comes."""
+"""Writing a whole file, or none; and writing through to what is not a regular file."""
 
 import contextlib
 import errno

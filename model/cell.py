@@ -58,7 +58,7 @@ def power_places(state: int, mask: int, scrambling: NDArray[Any]) -> NDArray[Any
 
 
 def continued_symbols(bits_of: Callable[[int], Bits], frame: int) -> NDArray[Any]:
-    """The code symbols of a frame whose encoder goes on from the frame before, and starts with zeros."""
+    """The code symbols of a frame whose encoder continues from the frame before, and starts with zeros."""
     start = number(bits_of(frame - 1)[-8:]) if frame else 0
     return code_symbols(start, bits_of(frame))
 

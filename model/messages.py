@@ -45,7 +45,7 @@ class Reader:
 
 
 class TooShort(Exception):
-    """A body that has too few bits for its type, or too many: it is no message."""
+    """A body that has too few bits for its type, or too many: it is not a message."""
 
 
 # ---- capsules (7.7.1, 7.7.2, 7.7.3)

@@ -107,7 +107,7 @@ def delay_of(cell: Cell, first: Cell, pn: int | None, first_pn: int | None) -> f
 
 @dataclass(frozen=True)
 class HeardAlone:
-    """A cell without the others: its lock, and what the program heard of it."""
+    """A cell without the others: its lock, and what the program decoded from it."""
 
     cell: Cell
     locked: Locked
@@ -170,7 +170,7 @@ def table_of_cells(search: Search, count: int, program: str | None, tell: Callab
 
 
 def heard_alone(search: Search, cell: Cell, program: str | None) -> HeardAlone:
-    """A cell without the others, with what the program hears of it, if there is one."""
+    """Returns a cell without the others, with what the program decodes from it, if there is a program."""
     assert search.left is not None
     path = os.path.join(search.folder, "heard.is95")
     options = search.options._replace(version=1, scale=None, count=None)

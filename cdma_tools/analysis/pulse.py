@@ -2,8 +2,8 @@
 changes.
 
 The standard's pulse (7.1.3.1.10) isn't free of interference between chips: after the matched filter R(k) isn't 0 at
-whole chips k. The squares of these sides are 2.27 % of a chip's power. They belong to the transmitter, and are no error
-of it.
+whole chips k. The squares of these sides are 2.27 % of a chip's power. They belong to the transmitter, and are not an
+error of it.
 """
 
 import functools

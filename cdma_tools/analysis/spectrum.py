@@ -28,7 +28,7 @@ def full_scale_of(kind: Kind) -> float:
 
 def window_of(scale: float) -> NDArray[numpy.float64]:
     """Returns the window of a transform, by which the powers of all bins add up to the mean power; `scale` is 1."""
-    from scipy.signal.windows import hann  # takes half a second to load, and is wanted here alone
+    from scipy.signal.windows import hann  # takes half a second to load, and only this needs it
 
     window: NDArray[numpy.float64] = hann(BINS, sym=False)
     return window / (numpy.sqrt(BINS * numpy.sum(window**2)) * scale)

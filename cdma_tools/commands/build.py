@@ -16,8 +16,8 @@ A crate is planned with 1 GB, 1 MB for each line of its .rt files, 0.2 MB for ea
 line of .rt of the crates below it. Each job but the first takes 0.6 of that more. A crate that is planned with more
 than there is is built with no other.
 
-Exit status: 0 all is built, 1 a crate isn't, and those under way are ended, 2 if the arguments are wrong, no rt is on
-the path, or the folder is no checkout.
+Exit status: 0 all is built, 1 a crate isn't, and those under way are ended, 2 if the arguments are wrong, rt is not
+on the path, or the folder is not a checkout.
 """
 
 from __future__ import annotations

@@ -282,7 +282,7 @@ def label_of(program: str, words: str, antenna: Antenna | None) -> str:
 
 
 def check_labels(curves: Sequence[Curve]) -> None:
-    """Refuses receivers that tables couldn't tell apart."""
+    """Refuses receivers that tables couldn't distinguish."""
     labels = [curve.label for curve in curves]
     twice = sorted({label for label in labels if labels.count(label) > 1})
     if twice:

@@ -103,7 +103,7 @@ def timed(lines: Iterable[str]) -> Iterator[tuple[float, str]]:
 
 
 def taken(lines: Iterable[str]) -> tuple[dict[str, Times], float]:
-    """The times of each crate that a log names, and how long the log goes on."""
+    """Returns the times of each crate in a log, and the log's duration."""
     found: dict[str, Times] = {}
     end = 0.0
     for end, text in timed(lines):

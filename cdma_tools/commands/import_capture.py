@@ -378,7 +378,7 @@ def lock_and_tell(options: argparse.Namespace) -> None:
 
 
 def tell_cells(options: argparse.Namespace, first: "Held | None") -> None:
-    """Tells the table of a recording's cells; `first` is the lock to the strongest one, if it was made already."""
+    """Prints the table of a recording's cells; `first` is the lock to the strongest one, if it was made already."""
     from cdma_tools.analysis.cell_table import table_of_cells
     from cdma_tools.analysis.cells import Search
 

@@ -22,8 +22,8 @@ taken too. Without a command, all channels of the script are meant. The last lin
 With --file FILE, the tool reports which frames of a sample file come back in any case. FILE may have any origin: noise
 of any size, other cells, other paths, a radio. It must have as many samples as the script's cell sends, the script's
 flags, and the cell's phase as the best one of the search. A frame is covered if each of its soft values, as one finger
-reads it, has the sign that was sent. Whatever the other channels do, a channel is heard as it was sent if all of its
-frames are covered. A covered frame of a traffic channel is heard as it was sent if no other codeword has the same
+reads it, has the sign that was sent. Whatever the other channels do, a channel is received as it was sent if all of its
+frames are covered. A covered frame of a traffic channel is received as it was sent if no other codeword has the same
 symbols, and as long as no handoff is directed. That is proved too.
 
     channel      sync, or the kind of the channel and its Walsh row
@@ -77,7 +77,7 @@ def parser() -> argparse.ArgumentParser:
         "script", type=InputFile, metavar="SCRIPT", help="the script of a cell, - for standard input"
     )
     arguments.add_argument(
-        "command", nargs=argparse.REMAINDER, metavar="COMMAND ..", help="what hears the cell, as cdma_replay's"
+        "command", nargs=argparse.REMAINDER, metavar="COMMAND ..", help="what receives the cell: a command of cdma_replay with its options"
     )
     file = "report which frames of this sample file are covered instead"
     arguments.add_argument("--file", type=InputFile, metavar="FILE", help=file)

@@ -64,7 +64,7 @@ class NoStep(Exception):
 
 
 def told_of(line: str) -> Told:
-    """Returns the values of a line of steps; raises NoStep if it is no such line."""
+    """Returns the values of a line of steps; raises NoStep if it is not such a line."""
     found = LINE.fullmatch(line)
     if not found:
         raise NoStep(f"a line of steps doesn't have the form of docs/FORMATS.md: {line[:80]}")

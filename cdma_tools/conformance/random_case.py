@@ -163,7 +163,7 @@ def both_pilots(scene: Scene) -> Bits:
 
 
 def drawn_message(scene: Scene) -> Bits:
-    """The body of a traffic message, which may be none of its type."""
+    """The body of a traffic message, which may be invalid for its type."""
     rng = scene.rng
     kind = rng.choice([8, 17, 17] if scene.handoff else [7, 8, 17, 17, rng.randrange(256)])
     clear = scene.handoff or rng.random() < 0.8

@@ -76,11 +76,11 @@ def versions_of(antenna: Antenna | None) -> str:
 def check_machine(setup: Setup) -> None:
     """Refuses a machine on which the same seeds might give other counts."""
     if (here := versions_of(setup.antenna)) != setup.numpy_version:
-        raise Refused(f"numpy is {here} here, but {setup.numpy_version} where the run began")
+        raise Refused(f"numpy is {here} here, but {setup.numpy_version} on the machine that began the run")
     programs = {(setup.maker, setup.maker_checksum), *((curve.program, curve.checksum) for curve in setup.curves)}
     for program, checksum in sorted(programs):
         if digest(program) != checksum:
-            raise Refused(f"{program} is another program here than where the run began")
+            raise Refused(f"{program} is another program here than on the machine that began the run")
 
 
 def on_air(setup: Setup, parts: NDArray[numpy.int16]) -> NDArray[numpy.int16]:

@@ -235,7 +235,7 @@ def ended(channel: str, capsule: Bits, complemented: bool) -> str:
 
 
 def stream_steps(capture: Capture, stream: Stream, index: int, what: str) -> Steps:
-    """The steps of a frame of a channel whose encoder goes on, without its fields."""
+    """Returns the steps of a frame of a channel whose encoder continues, without its fields."""
     if not stream.is_inside(capture.count, index):
         raise NoFrame(f"the file doesn't contain frame {index} of the {what}")
     start = stream.start(index)

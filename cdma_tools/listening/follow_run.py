@@ -139,7 +139,7 @@ class FollowRun:
         return RunEnded(f"{self.handset.program} follow {how}: {said or 'it said nothing'}", status)
 
     def feed(self, chips: Chips) -> None:
-        """Gives it chips; those that it has already, and those that its file can't hold any more, are left out."""
+        """Gives it chips; those that it has already, and those for which its file has no room, are left out."""
         low, high = self.end - chips.first, min(chips.end, self.begin + MOST) - chips.first
         if low < high:
             self.write(chips.parts[4 * low : 4 * high])
@@ -201,7 +201,7 @@ class FollowRun:
             pass
 
     def kill(self) -> None:
-        """Ends it without hearing more of it."""
+        """Ends it without reading more of it."""
         self.process.kill()
         self.process.wait()
         with contextlib.suppress(OSError):

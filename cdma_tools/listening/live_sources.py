@@ -5,7 +5,7 @@
 | `rtl_tcp://HOST:PORT` | a server with the protocol of rtl_tcp, which is tuned (`sources`); cu8 |
 | `tcp://HOST:PORT` | a server that sends samples and nothing else |
 | `udp://HOST:PORT` | datagrams that come to a port of this machine, as a UDP sink of GNU Radio sends them |
-| `zmq://HOST:PORT` | a PUB socket, as a ZMQ PUB sink of GNU Radio has it; cf32_le unless another type is given |
+| `zmq://HOST:PORT` | a PUB socket, such as a ZMQ PUB sink of GNU Radio; cf32_le unless another type is given |
 | `soapy:driver=NAME,..` | a radio that SoapySDR knows, which is tuned; cf32_le |
 
 A source that ends ends the listening. One that is silent for ten seconds, or fails, is refused in one line; what was
@@ -70,7 +70,7 @@ class LiveSource:
         return parts.hostname, port
 
     def begin(self, backlog: Backlog) -> Callable[[], None]:
-        """Reaches the source, and answers what fills a backlog with its samples, in a thread of its own."""
+        """Connects to the source, and returns what fills a backlog with its samples, in its own thread."""
         if self.scheme == RTL_TCP:
             host, port = self.place
             server = Server(host, port, int(self.rate), TYPES[self.kind].size, self.tuning)
@@ -89,7 +89,7 @@ def scheme_of(source: str) -> str | None:
 
 
 def fill(backlog: Backlog, items: Iterator[Item]) -> None:
-    """Puts what a source sends into a backlog, until it ends or isn't wanted any more."""
+    """Puts what a source sends into a backlog, until it ends or is no longer wanted."""
     try:
         for item in items:
             if backlog.is_stopped.is_set():

@@ -101,7 +101,7 @@ class Pursuit(Tracker):
         self.timeline.add(float(chip), self.heard_points(chip))
 
     def forget(self, chip: float) -> None:
-        """Forgets points that don't count any more from a chip on."""
+        """Forgets points that no longer count from a chip on."""
         while len(self.points) > CLOSE and self.points[0].chip < chip - KEPT:
             self.points.pop(0)
 

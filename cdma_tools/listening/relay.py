@@ -99,7 +99,7 @@ class Relay:
             self.feed(Chips(self.end, bytes(4 * min(ZEROS, count - first))))
 
     def poll(self) -> None:
-        """Tells the lines that have come since."""
+        """Passes on the lines that have arrived since."""
         if self.current is None:
             return
         self.current.poll()
@@ -138,7 +138,7 @@ class Relay:
             self.current = None
 
     def kill(self) -> None:
-        """Ends all that is running, without hearing more of it."""
+        """Ends everything that is running, without reading more of it."""
         for run in (self.current, self.next):
             if run is not None:
                 run.kill()
@@ -291,7 +291,7 @@ class Relay:
     # Lines that are passed on
 
     def tell(self, run: FollowRun) -> None:
-        """Tells the current run's lines up to its seam; those after it are the next run's."""
+        """Passes on the current run's lines up to its seam; those after it are the next run's."""
         self.check_phase(run)
         events, run.told = run.told, []
         for event in events:

@@ -83,7 +83,7 @@ class Ring:
         return numpy.conj(samples, out=samples) if self.is_conjugate else samples
 
     def drop(self, before: int) -> None:
-        """Samples before this one aren't needed any more."""
+        """Samples before this one are no longer needed."""
         self.keep = max(self.keep, min(before, self.count))
 
 

@@ -60,7 +60,8 @@ def code_steps(phase: int, chip: int) -> int:
 
 
 def first_pilot(ring: Ring, first: int, count: int, centre: float, step: Step) -> Start | None:
-    """Where a pilot stands out in samples first to first + count - 1; turns the ring round where its conjugate has it.
+    """Returns the place of a pilot in samples first to first + count - 1; conjugates the ring if the pilot is in its
+    conjugate.
 
     The step says how far from `centre` the carrier is searched, and in which spectra.
     """
@@ -71,7 +72,7 @@ def first_pilot(ring: Ring, first: int, count: int, centre: float, step: Step) -
 
 
 def confirmed(ring: Ring, window: StreamingFront, first: int, found: Found) -> Start | None:
-    """The start of a pilot that seems to stand out in a window; None if it isn't heard beside that place."""
+    """The start of a pilot that seems to stand out in a window; None if nothing near that place confirms it."""
     ring.is_conjugate ^= found.is_conjugate
     for _ in range(ROUNDS):
         window.set_carrier(found.hertz)
@@ -103,7 +104,7 @@ def bands_outward(bins: NDArray[numpy.int64]) -> list[NDArray[numpy.int64]]:
 class LiveSearch:
     """The search in a live stream, which keeps up with the air: slices of the carriers, the nearest first, in turn.
 
-    A search ends after a round of all slices, or when it has taken `MOST_SEARCH` seconds; the next one goes on with the
+    A search ends after a round of all slices, or when it has taken `MOST_SEARCH` seconds; the next one continues with the
     next slice. What comes in the meantime is left out.
     """
 

@@ -164,7 +164,7 @@ class Backlog:
         self.is_ending = True
 
     def stop(self) -> None:
-        """The items aren't wanted any more."""
+        """The items are no longer wanted."""
         self.is_stopped.set()
 
 
@@ -212,7 +212,7 @@ class ServerReader:
         return connection
 
     def run(self) -> None:
-        """Takes what comes, until it isn't wanted any more; runs in a thread of its own."""
+        """Takes what arrives until it is no longer wanted; runs in its own thread."""
         while not self.backlog.is_stopped.is_set():
             try:
                 data = self.connection.recv(PIECE_BYTES)
@@ -242,7 +242,7 @@ class ServerReader:
         """Reports what was left out, and `more` bytes of an incomplete sample."""
         if self.lost:
             samples = -(-(self.lost + more) // self.server.sample_bytes)
-            self.backlog.put(Skipped(samples, f"the lock fell behind {self.server.name}"))
+            self.backlog.put(Skipped(samples, f"the lock couldn't keep up with {self.server.name}"))
             self.lost = 0
 
     def reach_again(self, why: str) -> None:

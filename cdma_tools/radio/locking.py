@@ -144,9 +144,9 @@ def check_pilot(pilot: Pilot, policy: SearchPolicy, shift: float) -> None:
         )
     if not sure.is_pilot:
         raise Refused(
-            f"a pilot seemed to stand out {where}, but nothing confirms it: {sure.sigma:.1f} standard"
-            f" deviations of noise, where a pilot has {LEAST:.0f} or more, unless its clock is much more than"
-            f" {1e6 * MOST_CLOCK:.0f} millionths off{policy.advice}"
+            f"a pilot seemed to stand out {where}, but nothing confirms it: {sure.sigma:.1f} standard deviations of"
+            f" noise, and a pilot has at least {LEAST:.0f}, unless its clock is off by much more than"
+            f" {1e6 * MOST_CLOCK:.0f} millionths{policy.advice}"
         )
     if not sure.is_followed:
         raise Refused(

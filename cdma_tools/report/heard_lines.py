@@ -140,7 +140,7 @@ def is_lines(path: str) -> bool:
 
 
 def objects(path: str) -> Iterator[tuple[str, dict[str, Any]]]:
-    """The lines of a file, each with its object; refuses what is no line."""
+    """Yields the lines of a file, each with its object; refuses what is not a line."""
     with open(path, encoding="ascii", errors="replace") as file:
         for number in itertools.count(1):
             if not (text := file.readline(LONGEST)):

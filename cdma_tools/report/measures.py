@@ -52,7 +52,7 @@ class Symbols(NamedTuple):
 class Measured:
     """What was measured of a sample file; None if it is too short, or no pilot stands out.
 
-    `version` is 0 if it is no sample file; `told` is the number of samples in its header, and `count` the number it
+    `version` is 0 if it is not a sample file; `told` is the number of samples in its header, and `count` the number it
     has.
     """
 

@@ -1,10 +1,10 @@
-"""The pilots of a survey, as what was heard explains them.
+"""The pilots of a survey, explained by what was received.
 
 `survey` counts each phase to the offset that is next to it, at most 31 chips away. A pilot that comes later than that,
 by its way, stands at the next offset there: PN 411, 55 chips late, at PN 412, 9 chips early. Here it is moved to the
-offset that what was heard makes likely, in this order:
+likely offset by what was received, in this order:
 
-1. a cell that was heard in the recording, at its own delay;
+1. a cell that was received in the recording, at its own delay;
 2. the serving cell, or one of its neighbor list, within the search window of the System Parameters;
 3. another multiple of PILOT_INC, within the window for all others.
 """
@@ -34,7 +34,7 @@ class Surveyed(NamedTuple):
 
 @dataclass(frozen=True)
 class Heard:
-    """What was heard of the pilots around; windows are whole widths in chips."""
+    """What was received of the pilots around; windows are whole widths in chips."""
 
     serving: int | None = None
     cells: dict[int, float] = field(default_factory=dict)  # delays in chips against the serving cell, by PILOT_PN

@@ -233,13 +233,13 @@ class Builder:
             self.say(f"{run.name} built in {took}")
 
     def tell_log(self, name: str) -> None:
-        """Tells the last lines of a log."""
+        """Prints the last lines of a log."""
         with open(log_of(self.root, name), encoding="utf-8", errors="replace") as file:
             for line in deque(file, LAST_LINES):
                 self.tell(f"    {line.rstrip()}")
 
     def say(self, text: str) -> None:
-        """Tells of a crate, after the time since the start."""
+        """Prints a line on a crate, after the time since the start."""
         self.tell(f"{clock_text(time.monotonic() - self.begun)} {text}")
 
     def end_all(self) -> None:

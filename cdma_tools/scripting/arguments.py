@@ -75,7 +75,7 @@ def option_faults(words: list[str], command: str) -> tuple[list[str], dict[str, 
 
 
 def why_no_option(word: str, name: str, command: str) -> str:
-    """Says why a word is no option of a command."""
+    """Returns why a word is not an option of a command."""
     options = [f"--{one}" for one in COMMANDS[command]]
     if name in ("-h", "--help", "--version"):
         return f"the program has no {name}; man cdma_replay describes it"
@@ -99,10 +99,10 @@ def number_of(name: str, text: str, bounds: Bounds) -> int:
     wanted = bounds_text(name, bounds)
     if isinstance(bounds, str):
         if not re.fullmatch("[0-9a-fA-F]{8}", text):
-            raise Wrong(f"{quoted(text)} where {wanted} are needed")
+            raise Wrong(f"{wanted} are needed, not {quoted(text)}")
         return int(text, 16)
     if not re.fullmatch("[0-9]+", text):
-        raise Wrong(f"{quoted(text)} where a decimal number is needed ({wanted})")
+        raise Wrong(f"a decimal number is needed ({wanted}), not {quoted(text)}")
     if len(text) > MOST_DIGITS:
         raise Wrong(f"a number has at most {MOST_DIGITS} digits, not {len(text)}")
     if not bounds[0] <= int(text) <= bounds[1] or name == "bits" and int(text) not in bounds:

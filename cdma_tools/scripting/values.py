@@ -63,7 +63,7 @@ class Number:
         return int(text)
 
     def why_no_number(self, text: str) -> str:
-        """Says why a text that isn't digits is no number."""
+        """Returns why a text that isn't digits is not a number."""
         if re.fullmatch(r"-[0-9]+", text):
             return f"the number can't be negative ({self.wanted()})"
         if re.fullmatch(r"-?[0-9]*\.[0-9]*", text):
@@ -95,7 +95,7 @@ class HexDigits:
         if good < len(text):
             raise Wrong(f"{text[good]!r} isn't a hex digit ({self.wanted()})", good)
         if len(text) != self.count:
-            raise Wrong(f"{len(text)} digits where {self.count} are needed ({self.wanted()})")
+            raise Wrong(f"{self.count} digits are needed ({self.wanted()}), not {len(text)}")
         if not self.least <= int(text, 16) <= self.most:
             raise Wrong(f"{text} is out of range ({self.wanted()})")
         return int(text, 16)
@@ -149,7 +149,7 @@ class Commands:
         """Returns the digits."""
         good = leading("[01]*", text)
         if good < len(text):
-            raise Wrong(f"{text[good]!r} where a power control bit is needed ({self.wanted()})", good)
+            raise Wrong(f"a power control bit is needed ({self.wanted()}), not {text[good]!r}", good)
         if len(text) != 16:
             raise Wrong(f"{len(text)} power control bits, but a frame has sixteen")
         return text

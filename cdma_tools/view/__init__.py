@@ -1,4 +1,4 @@
-"""The live view: a listening, and a page in the browser that shows it while it goes on.
+"""The live view: `listen`, and a page in the browser that shows what it does.
 
 The listening runs in a process of its own (`listener`), which passes its lines, spectra and figures on through a pipe
 and never waits for a reader (`outbox`). Its last chips are in a file that both processes share (`chip_store`). The

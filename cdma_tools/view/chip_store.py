@@ -75,7 +75,7 @@ class ChipKeeper:
         self.extent = Extent(0, 0)
 
     def add(self, chips: Chips) -> None:
-        """Writes the next chips; begins anew if they don't follow, or only after more than there is space for."""
+        """Writes the next chips; restarts if they don't follow, or only after more than there is space for."""
         first, end = self.extent
         gap = chips.first - end
         if first == end or not 0 <= gap < MOST:
@@ -86,5 +86,5 @@ class ChipKeeper:
         self.extent = Extent(max(first, chips.end - MOST), chips.end)
 
     def restart(self) -> None:
-        """Begins anew with the next chips, which have nothing to do with the ones before."""
+        """Restarts with the next chips, which do not continue the ones before."""
         self.extent = Extent(0, 0)

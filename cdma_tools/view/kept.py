@@ -172,7 +172,7 @@ class Kept:
         self.learn(read, text)
 
     def learn(self, read: dict[str, Any], text: str) -> None:
-        """Notes what a line tells of the base station, of its time, and of the traffic channel's row."""
+        """Notes what a line says about the base station, of its time, and of the traffic channel's row."""
         words = read["line"], read.get("message")
         if words[0] == "sync":
             self.pilot = read["pn"]

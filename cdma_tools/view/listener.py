@@ -1,4 +1,4 @@
-"""The process of a listening, which tells the page's server what it hears."""
+"""The process that listens, and reports to the page's server what it receives."""
 
 import argparse
 import contextlib
@@ -49,7 +49,7 @@ def shows_lines(options: argparse.Namespace) -> bool:
 
 
 def lines_in(path: str) -> Iterator[bytes]:
-    """Yields the lines of a file as `listen --json` writes them; refuses what is no line."""
+    """Yields the lines of a file as `listen --json` writes them; refuses what is not a line."""
     with open(path, encoding="ascii", errors="replace") as file:
         number = 0
         while text := file.readline(LONGEST):
@@ -61,12 +61,12 @@ def lines_in(path: str) -> Iterator[bytes]:
                 else:
                     text = as_json(text)
             except NoLine as why:
-                raise Refused(f"{path}: line {number} is none: {why}") from None
+                raise Refused(f"{path}: line {number} is invalid: {why}") from None
             yield text.encode("ascii") + b"\n"
 
 
 def tell_lines(options: argparse.Namespace, outbox: Outbox) -> str:
-    """Tells the lines of a file, and returns how it ended."""
+    """Reports the lines of a file, and returns how it ended."""
     count = 0
     for line in lines_in(options.source):
         outbox.line(line)
@@ -75,7 +75,7 @@ def tell_lines(options: argparse.Namespace, outbox: Outbox) -> str:
 
 
 def middle_of(options: argparse.Namespace) -> float | None:
-    """Returns the frequency in Hz of the samples' middle, if the command line or the recording tells it."""
+    """Returns the frequency in Hz of the samples' middle, if the command line or the recording gives it."""
     if is_described(options.source):
         return stored_of(options.source, options.rate, options.capture).frequency
     return frequency_given(options)
@@ -103,7 +103,7 @@ def tell_listening(options: argparse.Namespace, outbox: Outbox, store: ChipStore
 
 
 def run(options: argparse.Namespace, outbox: Outbox, store: ChipStore) -> int:
-    """Tells all there is to tell, and its end; returns the exit status."""
+    """Reports everything, and its end; returns the exit status."""
     status, text = FAILED, ""
     try:
         if shows_lines(options):

@@ -1,4 +1,4 @@
-"""The server of the page: it takes what a listening tells, and sends it to each browser at most ten times a second."""
+"""The server of the page: it takes what the listener reports, and sends it to each browser at most ten times a second."""
 
 import asyncio
 import gzip
@@ -66,7 +66,7 @@ class Hub:
         return Extent(*self.kept.figures.get("chips", (0, 0)))
 
     async def take_all(self, descriptor: int) -> None:
-        """Takes all that the listening tells."""
+        """Takes everything that the listener reports."""
         stream = PipeIOStream(descriptor, max_buffer_size=4 * LONGEST_LINE)
         try:
             while True:

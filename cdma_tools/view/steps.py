@@ -1,7 +1,7 @@
 """The steps in which a frame of the last chips was decoded, as `explain` shows them, by the model of `model/`.
 
-The search and the mark of a handset are not made again: the chips' numbers tell the code's phase, and a sync message
-that the listening has decoded tells the system time and the state of the long code.
+The search and the mark of a handset are not made again: the chips' numbers give the code's phase, and a decoded
+sync message gives the system time and the state of the long code.
 """
 
 from dataclasses import dataclass
@@ -46,7 +46,7 @@ class MarkTold:
 
     @classmethod
     def of(cls, time: SystemTime, read: dict[str, Any]) -> "MarkTold":
-        """Returns the mark of a sync message that tells a time."""
+        """Returns the mark of a sync message that gives a time."""
         return cls(time.base + SUPERFRAME * time.told, read)
 
     def in_window(self, begin: int) -> Mark:

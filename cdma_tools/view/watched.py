@@ -1,4 +1,4 @@
-"""A listening whose spectra, chips and figures are passed on to the page while it goes on."""
+"""Listening whose spectra, chips and figures are passed on to the page."""
 
 import threading
 import time
@@ -86,7 +86,7 @@ class WatchedListening(Listening):
 
 
 class WatchedStream(LiveListening):
-    """A listening to a stream that tells the page what comes."""
+    """Listening to a stream that reports to the page what arrives."""
 
     def __init__(
         self, lock: LockOptions, handset: Handset, writer: PageWriter, outbox: Outbox, keeper: ChipKeeper
@@ -102,7 +102,7 @@ class WatchedStream(LiveListening):
         self.kept: tuple[float, float] | None = None  # of the filter, at a carrier
 
     def take_all(self, backlog: Backlog) -> None:
-        """Takes all that comes. Meanwhile a thread tells the figures, so that a long search shows how it lags."""
+        """Takes all that arrives. Meanwhile a thread reports the figures, so that a long search shows how it lags."""
         self.backlog = backlog
         is_ended = threading.Event()
         teller = threading.Thread(target=self.tell_until, args=(is_ended,), daemon=True)
@@ -115,12 +115,12 @@ class WatchedStream(LiveListening):
             self.tell_figures()
 
     def tell_until(self, is_ended: threading.Event) -> None:
-        """Tells the figures now and then, up to the end; runs in a thread of its own."""
+        """Reports the figures now and then, up to the end; runs in its own thread."""
         while not is_ended.wait(FIGURES_EVERY):
             self.tell_figures()
 
     def take(self, item: Item) -> None:
-        """Takes what comes, and tells its spectrum now and then."""
+        """Takes what arrives, and reports its spectrum now and then."""
         if isinstance(item, bytes) and self.spectrum_due.is_due():
             self.tell_spectrum(item)
         super().take(item)
@@ -132,14 +132,14 @@ class WatchedStream(LiveListening):
         return f"{how} after {seconds:,.1f} s: {lines:,} lines, {self.lost:,} samples were lost"
 
     def tell_spectrum(self, data: bytes) -> None:
-        """Tells the spectrum of what has just come."""
+        """Reports the spectrum of what has just arrived."""
         lock = self.listening.lock
         levels = self.spectra.row(data[-len(lock.ring.rest) % self.size :])
         if levels is not None:
             self.outbox.tell("spectrum", seconds=round(lock.seconds, 3), levels=levels.round(1).tolist())
 
     def tell_figures(self) -> None:
-        """Tells what the lock is doing, its carrier and clock, the chips that are kept, and what was lost."""
+        """Reports what the lock is doing, its carrier and clock, the chips that are kept, and what was lost."""
         lock = self.listening.lock
         waiting = self.backlog.bytes if self.backlog is not None else 0
         figures: dict[str, Any] = {

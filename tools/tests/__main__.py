@@ -67,7 +67,7 @@ def main(given: list[str] | None = None) -> int:
         type=whole_within(1, MOST_JOBS),
         default=min(os.cpu_count() or 1, MOST_JOBS),
         metavar="N",
-        help="classes of tests at once, else one a processor",
+        help="classes of tests at once (default: one per processor)",
     )
     options = arguments.parse_args(given)
     begun = time.monotonic()

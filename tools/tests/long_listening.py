@@ -7,10 +7,11 @@ tools/listen, so nothing of it is kept. Its carrier drifts by 1 Hz a second, the
 in each 100 seconds the signal fades for 0.6 seconds and 4,000 samples are lost. Lines are kept in a file, and compared
 when the recording is over; for an hour they take 70 MB, and the comparison 1 GB of memory.
 
-The printed line has the numbers of expected, missing and extra lines; how many of these lie outside fades and losses;
-the processor's seconds of tools/listen with all its runs of follow, and how many times faster than real time that is;
-and the peak memory of tools/listen without these runs. Exit status: 0 if everything missing was lost or faded, 1
-otherwise, 2 wrong arguments, 130 after Ctrl-C.
+The printed line has the numbers of expected, missing and extra lines, and how many of these lie outside fades and
+losses. Then it has the processor's seconds of tools/listen with all its runs of follow, how many times faster than real
+time that is, and the peak memory of tools/listen without these runs.
+
+Exit status: 0 if everything missing was lost or faded, 1 otherwise, 2 wrong arguments, 130 after Ctrl-C.
 """
 
 import argparse

@@ -91,8 +91,33 @@ PATTERNS = (
     pattern(r"^[Tt]o an? ", "subject, verb, object"),
     pattern(r"\b[Bb]ehind\b", "'after'"),
     pattern(r"\b[Ww]ant of\b", "'out of memory', 'lack of'"),
+    pattern(r"(?<![Tt]here )\b(?:is|are|was|were) no (?!longer\b|more\b|greater\b|less\b|later\b)[a-z]", "'is not a'"),
+    pattern(r"\b[Tt]ells?\b(?!.{1,40}\bapart\b)", "'says', 'gives', 'reports'"),
+    pattern(r"\b(?:hasn't|have not|has not) (?:the|an?|any|just|enough)\b", "'has no', 'does not have'"),
+    pattern(r"\bin place of\b", "'instead of'"),
+    pattern(r"\b[Bb]eside\b", "'next to', 'with', 'while .. ran'"),
+    pattern(r"\banew\b|\bonce more\b", "'again', 'another'"),
+    pattern(r"\b(?:not|n't) .*\bany more\b", "'no longer'"),
+    pattern(r"\b(?:goes|go|went) on\b(?! the air)", "'continues'"),
     pattern("\N{EM DASH}", "a comma, a colon or two sentences"),
 )
+# Words that are right in a page or a docstring, but not in an error, which says what is wrong.
+ERROR_PATTERNS = (
+    *PATTERNS,
+    pattern(r"\bthere (?:is|are) none\b", "what is missing"),
+    pattern(r"\b(?:is|are) (?:none|nothing)\b", "'is not a', 'is invalid'"),
+    pattern(r"\bnone of (?!them\b|these\b)", "'not one of'"),
+    pattern(r"\b[Hh]ears?\b|\bheard\b", "'receives', 'decodes'"),
+    pattern(r"\btold\b", "'given', 'reported'"),
+    pattern(r"\b[Ww]here (?:it|an?|the|there|no|one|each|nothing|something)\b", "'if'"),
+    pattern(r"^no (?:whole |plain )?(?:number|file|list|object|text|JSON|script)(?=[:,]|$| of\b| with\b)", "'not a'"),
+)
+# Functions and exceptions whose strings a user reads: errors and remarks.
+ERRORS = (
+    "Refused", "WrongArguments", "ArgumentTypeError", "Error", "Failed", "Missing", "NoFrame", "NoLine", "NoList",
+    "NoProgramError", "NoRecipe", "NoStep", "ParameterError", "Remark", "Skipped", "Stopped", "SystemExit", "Told",
+    "Wrong", "error", "refuse", "say", "wrong",
+)  # fmt: skip
 
 
 def sentences_of_block(place: str, line: int, text: str) -> Iterator[Sentence]:
@@ -159,6 +184,29 @@ def docstring_sentences(place: str, text: str) -> Iterator[Sentence]:
                     yield Sentence(place, line + it.line, it.text)
 
 
+def texts_in(node: ast.AST) -> Iterator[str]:
+    """Yields the strings in an expression, with code instead of the values in them."""
+    if isinstance(node, ast.JoinedStr):
+        yield "".join(str(part.value) if isinstance(part, ast.Constant) else CODE for part in node.values)
+    elif isinstance(node, ast.Constant) and isinstance(node.value, str):
+        yield node.value
+    else:
+        for part in ast.iter_child_nodes(node):
+            yield from texts_in(part)
+
+
+def error_sentences(place: str, text: str) -> Iterator[Sentence]:
+    """Yields the sentences of a module's errors, remarks and help texts: the strings given to ERRORS and to `help=`."""
+    for node in ast.walk(ast.parse(text)):
+        if not isinstance(node, ast.Call):
+            continue
+        name = node.func.attr if isinstance(node.func, ast.Attribute) else getattr(node.func, "id", "")
+        named = [it.value for it in node.keywords if name in ERRORS or it.arg == "help"]
+        for part in [*(node.args if name in ERRORS else []), *named]:
+            for found in texts_in(part):
+                yield from sentences_of_block(place, node.lineno, found)
+
+
 def help_sentences(place: str, parser: argparse.ArgumentParser) -> Iterator[Sentence]:
     """Yields the sentences of a command line's help: the description, the epilog, and the help of each argument."""
     yield from page_sentences(place, inspect.cleandoc(parser.description or "") + "\n\n" + (parser.epilog or ""))
@@ -170,21 +218,28 @@ def help_sentences(place: str, parser: argparse.ArgumentParser) -> Iterator[Sent
                 yield from help_sentences(f"{place} {name}", part)
 
 
+def read_place(place: str) -> str:
+    """Returns the text of a file of this checkout."""
+    with open(os.path.join(ROOT, place), encoding="utf-8") as file:
+        return file.read()
+
+
 def sentences_in(place: str) -> list[Sentence]:
     """Returns the sentences of a file of this checkout: a page, a manual page, or a module with its docstrings."""
-    with open(os.path.join(ROOT, place), encoding="utf-8") as file:
-        text = file.read()
+    text = read_place(place)
     if place.endswith(".md"):
         return list(page_sentences(place, text))
     return list(manual_sentences(place, text) if place.endswith(".1") else docstring_sentences(place, text))
 
 
-def faults(found: Iterable[Sentence], allowed: Iterable[Allowed], used: set[Allowed]) -> Iterator[str]:
+def faults(
+    found: Iterable[Sentence], allowed: Iterable[Allowed], used: set[Allowed], patterns: Iterable[Pattern] = PATTERNS
+) -> Iterator[str]:
     """Yields a line for each fault of these sentences; the exceptions that apply are added to `used`."""
     for sentence in found:
         if sentence.length > MOST_WORDS:
             yield f"{sentence.place}:{sentence.line}: {sentence.length} words: {sentence.text}"
-        for it in PATTERNS:
+        for it in patterns:
             if not it.found.search(sentence.text):
                 continue
             right = [one for one in allowed if one.place == sentence.place and one.text in sentence.text]

@@ -436,7 +436,7 @@ class Air:
         self.count += 1
 
     def lag(self, lock: StreamLock, seconds: float) -> float:
-        """Returns the greatest lag of a lock behind the air, in seconds, within `seconds` seconds."""
+        """Returns the greatest lag of a lock against real time, in seconds, within `seconds` seconds."""
         noise, most = random.Random(1).randbytes(2 * int(0.05 * RATE)), 0.0
         while lock.seconds < seconds:
             behind = self.now() - lock.seconds

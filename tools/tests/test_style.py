@@ -13,22 +13,26 @@ from unittest import mock
 import cdma_tools.commands
 from tools.tests.helping import ROOT, needs
 from tools.tests.prose import (
+    ERROR_PATTERNS,
     MOST_WORDS,
     PAGES,
     Allowed,
     Sentence,
     docstring_sentences,
+    error_sentences,
     faults,
     help_sentences,
     manual_sentences,
     page_sentences,
+    read_place,
     sentences_in,
 )
 
 needs("numpy", "scipy", "matplotlib", "plotly", "tqdm", "distributed", "markupsafe")
 
-# Folders whose docstrings are held.
-FOLDERS = ("cdma", "cdma_tools", "model")
+# Folders whose docstrings and errors are checked, and this file, which has the old sentences.
+FOLDERS = ("cdma", "cdma_tools", "conformance", "examples", "model", "tools/tests")
+THIS_FILE = os.path.relpath(__file__, ROOT)
 # Sentences in which a pattern is right. A test fails for an exception that is not needed.
 ALLOWED: tuple[Allowed, ...] = ()
 # Sentences that read as if translated word by word, as pages and docstrings had them; none may come back.
@@ -82,6 +86,19 @@ GONE = (
     "and however they get on",
     "Where each channel has the level that it had",
     "The first row of which something is so",
+    "a line of the program is none",
+    "a line that is none",
+    "a place that is none",
+    "begins no line",
+    "names no kind of",
+    "is no whole number",
+    "none is heard beside it",
+    "none that a listening wrote",
+    "is begun anew",
+    "another one takes its place",
+    "no step that is told differs",
+    "pass so, and",
+    "is wanted here alone",
 )
 PAGE = """\
 # A title
@@ -133,6 +150,16 @@ def texts(found: Iterable[Sentence]) -> list[str]:
     return [it.text for it in found]
 
 
+ERRORS = """\
+def take(path, options, words):
+    raise Refused(f"{path}: it has {len(options)} lines" + (f" after {path}" if path else ""))
+
+words.error("--rate needed. Give it")
+words.add_argument("--rate", help="samples a second", type=number)
+print("not an error")
+"""
+
+
 class Parts(unittest.TestCase):
     """How texts are divided into sentences, and which faults are found in them."""
 
@@ -151,17 +178,37 @@ class Parts(unittest.TestCase):
         self.assertEqual(sorted(texts(found)), ["A class.", "A second paragraph.", "Returns.", "Tells."])
         self.assertEqual([it.line for it in found if it.text == "A class."], [7])
 
+    def test_errors_and_help_texts(self) -> None:
+        found = list(error_sentences("p", ERRORS))
+        wanted = ["--rate needed.", "Give it", "samples a second", "after `x`", "`x`: it has `x` lines"]
+        self.assertEqual(sorted(texts(found)), sorted(wanted))
+        self.assertEqual({it.line for it in found}, {2, 4, 5})
+
+    def test_each_error_pattern_is_found(self) -> None:
+        for text in (
+            "there is none", "a line that is none", "`x` is none of 1, 2", "no frame is heard", "nothing was told",
+            "refused where it ends", "no whole number: `x`", "no list: `x`", "`x` is no number", "one cell more, anew",
+        ):  # fmt: skip
+            with self.subTest(text):
+                self.assertTrue(list(faults([Sentence("p", 1, text)], (), set(), ERROR_PATTERNS)))
+
+    def test_right_errors_are_not_found(self) -> None:
+        for text in ("no program at `x`", "there is no cell 3", "none of them with PILOT_PN 3", "`x` is not a number"):
+            with self.subTest(text):
+                self.assertEqual(list(faults([Sentence("p", 1, text)], (), set(), ERROR_PATTERNS)), [])
+
     def test_each_pattern_is_found(self) -> None:
         for text in (
             "from 1 to 3, else 1", "after so many bits", "the frames alone are sent", "what a run owes",
             "Of a cell nothing is known.", "To a reader it is plain.", "right behind the message", "for want of memory",
-            "one \N{EM DASH} two",
+            "one \N{EM DASH} two", "it is no file", "the header tells two", "it hasn't the form", "one in place of two",
+            "one beside two", "begun anew", "not needed any more", "the run goes on",
         ):  # fmt: skip
             with self.subTest(text):
                 self.assertEqual(len(list(faults([Sentence("p", 1, text)], (), set()))), 1)
 
     def test_what_is_right_is_not_found(self) -> None:
-        for text in ("or else", "somebody else's", "nothing else", "let alone two", "many", "a cell of a net", "owner"):
+        for text in ("or else", "somebody else's", "nothing else", "let alone two", "many", "a cell of a net", "owner", "to tell two apart", "there is no file", "it is no longer so", "it hasn't come"):
             with self.subTest(text):
                 self.assertEqual(list(faults([Sentence("p", 1, text)], (), set())), [])
 
@@ -221,6 +268,8 @@ class Style(unittest.TestCase):
             for place in modules_below(folder):
                 with self.subTest(place):
                     self.assertEqual(list(faults(sentences_in(place), ALLOWED, used)), [])
+                    errors = error_sentences(place, read_place(place))
+                    self.assertEqual(list(faults(errors, ALLOWED, used, ERROR_PATTERNS)), [])
         for command in pkgutil.iter_modules(cdma_tools.commands.__path__):
             with self.subTest(command.name):
                 found = help_sentences(command.name, parser_of(command.name))
@@ -230,8 +279,9 @@ class Style(unittest.TestCase):
     def test_old_sentences_are_gone(self) -> None:
         """From pages, and from everything in modules."""
         for place in [*PAGES, *(place for folder in FOLDERS for place in modules_below(folder))]:
-            with open(os.path.join(ROOT, place), encoding="utf-8") as file:
-                text = re.sub(r"[\s#]+", " ", file.read().replace("`", "")).casefold()
+            if place == THIS_FILE:
+                continue
+            text = re.sub(r"[\s#]+", " ", read_place(place).replace("`", "")).casefold()
             for sentence in GONE:
                 with self.subTest(place, sentence=sentence):
                     self.assertNotIn(sentence.casefold(), text)

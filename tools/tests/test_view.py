@@ -424,12 +424,12 @@ class TheServer(Server):
                 self.assertIn(told, said)
 
     def test_a_source_that_ends_the_command(self) -> None:
-        """With --exit the command ends with its source, with the source's status: here lines of which one is none."""
+        """With --exit the command ends with its source, with the source's status: here lines of which one is invalid."""
         broken = self.keep("broken.jsonl", FOLLOWED[0] + "\nnonsense\n")
         process, _ = self.start(broken, "--exit")
         _, said = process.communicate(timeout=SECONDS)
         self.assertEqual((process.returncode, said.count("\n")), (1, 1))
-        self.assertIn("line 2 is none", said)
+        self.assertIn("line 2 is invalid", said)
 
     def test_updates_a_second(self) -> None:
         """A page gets at most ten updates a second, whatever comes."""

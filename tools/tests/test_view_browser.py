@@ -229,7 +229,7 @@ class Lines(Watched):
         hostile = self.keep(name, "\n".join(FOLLOWED) + f"\npaging at=1 {MARKUP}\n")
         _, url = self.start(hostile)
         self.driver.get(url)
-        self.wait_text("state", "is none")
+        self.wait_text("state", "is invalid")
         self.assertEqual(self.text("name"), name)
         self.wait_text("lines", "bits=1024:8081")
         self.assertIn(MARKUP[:12], self.text("state"))
