@@ -1,4 +1,4 @@
-"""Listens to a recording of any length, or to the air as it comes, and writes a line for each event.
+"""Listens to a recording of any length, or to a live source, and writes a line for each event.
 
 SOURCE is a file of interleaved samples, in-phase part first, or - for standard input, with --type and --rate; a
 recording that has both: a .sigmf-meta, a SigMF archive (.sigmf) or a .wav of a radio program; or a live source:

@@ -18,8 +18,8 @@ link has one path that doesn't fade. "carrier" and "clock" are the errors of the
 
 --stream measures the lock that streams, over twelve seconds of each link and next to the lock of a file, and then
 tools/listen over a minute. "dB" is the pilot's share of all power in the chips of each, and "last" that of the last
-four seconds. "x air" is the number of seconds of the air that a second of the processor takes once the lock is there,
-"late" the greatest delay of a chip after its sample.
+four seconds. "x real time" is the number of seconds of samples that a second of the processor takes once the lock is
+there, "late" the greatest delay of a chip after its sample.
 
 --cells measures recordings of two and three busy cells instead of links of one. It prints for each cell what was sent,
 what an ideal receiver decodes of only that cell in the same noise and over the same paths, and what is decoded after

@@ -1,4 +1,4 @@
-"""Recordings of any length, and the air as it comes: from samples to lines, for as long as samples come.
+"""Recordings of any length, and live sources: from samples to lines, as long as samples arrive.
 
 | Module | Purpose |
 |---|---|

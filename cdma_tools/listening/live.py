@@ -1,4 +1,4 @@
-"""Listening to a stream that comes as the air does: to its end, or until an interrupt ends it in order."""
+"""Listening to a live stream: to its end, or until an interrupt ends it in order."""
 
 import contextlib
 import threading
@@ -22,7 +22,7 @@ from cdma_tools.starting import called
 
 @dataclass(frozen=True)
 class Stream:
-    """A source that comes as the air does."""
+    """A live source."""
 
     kind: str
     rate: Fraction

@@ -102,7 +102,7 @@ def bands_outward(bins: NDArray[numpy.int64]) -> list[NDArray[numpy.int64]]:
 
 
 class LiveSearch:
-    """The search in a live stream, which keeps up with the air: slices of the carriers, the nearest first, in turn.
+    """The search in a live stream, which keeps up with real time: slices of the carriers, the nearest first, in turn.
 
     A search ends after a round of all slices, or when it has taken `MOST_SEARCH` seconds; the next one continues with the
     next slice. What comes in the meantime is left out.

@@ -62,7 +62,7 @@ class LockOptions:
     search: float | None = None  # Hz to each side; None for those of the policy
     conjugate: str = "try"  # whether the spectrum is inverted: yes, no, try
     equaliser: str = "try"  # whether the base station sends through its phase equaliser
-    is_live: bool = False  # whether samples come as the air does, and a search has to keep up
+    is_live: bool = False  # whether samples arrive in real time, and a search must keep up
 
     @property
     def policy(self) -> SearchPolicy:

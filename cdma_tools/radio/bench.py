@@ -331,7 +331,7 @@ def print_times(bench: Bench) -> None:
             os.unlink(name)
 
 
-STREAM_HEAD = """| Case | Recording | Link | Sent | File | Stream | File dB | Stream dB | Last, file | Stream | x air | Late s | MB |
+STREAM_HEAD = """| Case | Recording | Link | Sent | File | Stream | File dB | Stream dB | Last, file | Stream | x real time | Late s | MB |
 |---|---|---|---|---|---|---|---|---|---|---|---|---|"""
 # Seconds of a recording; those at its end, when many fades have shown a stream its instants; and those of lines.
 STREAM_SECONDS, LAST_SECONDS, MINUTE = 12, 4, 60
@@ -395,7 +395,7 @@ def print_minute(bench: Bench) -> None:
     seconds = used.ru_utime + used.ru_stime
     print(
         f"- {MINUTE} s at 2.4 million samples a second to lines: {seconds:.1f} s of one processor,"
-        f" {MINUTE / seconds:.1f} times the air, status {ran.returncode}."
+        f" {MINUTE / seconds:.1f} times real time, status {ran.returncode}."
     )
 
 

@@ -197,15 +197,15 @@ def parser() -> argparse.ArgumentParser:
 def told(ran: Ran, lines: list[str], seconds: int) -> int:
     """Prints how a run went, and returns the exit status."""
     if not any(line.startswith("sync ") for line in lines):
-        print(f"status {ran.status}: no sync message was heard")
+        print(f"status {ran.status}: no sync message was received")
         return 1
     sent, count = Sent(script_of(SEED, PRAT, 0, PIECE)), seconds * CHIP_RATE
     result = compared(sent, lines, count)
     odd = unexplained(result, sent.lines(count))
     print(
-        f"status {ran.status}: owed {result.owed.total()}, missing {result.missing.total()}, too many"
-        f" {result.excess.total()}, of these unexplained {odd}, sorted {result.is_sorted}; {ran.seconds:.1f} s of a"
-        f" processor, {seconds / ran.seconds:.1f} times the air, {ran.megabytes:.0f} MB"
+        f"status {ran.status}: expected {result.owed.total()}, missing {result.missing.total()}, extra"
+        f" {result.excess.total()}, of these unexplained {odd}, in order {result.is_sorted}; {ran.seconds:.1f} s of a"
+        f" processor, {seconds / ran.seconds:.1f} times real time, {ran.megabytes:.0f} MB"
     )
     return int(ran.status != 0 or odd > 0 or not result.is_sorted)
 

@@ -21,7 +21,7 @@ class LongListeningTest(unittest.TestCase):
         with contextlib.redirect_stdout(wrote), contextlib.redirect_stderr(said):
             status = long_listening.main(["--seconds", str(long_listening.LEAST_SECONDS)])
         self.assertEqual(status, 0, wrote.getvalue() + said.getvalue())
-        found = re.search(r"owed (\d+), missing (\d+), .* unexplained 0, sorted True", wrote.getvalue())
+        found = re.search(r"expected (\d+), missing (\d+), .* unexplained 0, in order True", wrote.getvalue())
         assert found, wrote.getvalue()
         owed, missing = int(found[1]), int(found[2])
         self.assertGreater(owed, 50 * (long_listening.LEAST_SECONDS - 5))
