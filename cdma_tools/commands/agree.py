@@ -81,7 +81,7 @@ def text_differences(model: bytes, program: bytes) -> list[str]:
     if b"IS95" in (model[:4], program[:4]):
         pairs = enumerate(zip(model, program))
         place = next((at for at, (one, other) in pairs if one != other), min(len(model), len(program)))
-        return [f"{len(program)} bytes, by the model {len(model)}: other ones from byte {place} on"]
+        return [f"{len(program)} bytes, by the model {len(model)}: they differ from byte {place} on"]
     lines = zip(model.split(b"\n"), program.split(b"\n"))
     for at, (wanted, written) in enumerate(lines, 1):
         if wanted != written:

@@ -330,5 +330,5 @@ def main(arguments: list[str] | None = None) -> int:
     with contextlib.closing(link_of(options)) as link:
         made = write_all(options, link)
         said = truth(options, link)
-    print(f"{made.samples} samples, {made.cut} parts cut at full scale, {said}", file=sys.stderr)
+    print(f"{made.samples} samples, {made.cut} values clipped at full scale, {said}", file=sys.stderr)
     return 0

@@ -428,6 +428,6 @@ def main(arguments: list[str] | None = None) -> int:
         return run(options)
     except KeyboardInterrupt:
         pass_over_interrupts()
-        return broken_off("curve", "; the same command goes on from what was counted")
+        return broken_off("curve", "; the same command continues from what was counted")
     except MemoryError:
         raise Refused("out of memory: give the script fewer samples, or fewer --workers") from None

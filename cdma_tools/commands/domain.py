@@ -153,7 +153,7 @@ def wanted_of(options: argparse.Namespace) -> Wanted:
 
 def analysed(options: argparse.Namespace, lines: list[str]) -> Analysis:
     """Returns the requested analysis, with its steps on a bar; adds remarks about it to `lines`."""
-    program = program_or_hint(options.program, lines, "no row is told as a paging channel")
+    program = program_or_hint(options.program, lines, "no row is known as a paging channel")
     with bar(total=100, text="domain", unit="%") as shown, tempfile.TemporaryDirectory(prefix="domain-") as folder:
         done = 0
 

@@ -128,7 +128,7 @@ def cell_table(cell: HeardCell) -> Markup:
     locked = cell.locked
     paths = ", ".join(f"{way.delay:.2f} chips {way.level:.1f} dB" for way in locked.paths)
     rows: list[tuple[str, ...]] = [
-        ("PN offset", "no sync message was heard" if cell.pn is None else str(cell.pn)),
+        ("PN offset", "no sync message was decoded" if cell.pn is None else str(cell.pn)),
         ("Phase", f"{locked.phase:,} at the first chip"),
         ("Carrier", f"{locked.carrier_hz:.1f} Hz above the recording's middle"),
         ("Ec/Io", f"{cell.facts.ec_io_db:.2f} dB over {cell.facts.seconds:.3f} s"),
@@ -160,7 +160,7 @@ def neighbor_table(cells: list[HeardCell]) -> Markup:
     rows: list[tuple[str, ...]] = []
     for cell in cells:
         named_by = ", ".join(other.name for other in cells if cell.pn is not None and cell.pn in other.neighbors)
-        rows.append((cell.name, ", ".join(map(str, cell.neighbors)) or "no list was heard", named_by or "none"))
+        rows.append((cell.name, ", ".join(map(str, cell.neighbors)) or "no list was decoded", named_by or "none"))
     return table_of(Table(("Cell", "Names", "Is named by"), rows))
 
 
@@ -205,7 +205,7 @@ def map_plot(cells: list[HeardCell]) -> Plot | None:
             add_arrow(figure, places, pn, other, BLUE if other in heard else GREY)
     figure.update_xaxes(visible=False, range=[-1.4, 1.4])
     figure.update_yaxes(visible=False, range=[-1.3, 1.4], scaleanchor="x")
-    note = "An arrow goes from a cell to each that it names as a neighbor; cells that were heard are filled."
+    note = "An arrow goes from a cell to each that it names as a neighbor; received cells are filled."
     return Plot("map", "Neighbors of all cells", note, styled(figure, 420))
 
 

@@ -145,22 +145,22 @@ def problems(gathered: Gathered, measured: Measured) -> list[str]:
     if follow.status == BAD_FILE:
         said.append(f"The file is broken ({follow.said}): this page has what was read before that.")
         if measured.version == 0:
-            said.append("It is no sample file: for raw samples of a radio, --type and --rate are missing.")
+            said.append("It is not a sample file: for raw samples of a radio, --type and --rate are missing.")
     elif follow.status > NO_SYNC:
         said.append(f"follow ended with status {follow.status} ({follow.said}): this page has what was written before.")
     silent = [ran.words[0] for ran in gathered.runs if ran.status == 0 and not ran.lines]
     if silent:
         said.append(f"The program wrote nothing, and ended with status 0: {', '.join(silent)}.")
     if measured.ratio is None and "find" not in silent:
-        said.append("No pilot was looked for: there are fewer samples than the search takes.")
+        said.append("There was no search for a pilot: it takes more samples than there are.")
     elif measured.ratio is not None and not measured.stands_out:
         best, noise = (f"{decibels(ratio):.1f} dB" for ratio in (measured.ratio, measured.floor))
         said.append(f"No pilot stands out: the best phase has {best} of all power, and noise reaches {noise}.")
     if follow.status == NO_SYNC:
-        said.append("No sync message was heard that tells the long code's state, so no other channel was heard either.")
+        said.append("No sync message with the long code's state was decoded, so no other channel was decoded either.")
     strange = sum(line.read is None for ran in gathered.runs for line in ran.lines)
     if strange:
-        said.append(f"{strange} of the lines are none of the program's: they stand among the lines, and nowhere else.")
+        said.append(f"{strange} of the lines are not the program's: they are shown among the lines, and nowhere else.")
     return said
 
 
@@ -168,7 +168,7 @@ def state_of(gathered: Gathered, measured: Measured) -> Markup:
     """The head's word on whether all is well."""
     said = problems(gathered, measured)
     if not said:
-        return element("div", "All was read, and follow ended with status 0.", class_="state")
+        return element("div", "Everything was read, and follow ended with status 0.", class_="state")
     told = [element("strong", "Not all is well:"), element("ul", joined(element("li", one) for one in said))]
     return element("div", joined(told), class_="state bad", role="alert")
 
@@ -186,7 +186,7 @@ def kind_of(gathered: Gathered, measured: Measured) -> str:
     if gathered.imported:
         return f"recording, imported with {' '.join(gathered.imported.words)}"
     if not measured.version:
-        return "no sample file"
+        return "not a sample file"
     return f"sample file, version {measured.version}, {16 if measured.version == 1 else 8} bits a part"
 
 
@@ -282,7 +282,7 @@ def station_card(gathered: Gathered) -> Markup:
         system = found[1]
         rows.append(("Base station", str(system["base"])))
         rows += [("Latitude", degrees(system["lat"], 22, "NS")), ("Longitude", degrees(system["long"], 23, "EW"))]
-    return section("Base station", table_of(Table((), rows or [("", "none was heard")])), level="h3")
+    return section("Base station", table_of(Table((), rows or [("", "none was received")])), level="h3")
 
 
 def heard_card(run: Run) -> Markup:
@@ -354,7 +354,7 @@ def neighbor_section(
 
 def cell_told(cell: CellFacts) -> str:
     """Returns the description of a neighbor that was found as a cell of its own."""
-    return f"heard as cell {cell.rank}: {cell.ec_io_db:.2f} dB, {cell.delay_chips or 0.0:+.1f} chips"
+    return f"received as cell {cell.rank}: {cell.ec_io_db:.2f} dB, {cell.delay_chips or 0.0:+.1f} chips"
 
 
 def pilot_told(pilot: Surveyed | None, measured: Measured) -> str:
@@ -381,7 +381,7 @@ def notes_section(notes: dict[str, str]) -> Markup:
     if not notes:
         return Markup("")
     rows = [(name[:MOST_TEXT], value[:MOST_TEXT]) for name, value in notes.items()]
-    return section("What the recording says of itself", table_of(Table(("Name", "Value"), rows)), name="notes")
+    return section("What the recording says about itself", table_of(Table(("Name", "Value"), rows)), name="notes")
 
 
 def lines_section(gathered: Gathered) -> Markup:

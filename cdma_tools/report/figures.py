@@ -93,7 +93,7 @@ def correlation_plot(measured: Measured, phase: int) -> Plot | None:
         f"The first {span_text(measured)} against the pilot's code, at phase {phase} and {WINDOW} chips on each side:"
         " of only these samples, not the Ec/Io of the whole."
     )
-    return Plot("correlation", "Correlation round the best phase", note, styled(figure, 360))
+    return Plot("correlation", "Correlation around the best phase", note, styled(figure, 360))
 
 
 def constellation_plot(measured: Measured) -> Plot | None:

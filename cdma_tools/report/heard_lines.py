@@ -1,4 +1,4 @@
-"""What was received in a recording of any length, by the lines of a listening: as few of them as a page can hold.
+"""What was received in a recording of any length, by the lines of listen: as few of them as a page can hold.
 
 All lines are counted. Of frames, of repeated messages and of changed ones every second, every fourth, and so on is
 kept, as many as there is space for, each kind by itself; and so are the points of the power control's steps.

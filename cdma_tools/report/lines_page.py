@@ -22,7 +22,7 @@ def gathered_of(name: str, heard: HeardLines) -> Gathered:
 
 def lines_card(name: str, heard: HeardLines) -> Markup:
     """Returns the card on the lines."""
-    rows: list[tuple[str, ...]] = [("File", name), ("Kind", "lines of a listening"), ("Lines", f"{heard.number:,}")]
+    rows: list[tuple[str, ...]] = [("File", name), ("Kind", "lines of listen"), ("Lines", f"{heard.number:,}")]
     rows.append(("Length", f"{heard.end / CHIP_RATE:,.3f} s up to the last line"))
     return section("Recording", table_of(Table((), rows)), level="h3")
 

@@ -105,7 +105,7 @@ def megahertz(channel: int) -> str:
         told.append(f"{870 + 0.03 * (channel - 1_023):.2f} MHz at 800 MHz")
     if channel < 1_200:
         told.append(f"{1_930 + 0.05 * channel:.2f} MHz at 1.9 GHz")
-    return ", or ".join(told) or "no channel of the 800 MHz or the 1.9 GHz band"
+    return ", or ".join(told) or "not a channel of the 800 MHz or the 1.9 GHz band"
 
 
 def seconds_told(seconds: float) -> str:
@@ -155,7 +155,7 @@ def window(value: int) -> str:
 
 
 SYNC_MEANINGS: dict[str, Meaning] = {  # 7.7.1.3
-    "P_REV": alone(lambda value: REVISIONS.get(value, "no revision of IS-95")),
+    "P_REV": alone(lambda value: REVISIONS.get(value, "not a revision of IS-95")),
     "MIN_P_REV": alone(lambda value: f"a handset needs {REVISIONS.get(value, 'an unknown revision')}, or a later one"),
     "SID": alone(lambda value: "system"),
     "NID": alone(network),
@@ -171,7 +171,7 @@ SYNC_MEANINGS: dict[str, Meaning] = {  # 7.7.1.3
     "CDMA_FREQ": alone(megahertz),
 }
 SYSTEM_MEANINGS: dict[str, Meaning] = {  # 7.7.2.3.2.1
-    "CONFIG_MSG_SEQ": alone(lambda value: "goes on with each change of what the pages tell"),
+    "CONFIG_MSG_SEQ": alone(lambda value: "increases with each change of the pages' contents"),
     "REG_ZONE": alone(lambda value: "registration zone"),
     "TOTAL_ZONES": alone(lambda value: f"a handset keeps {value} zones" if value else "no registration by zones"),
     "ZONE_TIMER": alone(lambda value: f"{ZONE_MINUTES[value]} min until a zone is forgotten"),

@@ -158,7 +158,7 @@ class Recorded(Recordings):
             self.assertAlmostEqual(float(10 * numpy.log10(2 * numpy.mean(parts**2))), -15, delta=0.1)
         status, _, said = run_main("channel", "--type", "ci8", "--level", 0, self.cell, self.at("in.raw"))
         self.assertEqual(status, 0)
-        self.assertRegex(said, r"samples, [1-9]\d+ parts cut at full scale")
+        self.assertRegex(said, r"samples, [1-9]\d+ values clipped at full scale")
 
     def test_the_truth_stands_in_the_meta(self) -> None:
         path = self.recorded("--type", "ci8", "--rate", 2_400_000, "--carrier", 1_250_300, "--clock", -3.5, "--ec-io", -9, "--seed", 12)

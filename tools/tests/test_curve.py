@@ -255,7 +255,7 @@ class Broken(Curves):
         child = self.begun(words)
         child.send_signal(signal.SIGINT)
         _, said = child.communicate(timeout=SECONDS)
-        self.assertEqual(said, "curve: broken off; the same command goes on from what was counted\n")
+        self.assertEqual(said, "curve: broken off; the same command continues from what was counted\n")
         self.assertEqual(child.returncode, 130)
 
     def test_a_disk_that_is_full_keeps_what_was_counted(self) -> None:

@@ -327,7 +327,7 @@ class WrongInput(Folder):
         with open(self.at("page.html"), encoding="utf-8") as file:
             page = file.read()
         self.assertIn("The program wrote nothing, and ended with status 0: find, survey, follow.", page)
-        self.assertNotIn("No pilot was looked for", page)
+        self.assertNotIn("There was no search for a pilot", page)
 
     def test_raw_samples_without_a_type(self) -> None:
         program = self.program("bad", "echo bad file: magic at 0 >&2\nexit 3\n")
@@ -624,7 +624,7 @@ class Interrupts(Folder):
         """A curve that two workers count, both of them busy."""
         words = ["--program", self.fake_program("slow"), "--workers", "2", "--out", self.at("out"), *self.curve_words()]
         words += "--frames 100000 --errors 100000".split()  # so that it never ends by itself
-        self.broken_off("tools/curve", *words, said="goes on from what", marker=self.at("out/counts.sqlite"), waits=5)
+        self.broken_off("tools/curve", *words, said="continues from what", marker=self.at("out/counts.sqlite"), waits=5)
 
     def test_a_tool_that_computes(self) -> None:
         noise = self.keep("noise.ci8", struct.pack("b", 3) + os.urandom(8_000_000 - 1))

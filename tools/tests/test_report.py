@@ -93,7 +93,7 @@ class Meanings(unittest.TestCase):
                 self.assertTrue(row[1], (name, value))
 
     def test_channels(self) -> None:
-        wanted = {384: "881.52 MHz", 1_013: "869.70 MHz", 1_199: "1989.95 MHz", 25: "1931.25 MHz", 2_047: "no channel"}
+        wanted = {384: "881.52 MHz", 1_013: "869.70 MHz", 1_199: "1989.95 MHz", 25: "1931.25 MHz", 2_047: "not a channel"}
         for channel, told in wanted.items():
             self.assertIn(told, meaning.megahertz(channel))
 
@@ -299,7 +299,7 @@ class Pages(Folder):
             "frames 2400, 1 bad",
         ):
             self.assert_holds(page, text)
-        self.assert_holds(page, "All was read, and follow ended with status 0.")
+        self.assert_holds(page, "Everything was read, and follow ended with status 0.")
 
 
 class Hostile(Folder):
@@ -340,7 +340,7 @@ class BadInput(Folder):
         self.fake.tell("follow", ["pilot phase=77 energy=3000000000"], status=1, said="no sync message\n")
         page = self.page(status=1, file=self.keep("noise.is95", file_of(noise)))
         self.assert_holds(page, "No pilot stands out: the best phase has -")
-        self.assert_holds(page, "No sync message was heard")
+        self.assert_holds(page, "No sync message with the long code")
         self.assertEqual(list(self.plots(page)), ["correlation", "survey"])
         self.assertEqual(self.fake.words()[-1], "survey --base=77 --width=31")
 
@@ -365,7 +365,7 @@ class BadInput(Folder):
         """If the arguments of follow leave messages out, that is not a fault."""
         self.fake.tell("follow", [line for line in FOLLOWED if line.startswith("frame")])
         page = self.page("--messages", "0", "--pilots", "0")
-        self.assert_holds(page, "All was read")
+        self.assert_holds(page, "Everything was read")
         self.assertEqual(len(self.plots(page)), 5)
 
     def test_other_endings(self) -> None:
@@ -515,7 +515,7 @@ class WithTheProgram(Folder):
         page = self.page(status=1, file=os.path.join(ROOT, "examples", "pilot_in_noise.is95"))
         self.assert_holds(page, "follow")
         self.assertFalse("No pilot stands out" in page)
-        self.assert_holds(page, "No sync message was heard")
+        self.assert_holds(page, "No sync message with the long code")
 
 
 if __name__ == "__main__":

@@ -97,7 +97,7 @@ class ThePage(Browser):
         self.assertEqual(self.rows("system")["BASE_LONG"], ["6625769", "-122.419375°, 122° 25′ 9.75″ W"])
         self.assertEqual(list(self.rows("neighbors")), ["300", "168", "4"])
         self.assertEqual(list(self.rows("channels")), ["283", "25"])
-        self.assertIn("All was read", self.text(".state"))
+        self.assertIn("Everything was read", self.text(".state"))
 
     def test_the_pointer(self) -> None:
         """A box shows the line of the mark under the pointer, a click keeps it, and a drag zooms all panels."""

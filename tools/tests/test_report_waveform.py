@@ -164,7 +164,7 @@ class Cells(Recordings):
         self.assertEqual(len(re.findall("<th>rho</th>", page)), 1)
         neighbors = re.search(r'<section id="neighbors">.*?</section>', page, re.DOTALL)
         if neighbors and "<th>168</th>" in neighbors[0]:
-            self.assertIn("heard as cell 2", neighbors[0])
+            self.assertIn("received as cell 2", neighbors[0])
 
     def test_words(self) -> None:
         for why, words in (
