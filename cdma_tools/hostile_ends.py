@@ -4,6 +4,7 @@ the network could reach, and interrupts at random moments."""
 import contextlib
 import os
 import random
+import re
 import signal
 import subprocess
 import threading
@@ -14,7 +15,7 @@ from dataclasses import dataclass
 from cdma_tools.commands import FAILED, FAILED_AS
 from cdma_tools.lines import begins_line
 from cdma_tools.places import TOP
-from cdma_tools.starting import INTERRUPTED, called
+from cdma_tools.starting import COMMANDS, INTERRUPTED, called
 
 # Command lines with the names of a folder's files; OUT or PICTURE is the output.
 RAW = "--type ci8 --rate 2457600"
@@ -32,7 +33,16 @@ LINES = (
     f"scan {RAW} --search 600 input",
     "lines survey.txt",
     "listen --type ci8 --rate 1228800 --program /bin/true -",
+    "view --type ci8 --rate 1228800 --program /bin/true --no-browser --exit input",
+    "curve it.script --from 1 --to 1 --step 1 --frames 1 --program /bin/true --out curves",
+    "conformance /bin/true --only follow_zeros",
+    "agree --seed 1 --count 1 --print",
+    "margin it.script",
+    "script show it.script",
+    "adapt --command /bin/cat -- find",
+    "gate_times survey.txt",
 )
+LAUNCHERS = {module: launcher for module, launcher, _ in COMMANDS}
 INPUTS = ("input", "cell.is95", "survey.txt")
 SECONDS = 120  # in which a run has to end
 LONGEST = 2.5  # seconds after which a run is interrupted at most
@@ -49,6 +59,11 @@ class Ended:
 
     status: int
     said: str
+
+    @property
+    def is_before_python(self) -> bool:
+        """Whether an interrupt ended the interpreter in the milliseconds before it read a line of the tool."""
+        return re.search(r"^Python runtime state: (core initialized|preinitializ)", self.said, re.MULTILINE) is not None
 
     def fault(self, tool: str, statuses: set[int]) -> str:
         """Returns the fault of the end, empty if there is none."""
@@ -75,7 +90,7 @@ def started(words: list[str], folder: str) -> subprocess.Popen[bytes]:
 
 def launcher_of(tool: str) -> list[str]:
     """Returns the command of a tool in a checkout: its launcher catches an interrupt from its first line on."""
-    return [os.path.join(TOP, "tools", tool)]
+    return [os.path.join(TOP, LAUNCHERS[tool])]
 
 
 def hear_interrupts() -> None:
@@ -162,24 +177,42 @@ def read_some(run: subprocess.Popen[bytes], reader: int, most: int) -> None:
 
 def interrupted(folder: str, draw: random.Random) -> tuple[str, str]:
     """A run that is interrupted at a random moment."""
-    line = draw.choice(LINES)
-    output = os.path.join(folder, "output.png" if "PICTURE" in line else "output")
-    words, number = words_of(line, output), draw.choice([signal.SIGINT, signal.SIGTERM])
+    return interrupted_after(draw.choice(LINES), folder, draw, LONGEST * draw.random() ** 2)
+
+
+def interrupted_after(line: str, folder: str, draw: random.Random, wait: float) -> tuple[str, str]:
+    """A run that is interrupted after some seconds."""
+    words, number = words_of(line, written_by(line, folder)), draw.choice([signal.SIGINT, signal.SIGTERM])
     kept = state_of(output_of(folder))[0]
     run = started(words, folder)
-    wait = LONGEST * draw.random() ** 2
     with contextlib.suppress(subprocess.TimeoutExpired):
         run.wait(wait)
     run.send_signal(number)
     end = ended(run, closes_input=False)
-    fault = end.fault(words[0], {INTERRUPTED, -number})
+    fault = "" if end.is_before_python else end.fault(words[0], {INTERRUPTED, -number})
     if not fault and end.status == INTERRUPTED and end.said != f"{called(words[0])}: broken off\n":
         fault = f"not one line: {end.said!r}"
     if not fault and any(name.startswith(".part-") for name in os.listdir(folder)):
         fault = "a file is left half written"
-    if not fault and end.status == INTERRUPTED and words[0] != "listen" and state_of(output_of(folder))[0] != kept:
+    if not fault and end.status == INTERRUPTED and state_of(output_of(folder))[0] != kept:
         fault = "" if is_whole(line, folder) else "an output is left half written"
     return f"{' '.join(words)}, {number.name} after {wait:.3f} s", fault
+
+
+def written_by(line: str, folder: str) -> str:
+    """Returns the output of a command line: a file that is there, but none that a listening would refuse."""
+    name = "output.png" if "PICTURE" in line else "heard.txt" if line.startswith("listen") else "output"
+    return os.path.join(folder, name)
+
+
+def lasting(line: str, folder: str) -> float:
+    """Returns the seconds that a run of a command line takes; one whose input stays open ends after `LONGEST`."""
+    began = time.monotonic()
+    run = started(words_of(line, os.path.join(folder, "again.png")), folder)
+    with contextlib.suppress(subprocess.TimeoutExpired):
+        run.wait(LONGEST)
+    ended(run)
+    return time.monotonic() - began
 
 
 def output_of(folder: str) -> str:

@@ -6,6 +6,7 @@ exception here. Each is drawn from a seed and a number, so a reported fault can 
 
 import contextlib
 import io
+import itertools
 import json
 import os
 import random
@@ -22,12 +23,14 @@ from unittest import mock
 
 from cdma_tools import hostile_ends
 from cdma_tools.commands import scan, status_of
+from cdma_tools.commands.make_capture import I_LAGS, Q_LAGS, signs
 from cdma_tools.sample_header import HEADER, header
 
 # Names for a file that is read, most of which exist.
 INPUTS = ["input", "input", "cell.is95", "cell.is95", "input.sigmf-meta", "survey.txt", "it.script", "none", ""]
 SECONDS, MOST_WAIT = 60, 600  # of a processor, and in all, in which each run has to end
 MOST_CARRIERS = 1_000  # that a scan may search here: more would take half a minute
+PILOT_CHIPS, PILOT_LEVEL = 70_000, 60  # of the pilot in a room for interrupts
 ENDS_ONE_IN = 3  # runs of which one is a process whose end is looked at
 MORE_ARGUMENTS = (0, 0, 1, 1, 2, 6)  # than those that a run needs
 NUMBERS = [
@@ -365,24 +368,56 @@ def run(tool: str, words: list[str], data: bytes) -> tuple[int, str]:
     return status, f"{fault}: status {status}, {text[:300]!r}" if fault else ""
 
 
+@contextlib.contextmanager
+def room_within(folder: str, name: str, draw: random.Random, script: bytes) -> Iterator[Room]:
+    """A folder with the files of a run, which is the current one as long as the run lasts."""
+    place, before = os.path.join(folder, name), os.getcwd()
+    os.mkdir(place)
+    try:
+        os.chdir(place)
+        yield Room(place, draw, script)
+    finally:
+        os.chdir(before)
+        shutil.rmtree(place, ignore_errors=True)
+
+
 def case(folder: str, script: bytes, seed: int, number: int) -> Ran:
     """The run of a number."""
     draw = random.Random(f"tools/{seed}/{number}")
     tool = draw.choice(sorted(OPTIONS))
-    place = os.path.join(folder, str(number))
-    os.mkdir(place)
-    before = os.getcwd()
-    try:
-        os.chdir(place)
-        room = Room(place, draw, script)
+    with room_within(folder, str(number), draw, script) as room:
         if draw.randrange(ENDS_ONE_IN) == 0:
-            kind, line, fault = hostile_ends.case(place, draw)
+            kind, line, fault = hostile_ends.case(room.folder, draw)
             return Ran(f"end {kind}", 0, f"run {number} of seed {seed}: {line}: {fault}" if fault else "")
         words = drawn_arguments(tool, room)
         status, fault = run(tool, words, some_bytes(draw))
         fault = fault or room.fault(tool, status)
-    finally:
-        os.chdir(before)
-        shutil.rmtree(place, ignore_errors=True)
     told = f"run {number} of seed {seed}: {tool} {' '.join(map(repr, words))}: {fault}" if fault else ""
     return Ran(tool, status, told)
+
+
+def pilot_parts(chips: int) -> list[int]:
+    """The parts, I and Q in turn, of a pilot's first chips."""
+    both = zip(itertools.cycle(signs(I_LAGS)), itertools.cycle(signs(Q_LAGS)))
+    return [PILOT_LEVEL * sign for pair in itertools.islice(both, chips) for sign in pair]
+
+
+def interrupts_of(folder: str, script: bytes, seed: int, moments: int, number: int) -> list[Ran]:
+    """The runs of a command line of `hostile_ends`, each interrupted in another part of the time that it takes.
+
+    All files are whole, and there is a pilot in the sample file and in the recording.
+    """
+    line, lasts, found = hostile_ends.LINES[number], 0.0, []
+    parts = pilot_parts(PILOT_CHIPS)
+    for moment in range(moments):
+        draw = random.Random(f"interrupts/{seed}/{number}/{moment}")
+        with room_within(folder, f"{number}-{moment}", draw, script) as room:
+            room.put("cell.is95", header(1, 0, PILOT_CHIPS) + struct.pack(f">{len(parts)}h", *parts))
+            room.put("input", b"".join(2 * struct.pack("2b", *parts[at : at + 2]) for at in range(0, len(parts), 2)))
+            room.put("it.script", script)
+            lasts = lasts or hostile_ends.lasting(line, room.folder)
+            wait = lasts * (moment + draw.random()) / moments
+            told, fault = hostile_ends.interrupted_after(line, room.folder, draw, wait)
+        told = f"moment {moment} of seed {seed}: {told}: {fault}" if fault else ""
+        found.append(Ran(f"interrupted {line.split()[0]}", 0, told))
+    return found

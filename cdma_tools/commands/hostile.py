@@ -9,16 +9,19 @@ crates/cdma_replay && rt run -- find < ../../examples/pilot_in_noise.is95)`.
     tools/hostile --count 1000
     tools/hostile --tools --count 10000
     tools/hostile --tools --seconds 60 --seed "$RANDOM"
+    tools/hostile --tools --interrupts 50
 
 --tools tries the tools instead of the program. Each run is a tool with random arguments, metadata and bytes. It must
 end within 60 processor seconds with a status that the tool's --help names, without a traceback, with one line that
 gives the reason if the status isn't 0, and with nothing half written. Every third run is a process: its output is its
 input, a file that no listening wrote, a FIFO or a device; or it is interrupted at a random moment; or it shares its
-work, and may listen on loopback addresses only. `tools/starve` makes each allocation fail.
+work, and may listen on loopback addresses only. --interrupts takes each tool in turn, and interrupts its run at moments
+that are spread over the time that it takes. `tools/starve` makes each allocation fail.
 
 Exit status: 0 no fault, 1 some, 2 wrong arguments.
 """
 
+import argparse
 import os
 import random
 import re
@@ -30,15 +33,16 @@ from collections.abc import Callable, Iterator
 from concurrent.futures import ThreadPoolExecutor
 from functools import partial
 
-from cdma_tools import hostile_tools
+from cdma_tools import hostile_ends, hostile_tools
 from cdma_tools.arguments import Parser, count_of, whole_within
 from cdma_tools.errors import Refused
+from cdma_tools.hostile_tools import Ran
 from cdma_tools.places import EXAMPLES
 from cdma_tools.program import add_program_option, find_program
 from cdma_tools.sample_header import HEADER, header
 from cdma_tools.workers import mapped
 
-MOST_SHOWN, MOST_SECONDS = 20, 1_000_000
+MOST_SHOWN, MOST_SECONDS, MOST_MOMENTS = 20, 1_000_000, 10_000
 LINES = {
     0: r"",
     1: r"no sync message\n",
@@ -193,6 +197,8 @@ def parser() -> Parser:
     arguments.add_argument("--tools", action="store_true", help="try the tools instead of the program")
     seconds = "with --tools: begin no run after S seconds, instead of --count"
     arguments.add_argument("--seconds", type=whole_within(1, MOST_SECONDS), metavar="S", help=seconds)
+    moments = "with --tools: interrupt a run of each tool at N moments, instead of --count"
+    arguments.add_argument("--interrupts", type=whole_within(1, MOST_MOMENTS), metavar="N", help=moments)
     add_program_option(arguments)
     return arguments
 
@@ -217,28 +223,44 @@ def rounds_of(count: int, seconds: int | None, jobs: int) -> Iterator[range]:
         first += jobs
 
 
-def runs_of_tools(count: int, seconds: int | None, seed: int) -> tuple[list[str], Counter[tuple[str, int]]]:
-    """Returns the faults of `count` runs of tools, or of as many as some seconds allow, and how they ended."""
+def runs_of_tools(options: argparse.Namespace) -> tuple[list[str], Counter[tuple[str, int]]]:
+    """Returns the faults of the runs of tools that the options ask for, and how many runs ended in which way."""
     statuses: Counter[tuple[str, int]] = Counter()
-    faults, jobs = [], os.cpu_count() or 1
+    faults: list[str] = []
     with open(os.path.join(EXAMPLES, "frames_9600.script"), "rb") as file:
         script = file.read()
     with tempfile.TemporaryDirectory(prefix="hostile-") as folder:
-        for numbers in rounds_of(count, seconds, 4 * jobs):
-            for ran in mapped(partial(hostile_tools.case, folder, script, seed), numbers, jobs):
-                statuses[ran.command, ran.status] += 1
-                faults += [ran.fault] if ran.fault else []
+        runs = interrupted_runs if options.interrupts else drawn_runs
+        for ran in runs(folder, script, options):
+            statuses[ran.command, ran.status] += 1
+            faults += [ran.fault] if ran.fault else []
     return faults, statuses
+
+
+def drawn_runs(folder: str, script: bytes, options: argparse.Namespace) -> Iterator[Ran]:
+    """Yields `--count` random runs, or as many as `--seconds` allow."""
+    jobs = os.cpu_count() or 1
+    for numbers in rounds_of(options.count or 1_000, options.seconds, 4 * jobs):
+        yield from mapped(partial(hostile_tools.case, folder, script, options.seed), numbers, jobs)
+
+
+def interrupted_runs(folder: str, script: bytes, options: argparse.Namespace) -> Iterator[Ran]:
+    """Yields the runs of all tools that are interrupted, each tool by a process."""
+    runs_of = partial(hostile_tools.interrupts_of, folder, script, options.seed, options.interrupts)
+    for runs in mapped(runs_of, range(len(hostile_ends.LINES)), os.cpu_count() or 1):
+        yield from runs
 
 
 def main(arguments: list[str] | None = None) -> int:
     """Runs the tool, and returns its exit status."""
     words = parser()
     options = words.parse_args(arguments)
-    if options.seconds and (options.count or not options.tools):
-        words.error("--seconds goes with --tools, instead of --count")
+    if (options.seconds or options.interrupts) and not options.tools:
+        words.error("--seconds and --interrupts go with --tools")
+    if sum(1 for given in (options.count, options.seconds, options.interrupts) if given) > 1:
+        words.error("--count, --seconds and --interrupts exclude each other")
     if options.tools:
-        faults, statuses = runs_of_tools(options.count or 1_000, options.seconds, options.seed)
+        faults, statuses = runs_of_tools(options)
         count, kind = statuses.total(), f"runs of tools, seed {options.seed}"
     else:
         count, kind = options.count or 100_000, "damaged inputs"

@@ -5,6 +5,7 @@ import random
 import unittest
 import unittest.mock
 from collections.abc import Callable
+from typing import Any
 
 from tools.tests.helping import needs, run_tool, temporary_folder
 
@@ -12,7 +13,8 @@ needs("numpy", "scipy", "matplotlib", "distributed")
 
 from cdma_tools import hostile_ends
 from cdma_tools.hostile_ends import KINDS, growing_file, interrupted, pipes_and_devices, same_file, sockets
-from cdma_tools.hostile_tools import Room
+from cdma_tools.hostile_tools import Room, interrupts_of
+from cdma_tools.starting import COMMANDS
 
 Kind = Callable[[str, random.Random], tuple[str, str]]
 
@@ -52,6 +54,9 @@ class Ends(unittest.TestCase):
         for kind in (same_file, growing_file, pipes_and_devices, interrupted):
             self.assertIn("a traceback or a warning", self.fault(kind, 1, said), kind.__name__)
             self.assertIn("status 77", self.fault(kind, 1, "exit 77"), kind.__name__)
+        state = "echo 'Python runtime state: {}' >&2; echo Traceback >&2; exit 1"
+        self.assertEqual(self.fault(interrupted, 1, state.format("core initialized")), "")
+        self.assertIn("a traceback", self.fault(interrupted, 1, state.format("initialized")))
         lost = "echo lost > same.png; echo same.png >&2; exit 1"
         self.assertRegex(self.fault(same_file, 1, lost), "an input was changed|not refused")
         self.assertIn("not refused", self.fault(same_file, 1, "exit 0"))
@@ -63,8 +68,29 @@ class Ends(unittest.TestCase):
         status, wrote, said = run_tool("hostile", "--tools", "--seconds", 1, "--seed", 5)
         self.assertEqual((status, said), (0, ""), wrote)
         self.assertRegex(wrote.decode(), r"\n\d+ runs of tools, seed 5, 0 faults\n$")
-        for words in (["--seconds", "1"], ["--tools", "--seconds", "1", "--count", "1"]):
+        for words in (
+            ["--seconds", "1"], ["--interrupts", "1"], ["--tools", "--seconds", "1", "--count", "1"],
+            ["--tools", "--seconds", "1", "--interrupts", "1"],
+        ):  # fmt: skip
             self.assertEqual(run_tool("hostile", *words)[0], 2)
+
+    def test_each_line_is_interrupted(self) -> None:
+        """Each part of the time that a run takes has a moment, and each tool that an analyst runs has a line."""
+        waited: list[float] = []
+
+        def interrupted_after(line: str, *given: Any) -> tuple[str, str]:
+            waited.append(given[-1])
+            return line, "wrong" if len(waited) == 3 else ""
+
+        with (
+            unittest.mock.patch.object(hostile_ends, "lasting", lambda *_: 5.0),
+            unittest.mock.patch.object(hostile_ends, "interrupted_after", interrupted_after),
+        ):
+            ran = interrupts_of(temporary_folder(self.addCleanup), b"cell\n", 1, 5, 0)
+        self.assertEqual([int(wait) for wait in waited], [0, 1, 2, 3, 4])
+        self.assertEqual([bool(one.fault) for one in ran], [False, False, True, False, False])
+        tools = {line.split()[0] for line in hostile_ends.LINES}
+        self.assertEqual({module for module, _, name in COMMANDS if name} - tools, set())
 
 
 if __name__ == "__main__":
