@@ -1,6 +1,6 @@
 """`listen` as a service: it continues, ends in order, has its file moved away, and uses no more memory with time.
 
-CDMA_LISTEN_KILLS sets how often it is killed while it listens to a recording (default 4).
+CDMA_LISTEN_KILLS sets how often it is killed while it listens to a recording (default 20).
 """
 
 from __future__ import annotations
@@ -51,7 +51,7 @@ from cdma_tools.radio.search_policy import MOST_SEARCH
 
 # The place of the recording's pilot: the first slice of a live search finds it, however busy the machine is.
 NEAR = ["--shift", "3000", "--conjugate", "no"]
-KILLS = int(os.environ.get("CDMA_LISTEN_KILLS", "4"))
+KILLS = int(os.environ.get("CDMA_LISTEN_KILLS", "20"))
 HOURS, PIECE_SECONDS = 24, 4
 PERIOD, RATE = 32_768, 1_228_800.0
 SECONDS = 300.0  # that anything takes at most, on a machine that is busy with other things
@@ -87,7 +87,7 @@ def read(path: str) -> bytes:
 class StreamTest(test_listen.OneRecording):
     """A stream of the first seconds of a recording, as a process receives it."""
 
-    parted, seconds = True, 8
+    parted, seconds = True, 40
 
     def setUp(self) -> None:
         self.out = os.path.join(temporary_folder(self.addCleanup), "out.txt")
@@ -449,7 +449,7 @@ class Air:
 class NoiseTest(unittest.TestCase):
     """A live stream in which no pilot stands out: the search keeps up with it, however long it takes."""
 
-    seconds = 6
+    seconds = 20
 
     def live(self, search: float) -> StreamLock:
         """Returns the lock of a live stream, whose carrier is searched this many Hz to each side."""
