@@ -14,7 +14,7 @@ from cdma.parameters import HexNumber, Number, option_words
 from cdma.running import Running, lines_of
 
 SPAN = 2_048
-GOOD = (0, 1)  # statuses of `follow`: 1 says that no sync message was heard
+GOOD = (0, 1)  # statuses of `follow`: 1 means that no sync message was received
 ENDED = -1  # stands for the status of a run that has a fault
 
 

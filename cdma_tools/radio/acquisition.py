@@ -38,7 +38,7 @@ PULSE = 3.0
 BATCH, MOST_BINS = 16, 256
 # Processors that share the transforms of a stretch.
 WORKERS = min(4, len(os.sched_getaffinity(0)))
-# Squares of four cells that noise alone lets be looked at closely, and the most that are.
+# Squares of four cells that pure noise lets pass to a close look, and the most that get one.
 FEW, MOST_SQUARES = 32, 64
 # The finer carrier: chips of a sum, and bins of its transform; the span is one step of the search and a half more.
 FINE_CHIPS, FINE_BINS, FINE_SPAN = 64, 4_096, 1.5 * STEP * BIN

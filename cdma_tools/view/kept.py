@@ -24,7 +24,7 @@ from cdma_tools.view.steps import MarkTold
 MOST_LINES, MOST_SPECTRA, MOST_REMARKS, MOST_POINTS = 5_000, 150, 200, 600
 # Sync messages whose time is kept: more than the 27 seconds of chips have.
 MOST_MARKS = 400
-# Messages that tell who the base station is, by their lines' words, and the names of their tables.
+# Messages that identify the base station, by their lines' words, and the names of their tables.
 IDENTITY = {("sync", None): "Sync message", ("paging", "system"): "System Parameters"}
 # Figures that are shown over time.
 FIGURES = ("ec_io_db", "carrier_hz", "clock_ppm", "rho")
@@ -138,7 +138,7 @@ class Kept:
         self.pilot: int | None = None  # PILOT_PN of the last sync message
         self.has_pages = False
         self.marks: deque[MarkTold] = deque(maxlen=MOST_MARKS)  # by the chips of lines
-        self.row: int | None = None  # of the traffic channel, as the last pilot sets tell it
+        self.row: int | None = None  # of the traffic channel, by the last pilot sets
 
     def take(self, data: bytes) -> None:
         """Takes a message of the listening: a line, or another one."""

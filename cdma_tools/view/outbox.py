@@ -15,7 +15,7 @@ from typing import Any
 MOST_LINES, MOST_OTHERS = 100_000, 64
 # Bytes that are written at once, and seconds after which it is looked whether the server is still there.
 PIECE_BYTES, LOOK_AGAIN = 1 << 16, 1.0
-# How a message begins that is no line of the listening.
+# The beginning of a message that is not a decoded line.
 MARK = b'{"view":'
 
 

@@ -53,7 +53,7 @@ class Hub:
     def __init__(self, name: str, store: ChipStore, handset: Handset, row: int | None) -> None:
         """No browser watches yet of the source of a name; the traffic channel begins on a row."""
         self.kept, self.store, self.handset, self.row = Kept(name), store, handset, row
-        self.number = secrets.token_hex(8)  # of this run, by which a page knows a new one
+        self.number = secrets.token_hex(8)  # of this run, so that a page recognizes a new one
         self.viewers: set[Viewer] = set()
         self.worker, self.explainer = ThreadPoolExecutor(max_workers=1), ThreadPoolExecutor(max_workers=1)
         self.measured = Extent(0, 0)  # chips that were measured last

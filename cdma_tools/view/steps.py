@@ -19,7 +19,7 @@ from model.files import Capture
 from model.handset import Assigned, Mark
 from model.search import Found
 
-# Chips before a frame in which the messages begin that go on in it, and those after it by which it is decoded.
+# Chips before a frame in which its messages may begin, and those after it that decode it.
 BEFORE, AFTER = 10 * FRAME, 2 * FRAME
 # Chips before the mark that a window has, so that paths that come early lie in it.
 MARGIN = 1_024
