@@ -1,15 +1,15 @@
-"""Shows in the browser what a listening hears, while the air comes in.
+"""Shows in the browser what a radio or a recording contains, while `listen` decodes it.
 
 SOURCE is one of `listen`: a file of samples, a .sigmf-meta, .sigmf or .wav, - for standard input, or the address of a
-live source (rtl_tcp://, tcp://, udp://, zmq://, soapy:); or a file of lines that a listening wrote, which has no
-samples. A file of samples is played as the air sent it, or --speed times as fast.
+live source (rtl_tcp://, tcp://, udp://, zmq://, soapy:); or a file of lines that `listen` wrote, which has no
+samples. A file of samples is played in real time, or --speed times as fast.
 
 The page's address is printed, and a browser is opened with it. The page shows the spectrum and its waterfall, the
 pilot, the code domain, the symbols of the pilot, sync and paging channels, figures over time, cells by PN, the base
 station, and each message and frame. A click on a line shows its fields. It can be paused, and saves the lines so far, a
 report of them, and the last 27 seconds as a sample file. It needs no network, and several browsers may show it.
 
-The listening has a process of its own, and doesn't wait for a browser: a page gets at most ten updates a second, and
+`listen` runs in its own process, and doesn't wait for a browser: a page gets at most ten updates a second, and
 says how many lines and spectra it missed if it is too slow.
 
     tools/view radio.sigmf-meta
@@ -21,7 +21,7 @@ The server is bound to 127.0.0.1. With --listen ADDRESS others can reach it too,
 its path is a secret, which is new each time.
 
 If the source ends or fails, one line says so, and the page keeps what it has until Ctrl-C; with --exit the command ends
-with the source. Ctrl-C or SIGTERM first ends the listening in order, as with `listen`; a second one breaks it off.
+with the source. Ctrl-C or SIGTERM first ends it in order, as with `listen`; a second one ends it at once.
 
 Exit status: 0 a pilot was found, or lines were read, 1 no pilot was found, the source can't be read or the port is
 taken, 2 wrong arguments.
