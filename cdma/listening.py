@@ -85,7 +85,7 @@ class Mailbox:
 
 
 class EventWriter(LineWriter):
-    """A listener that puts events into a mailbox, in place of lines into a file."""
+    """A listener that puts events into a mailbox, not lines into a file."""
 
     def __init__(self, box: Mailbox, most: dict[str, int]) -> None:
         """Puts at most the given number of events of each kind."""
@@ -343,7 +343,7 @@ def listen(
         options = parsed(parser, [*words_of(given), f"--program={program}", "--", path])
         command.check(parser, options)
         if is_path and path == STANDARD:
-            raise ParameterError("source", "give an open file such as sys.stdin.buffer in place of -")
+            raise ParameterError("source", "give an open file such as sys.stdin.buffer instead of -")
         with as_errors():
             box = Mailbox()
             hear = hearing_of(box, source, options)

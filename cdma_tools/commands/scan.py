@@ -191,7 +191,7 @@ def centres_of(options: argparse.Namespace, rate: float, policy: SearchPolicy) -
     centres = everywhere(rate, policy.span) if options.all else raster(rate, step)
     carriers = max(len(bins_within(step.span, step.beyond)) * len(step.spectra) for step in policy.steps_apart())
     if carriers * len(centres) > MOST_CARRIERS:
-        advice = "--step in place of --all" if options.all else "a lesser --search, or a greater --step"
+        advice = "--step instead of --all" if options.all else "a lesser --search, or a greater --step"
         raise Refused(f"more than {MOST_CARRIERS:,} carriers around {len(centres):,} centre frequencies: give {advice}")
     return centres
 

@@ -61,7 +61,7 @@ class Peers(unittest.TestCase):
     def test_another_result_is_refused(self) -> None:
         library = libraries.DECODERS[0]
         work = measuring.checked(library, there(library, self.folder), inputs.sent().text(), "0101")
-        with self.assertRaisesRegex(Refused, "libfec finds another result: [01]{60} in place of 0101"):
+        with self.assertRaisesRegex(Refused, "libfec finds another result: [01]{60} instead of 0101"):
             work()
 
     def test_what_is_not_there_is_told(self) -> None:

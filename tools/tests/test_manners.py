@@ -306,7 +306,7 @@ class WrongInput(Folder):
         for why, *words in (
             ("more than 100000 centre frequencies", "--all", "--search", "1"),
             ("more than 2,000,000 carriers around 98,771 centre frequencies", "--step", "1000", "--search", "614400"),
-            (".*: give --step in place of --all", "--rate", "9e8", "--all", "--search", "9e3", "--conjugate", "try"),
+            (".*: give --step instead of --all", "--rate", "9e8", "--all", "--search", "9e3", "--conjugate", "try"),
         ):
             self.refused(1, why, *wide, *words)
 

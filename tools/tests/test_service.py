@@ -478,7 +478,7 @@ class NoiseTest(unittest.TestCase):
     def test_what_is_lost_is_counted_and_said(self) -> None:
         """Samples that come too fast are left out of the backlog, and each remark and the end has their number."""
         noise, errors = random.Random(1).randbytes(200_000), io.StringIO()
-        skipped = Skipped(4_321, "the lock fell behind a radio"), Skipped(679, "a radio was away")
+        skipped = Skipped(4_321, "the lock couldn't keep up with a radio"), Skipped(679, "a radio was unreachable")
         items: list[Item | None] = [noise, skipped[0], noise, skipped[1], noise, None]
 
         class Radio:
@@ -495,8 +495,8 @@ class NoiseTest(unittest.TestCase):
             is_heard = hear_stream(stream, lock, Handset("/no/program"), writer, output)
         self.assertFalse(is_heard)
         told = errors.getvalue().splitlines()
-        self.assertIn("4321 samples are missing: the lock fell behind a radio", told[0])
-        self.assertIn("679 samples are missing: a radio was away", told[1])
+        self.assertIn("4321 samples are missing: the lock couldn't keep up with a radio", told[0])
+        self.assertIn("679 samples are missing: a radio was unreachable", told[1])
         self.assertEqual(told[-1], "listen: stopped after 0.2 s: 0 lines were written, 5,000 samples were lost")
 
     def test_all_slices_are_searched_in_turn(self) -> None:
