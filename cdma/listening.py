@@ -23,13 +23,14 @@ from cdma_tools.errors import Refused, text_of
 from cdma_tools.listening import events as heard
 from cdma_tools.listening.follow_run import Handset
 from cdma_tools.listening.line_writer import LineWriter
-from cdma_tools.listening.live import LiveListening, Stream
+from cdma_tools.listening.live import LiveListening
 from cdma_tools.listening.parts import Joiner, Recording, parts_of
 from cdma_tools.listening.sharing import Alone, joined_parts
-from cdma_tools.listening.sources import LOOK_AGAIN, PIECE_BYTES, Backlog, Item
 from cdma_tools.listening.stream_lock import LockOptions
 from cdma_tools.overwriting import STANDARD
 from cdma_tools.radio.search_policy import policy_of
+from cdma_tools.sources.backlog import LOOK_AGAIN, PIECE_BYTES, Backlog, Item
+from cdma_tools.sources.live import Stream
 
 MOST_WAITING = 1_000  # events that wait for whoever iterates
 MOST_REMARKS = 1_000  # that are kept, the last ones

@@ -20,8 +20,9 @@ from cdma_tools.analysis import importing
 from cdma_tools.analysis.cell_table import CellFacts, table_of_cells
 from cdma_tools.analysis.cells import Search
 from cdma_tools.commands import import_capture
+from cdma_tools.errors import Refused
 from cdma_tools.radio import locking
-from cdma_tools.radio.plain import assumed, recording_told, with_hints
+from cdma_tools.sources.taking import take
 
 RecordingSource = Recording | NDArray[Any] | str | os.PathLike[str]  # an array of complex numbers, or a path
 
@@ -174,19 +175,21 @@ def lock(
 
 def locked(options: Any, source: object) -> Lock:
     """Returns the lock that the tool's options ask for."""
-    kind, rate, path = recording_told(options)
-    hints = assumed(options, kind, path)
-    asked = import_capture.lock_options(options, kind, rate)
+    recording = take(options.recording, options)
+    path, asked = recording.path, import_capture.lock_options(options, recording)
     held: list[locking.Held] = []
-    with with_hints(hints), tempfile.TemporaryFile() as file:
-        if options.pn is not None or (options.cell or 1) > 1:
-            found, said = taken(path, asked, options, file)
-        else:
-            found, said = locking.lock(path, asked, file, look=lambda one, _: held.append(one)), []
+    with tempfile.TemporaryFile() as file:
+        try:
+            if options.pn is not None or (options.cell or 1) > 1:
+                found, said = taken(path, asked, options, file)
+            else:
+                found, said = locking.lock(path, asked, file, look=lambda one, _: held.append(one)), []
+        except Refused as why:
+            raise recording.explained(why) from None
         file.seek(0)
         chips = read_samples(file)
-    found = found._replace(said=(*hints, *said))
-    kept = Held(path, asked, held[0] if held else None, source)
+    found = found._replace(said=(*recording.hints, *said))
+    kept = Held(path, asked, held[0] if held else None, (source, recording))
     return Lock(
         chips=chips,
         carrier_hz=found.carrier_hz,

@@ -2,13 +2,17 @@
 
 import copy
 import os
-from collections.abc import Callable
+from collections.abc import Callable, Iterator
 from typing import NamedTuple, Protocol
 
 import numpy
 from numpy.typing import NDArray
 
 from cdma_tools.errors import Refused
+
+
+# Seconds of samples that are read of a file at once.
+BLOCK_SECONDS = 0.05
 
 
 class Kind(NamedTuple):
@@ -92,6 +96,22 @@ def sample_count(path: str, kind: str) -> int:
     if total % size:
         raise Refused(f"{path}: {total} bytes are not a whole number of samples of {size} bytes")
     return total // size
+
+
+def blocks_of_file(path: str, first: int, count: int, block: int) -> Iterator[bytes]:
+    """Yields bytes first to first + count - 1 of a file, some at a time; raises Refused if they can't be read."""
+    try:
+        with open(path, "rb", buffering=0) as file:
+            file.seek(first_byte(path) + first)
+            left = count
+            while left > 0:
+                data = file.read(min(block, left))
+                if not data:
+                    raise Refused(f"{path}: the file ended early")
+                left -= len(data)
+                yield data
+    except OSError as why:
+        raise Refused(f"{path}: {why.strerror}") from None
 
 
 def with_zeros(

@@ -1,8 +1,9 @@
 """Measures the code domain of a cell and the quality of its waveform.
 
-FILE_OR_RECORDING is a sample file, or a recording of a radio: a .sigmf-meta, or interleaved samples with --type and
---rate. In a recording the strongest pilot is locked to first, as tools/import_capture --lock does. The first line has
-figures of the whole; "recording" and "file" mark those of only one kind of input:
+FILE_OR_RECORDING is a sample file, or a recording of a radio: a .sigmf-meta, .sigmf or .wav, interleaved samples with
+--type and --rate, - for standard input, or the address of a live source, of which --seconds are taken (tools/listen
+--help lists the addresses). In a recording the strongest pilot is locked to first, as tools/import_capture --lock does.
+The first line has figures of the whole; "recording" and "file" mark those of only one kind of input:
 
     rho              share of all power in the rows in use, without the interference of the pulse's own sides, at most
                      1; over several paths, the share that would go without the cell: 1 - left / all
@@ -56,32 +57,40 @@ from cdma_tools.analysis.importing import Wanted
 from cdma_tools.analysis.limits import Limit, limits_of
 from cdma_tools.analysis.measuring import Analysis, analysis_of_cell, analysis_of_file, analysis_of_recording
 from cdma_tools.analysis.telling import draw, object_of, text_of
-from cdma_tools.arguments import Parser, count_of, hertz_of, rate_of
+from cdma_tools.arguments import Parser, count_of, hertz_of
 from cdma_tools.cell_options import CELL_OPTIONS, add_cell_options
 from cdma_tools.errors import printable, said
-from cdma_tools.frequencies import FREQUENCY_OPTIONS, add_frequency_options, frequency_fault, frequency_given
+from cdma_tools.frequencies import FREQUENCY_OPTIONS
 from cdma_tools.overwriting import STANDARD, InputFile, OutputFile
 from cdma_tools.program import add_program_option, find_program, program_or_hint
 from cdma_tools.plots import picture_of, plain, save
 from cdma_tools.progress import bar
 from cdma_tools.radio.locking import Options
-from cdma_tools.radio.plain import TYPE_CHOICES, assumed, recording_told, with_hints
 from cdma_tools.radio.search_policy import TRIES, add_search_options
-from cdma_tools.recordings import type_named
 from cdma_tools.results import check_place, json_of, junit_of, tap_of
-from cdma_tools.sources import add_capture_option, is_described, stored_of
+from cdma_tools.sources.options import (
+    ANY_MIDDLE,
+    RADIO_OPTIONS,
+    SOURCE_HELP,
+    add_radio_options,
+    add_sample_options,
+    add_seconds_option,
+    is_told,
+    source_fault,
+)
+from cdma_tools.sources.taking import TakenSource, taken
 from cdma_tools.starting import called
 from cdma_tools.writing import write_out
 
 # Options that go only with a recording.
 LOCK_OPTIONS = ("skip", "shift", "search", "conjugate", "equaliser")
-RECORDING_ONLY = (*LOCK_OPTIONS, "capture", *CELL_OPTIONS, *FREQUENCY_OPTIONS)
+RECORDING_ONLY = (*LOCK_OPTIONS, "capture", "seconds", *CELL_OPTIONS, *FREQUENCY_OPTIONS, *RADIO_OPTIONS)
 
 
 def parser() -> Parser:
     """The arguments of the command line."""
     words = Parser("domain", __doc__)
-    what = "a sample file, a .sigmf-meta, or raw samples"
+    what = f"a sample file, or {SOURCE_HELP}"
     words.add_argument("recording", type=InputFile, metavar="FILE_OR_RECORDING", help=what)
     words.add_argument("--all", action="store_true", help="a line for each of the 64 rows, in use or not")
     figures = "write figures, rows and frames as JSON; - for standard output, without lines"
@@ -95,42 +104,30 @@ def parser() -> Parser:
     limits.add_argument("--tap", action="store_true", help="with --limits: write only these, as TAP, version 13")
     limits.add_argument("--junit", type=OutputFile, metavar="FILE", help="with --limits: also write these as JUnit XML")
     recording = words.add_argument_group("of a recording")
-    recording.add_argument(
-        "--type",
-        type=type_named,
-        choices=TYPE_CHOICES,
-        help="sample type, or auto to guess it from the bytes; not with a .sigmf-meta",
-    )
-    recording.add_argument(
-        "--rate", type=rate_of, metavar="N", help="samples per second; with a .sigmf-meta if it has none"
-    )
+    add_sample_options(recording)
+    add_seconds_option(recording)
     recording.add_argument("--skip", type=count_of, metavar="N", help="leave out the first N samples (default 0)")
     recording.add_argument("--shift", type=hertz_of, metavar="HZ", help="search around this carrier (default 0)")
-    add_capture_option(recording)
     add_search_options(recording)
     add_cell_options(recording)
-    add_frequency_options(recording, "the recording's middle, if no .sigmf-meta has it")
     sent = "whether the base station has a phase equaliser (default try)"
     recording.add_argument("--equaliser", choices=TRIES, help=sent)
+    add_radio_options(words, ANY_MIDDLE)
     return words
 
 
 def is_recording(options: argparse.Namespace) -> bool:
     """Whether the input is a recording: by its name, or since its type or its rate is given."""
-    return is_described(options.recording) or options.type is not None or options.rate is not None
+    return is_told(options.recording) or options.type is not None or options.rate is not None
 
 
 def check_arguments(words: Parser, options: argparse.Namespace) -> None:
     """Ends with status 2 if options don't go together."""
-    if is_described(options.recording):
-        if options.type:
-            words.error("--type can't be given with a .sigmf-meta, a .sigmf or a .wav, which has its own")
-    elif is_recording(options) and (options.type is None or options.rate is None):
-        words.error("--type and --rate are needed, unless it is a .sigmf-meta or a sample file")
-    if not is_recording(options) and (given := [name for name in RECORDING_ONLY if getattr(options, name) is not None]):
-        words.error(f"--{given[0]} goes with a recording: a .sigmf-meta, or --type and --rate")
-    if fault := frequency_fault(options):
-        words.error(fault)
+    if is_recording(options):
+        if fault := source_fault(options.recording, options, has_middle=True):
+            words.error(fault)
+    elif given := [name for name in RECORDING_ONLY if getattr(options, name) not in (None, False)]:
+        words.error(f"--{given[0].replace('_', '-')} goes with a recording: a .sigmf-meta, or --type and --rate")
     if given := [f"--{name}" for name in ("tap", "junit") if getattr(options, name) and not options.limits]:
         words.error(f"{given[0]} needs --limits")
     check_outputs(words, options)
@@ -151,8 +148,11 @@ def wanted_of(options: argparse.Namespace) -> Wanted:
     return Wanted(options.cell, options.pn, None if options.pn is None else find_program(options.program))
 
 
-def analysed(options: argparse.Namespace, lines: list[str]) -> Analysis:
-    """Returns the requested analysis, with its steps on a bar; adds remarks about it to `lines`."""
+def analysed(options: argparse.Namespace, recording: TakenSource | None, lines: list[str]) -> Analysis:
+    """Returns the requested analysis, with its steps on a bar; adds remarks about it to `lines`.
+
+    Without a recording it is that of a sample file.
+    """
     program = program_or_hint(options.program, lines, "no row is known as a paging channel")
     with bar(total=100, text="domain", unit="%") as shown, tempfile.TemporaryDirectory(prefix="domain-") as folder:
         done = 0
@@ -164,25 +164,14 @@ def analysed(options: argparse.Namespace, lines: list[str]) -> Analysis:
                 shown.update(now - done)
                 done = now
 
-        if not is_recording(options):
+        if recording is None:
             return analysis_of_file(options.recording, program, tell)
-        kind, rate, path = recording_told(options)
-        hints = assumed(options, kind, path)
-        lines += hints
+        lines += recording.remarks
         given = {name: value for name in LOCK_OPTIONS if (value := getattr(options, name)) is not None}
-        asked = Options(kind, rate, **given)
-        with with_hints(hints):
-            if options.pn is not None or (options.cell or 1) > 1:
-                return analysis_of_cell(path, asked, wanted_of(options), program, folder, shown.set_description)
-            return analysis_of_recording(path, asked, program, folder, tell)
-
-
-def middle_of(options: argparse.Namespace) -> float | None:
-    """Returns the frequency in Hz of a recording's middle, by the options, otherwise by its .sigmf-meta."""
-    given = frequency_given(options)
-    if given is None and is_described(options.recording):
-        return stored_of(options.recording, options.rate, options.capture).frequency
-    return given
+        asked, path = Options(recording.kind, recording.rate, **given), recording.path
+        if options.pn is not None or (options.cell or 1) > 1:
+            return analysis_of_cell(path, asked, wanted_of(options), program, folder, shown.set_description)
+        return analysis_of_recording(path, asked, program, folder, tell)
 
 
 def shown_name(path: str) -> str:
@@ -211,15 +200,23 @@ def write_all(options: argparse.Namespace, analysis: Analysis, limits: list[Limi
     sys.stdout.flush()
 
 
+def measure(options: argparse.Namespace, recording: TakenSource | None) -> int:
+    """Measures a recording, or without one a sample file, and writes what is asked for; returns the exit status."""
+    lines: list[str] = []
+    analysis = analysed(options, recording, lines)
+    limits = limits_of(analysis, None if recording is None else recording.frequency) if options.limits else []
+    write_all(options, analysis, limits)
+    for line in lines:
+        said(called("domain"), line)
+    return 0 if all(limit.is_met for limit in limits) else 1
+
+
 def main(arguments: list[str] | None = None) -> int:
     """Runs the tool, and returns its exit status."""
     words = parser()
     options = words.parse_args(arguments)
     check_arguments(words, options)
-    lines: list[str] = []
-    analysis = analysed(options, lines)
-    limits = limits_of(analysis, middle_of(options)) if options.limits else []
-    write_all(options, analysis, limits)
-    for line in lines:
-        said(called("domain"), line)
-    return 0 if all(limit.is_met for limit in limits) else 1
+    if not is_recording(options):
+        return measure(options, None)
+    with taken(options.recording, options) as recording:
+        return measure(options, recording)

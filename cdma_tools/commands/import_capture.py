@@ -1,7 +1,9 @@
 """Turns a recording of a radio into a sample file, with one sample per chip.
 
-RECORDING is a file of interleaved samples, in-phase part first, with --type and --rate, or the .sigmf-meta of a SigMF
-recording, which has both. FILE is the sample file to write, or - for standard output.
+RECORDING is a file of interleaved samples, in-phase part first, with --type and --rate, or a recording that has both: a
+.sigmf-meta, a SigMF archive (.sigmf) or a .wav of a radio program. It may also be - for standard input, or the address
+of a live source (tools/listen --help lists them), of which --seconds are taken. If a live source fails, what came
+before is written, and the status is 1. FILE is the sample file to write, or - for standard output.
 
 With --lock nothing else need be known. The tool finds the strongest pilot, follows its carrier and its clock over the
 whole recording, and writes one sample of each of its chips: filtered by the transmitter's pulse, without carrier,
@@ -47,6 +49,7 @@ bursts that don't fit are then cut at the ends of the range, and their number is
     tools/import_capture --reflag --complement-30 radio.is95
     tools/import_capture --lock --cell 2 radio.sigmf-meta second.is95
     tools/import_capture --lock --cells 3 --json radio.sigmf-meta first.is95
+    tools/import_capture --lock --rate 2.4M --channel 283 --gain 30 --seconds 10 rtl_tcp://radio:1234 radio.is95
     tools/import_capture --type cu8 --rate 2457600 --sum --shift -1200 radio.bin radio.is95
 
 Exit status: 0 written, 1 the recording can't be taken, has no pilot, or the file can't be written, 2 wrong arguments.
@@ -60,7 +63,6 @@ import re
 import sys
 import tempfile
 from collections.abc import Sequence
-from fractions import Fraction
 from typing import IO, TYPE_CHECKING, Any, Callable, Iterable
 
 import numpy
@@ -71,7 +73,6 @@ from cdma_tools.arguments import (
     Parser,
     count_of,
     hertz_of,
-    rate_of,
     scale_of,
     whole_within,
 )
@@ -81,11 +82,19 @@ from cdma_tools.errors import Refused, said
 from cdma_tools.overwriting import STANDARD, InputFile, OutputFile, UpdatedFile
 from cdma_tools.program import add_program_option, find_program, program_or_hint
 from cdma_tools.progress import bar
-from cdma_tools.radio.plain import TYPE_CHOICES, assumed, plain_chips, recording_told, with_hints
+from cdma_tools.radio.plain import plain_chips
 from cdma_tools.radio.search_policy import TRIES, add_search_options
-from cdma_tools.recordings import type_named
 from cdma_tools.sample_file import GREATEST, header
-from cdma_tools.sources import ARCHIVE, WAVE, add_capture_option, is_described
+from cdma_tools.sources.options import (
+    SOURCE_HELP,
+    add_radio_options,
+    add_sample_options,
+    add_seconds_option,
+    is_received,
+    source_fault,
+)
+from cdma_tools.sources.stored import ARCHIVE, WAVE
+from cdma_tools.sources.taking import TakenSource, taken
 from cdma_tools.starting import called
 from cdma_tools.writing import write_out
 
@@ -157,19 +166,11 @@ def add_check_words(words: argparse.ArgumentParser) -> None:
 def parser(form: type[CaptureParser] = CaptureParser) -> CaptureParser:
     """The command line, as a parser of a form."""
     words = form("import_capture", __doc__)
-    words.add_argument("recording", type=InputFile, metavar="RECORDING", help="interleaved samples, or a .sigmf-meta")
+    words.add_argument("recording", type=InputFile, metavar="RECORDING", help=SOURCE_HELP)
     what = "the sample file to write, - for standard output"
     words.add_argument("file", type=OutputFile, metavar="FILE", help=what)
-    words.add_argument(
-        "--type",
-        type=type_named,
-        choices=TYPE_CHOICES,
-        help="sample type, or auto to guess it from the bytes; not with a .sigmf-meta",
-    )
-    words.add_argument(
-        "--rate", type=rate_of, metavar="N", help="samples per second; with a .sigmf-meta only if it has none"
-    )
-    add_capture_option(words)
+    add_sample_options(words)
+    add_seconds_option(words)
     words.add_argument(
         "--offset", type=count_of, metavar="N", help="at a multiple M of the chip rate: 0 to M - 1 (default 0)"
     )
@@ -200,6 +201,7 @@ def parser(form: type[CaptureParser] = CaptureParser) -> CaptureParser:
         "--reflag", action="store_true", help="set the flags of a sample file, in place; takes only options of checks"
     )
     add_lock_words(words)
+    add_radio_options(words)
     return words
 
 
@@ -239,15 +241,10 @@ def check_words(words: Parser, options: argparse.Namespace) -> None:
         words.error("--sum, --offset and --scale fit can't be given with --lock, which takes its own samples")
     if options.meta is not None and not options.meta.endswith(sigmf.META):
         words.error(f"--meta names a {sigmf.META}")
-    if options.meta is not None and options.recording.endswith((ARCHIVE, WAVE, STANDARD)):
+    if options.meta is not None and (options.recording.endswith((ARCHIVE, WAVE)) or is_received(options.recording)):
         words.error("--meta goes with a .sigmf-meta or a file of raw samples")
-    if is_described(options.recording):
-        if options.type:
-            words.error("--type can't be given with a .sigmf-meta, a .sigmf or a .wav, which has its own")
-        return
-    missing = [name for name, value in (("--type", options.type), ("--rate", options.rate)) if value is None]
-    if missing:
-        words.error(f"give {' and '.join(missing)}, unless RECORDING is a .sigmf-meta")
+    if fault := source_fault(options.recording, options):
+        words.error(fault)
 
 
 def flags_of(options: argparse.Namespace) -> int:
@@ -283,14 +280,14 @@ def take_reflag(options: argparse.Namespace) -> None:
     say([*lines, f"{options.file}: its flags are {flags} now, and were {before}"])
 
 
-def take_plainly(options: argparse.Namespace) -> None:
+def take_plainly(options: argparse.Namespace, recording: TakenSource) -> None:
     """Writes the file of a recording whose carrier and clock are right."""
-    parts, scale = plain_chips(options)
+    parts, scale = plain_chips(options, recording)
     with write_out(options.file, is_sought=bool(options.checks)) as file:
         file.write(header(options.version, flags_of(options), len(parts)))
         file.write(parts.tobytes())
         lines = try_checks(options, file)
-    say(lines)
+    say([*recording.remarks, *lines])
     top = int(numpy.abs(parts.astype(numpy.int32)).max())
     print(f"{len(parts)} chips, scale {scale:.9g}, greatest part {top} of {GREATEST[options.version]}", file=sys.stderr)
 
@@ -328,19 +325,21 @@ def take_cell(options: argparse.Namespace, path: str, asked: "Options", file: IO
         return take(path, asked, Wanted(options.cell, options.pn, program), file, folder, tell)
 
 
-def lock_options(options: argparse.Namespace, kind: str, rate: Fraction) -> "Options":
-    """Returns the options of the lock."""
+def lock_options(options: argparse.Namespace, recording: TakenSource) -> "Options":
+    """Returns the options of the lock to a recording."""
     from cdma_tools.radio.locking import Options
 
     given = {name: value for name in LOCK_OPTIONS if (value := getattr(options, name)) is not None}
     return Options(
-        kind, rate, skip=options.skip, shift=options.shift or 0.0, count=options.count, scale=options.scale,
-        version=options.version, flags=flags_of(options), **given,
+        recording.kind, recording.rate, skip=options.skip, shift=options.shift or 0.0, count=options.count,
+        scale=options.scale, version=options.version, flags=flags_of(options), **given,
     )  # fmt: skip
 
 
 def take_by_lock(
-    options: argparse.Namespace, look: "Callable[[Held, Locked], None]" = lambda held, locked: None
+    options: argparse.Namespace,
+    recording: TakenSource,
+    look: "Callable[[Held, Locked], None]" = lambda held, locked: None,
 ) -> "Locked":
     """Writes the file of the strongest pilot in a recording, and returns the result.
 
@@ -348,13 +347,10 @@ def take_by_lock(
     """
     from cdma_tools.radio.locking import lock  # scipy takes half a second to load, and only this needs it
 
-    kind, rate, path = recording_told(options)
-    hints = assumed(options, kind, path)
-    told = [*hints]
+    told, path, asked = [*recording.remarks], recording.path, lock_options(options, recording)
     if options.meta:
         sigmf.check_note(options.meta, path)
-    asked = lock_options(options, kind, rate)
-    with with_hints(hints), write_out(options.file, is_sought=bool(options.checks)) as file:
+    with write_out(options.file, is_sought=bool(options.checks)) as file:
         if options.pn is not None or (options.cell or 1) > 1:
             locked, others = take_cell(options, path, asked, file)
             told += others
@@ -363,32 +359,32 @@ def take_by_lock(
                 locked = lock(path, asked, file, shown, look)
         told += try_checks(options, file)
     if options.meta:
-        sigmf.note_lock(options.meta, options.recording, kind, rate, path, options.skip, locked)
+        sigmf.note_lock(
+            options.meta, options.recording, recording.kind, recording.rate, path, options.skip, locked
+        )
     return locked._replace(said=tuple(told))
 
 
-def lock_and_tell(options: argparse.Namespace) -> None:
+def lock_and_tell(options: argparse.Namespace, recording: TakenSource) -> None:
     """Writes the file of the strongest pilot in a recording, and reports the result."""
     held: "list[Held]" = []
-    locked = take_by_lock(options, lambda one, _: held.append(one))
+    locked = take_by_lock(options, recording, lambda one, _: held.append(one))
     print(locked.line(), file=sys.stderr)
     say(locked.remarks())
     if options.cells:
-        tell_cells(options, held[0] if held else None)
+        tell_cells(options, recording, held[0] if held else None)
 
 
-def tell_cells(options: argparse.Namespace, first: "Held | None") -> None:
+def tell_cells(options: argparse.Namespace, recording: TakenSource, first: "Held | None") -> None:
     """Prints the table of a recording's cells; `first` is the lock to the strongest one, if it was made already."""
     from cdma_tools.analysis.cell_table import table_of_cells
     from cdma_tools.analysis.cells import Search
 
-    kind, rate, path = recording_told(options)
-    asked = lock_options(options, kind, rate)
     lines: list[str] = []
     program = program_or_hint(options.program, lines)
     say(lines)
     with tempfile.TemporaryDirectory(prefix="cells-") as folder, bar(total=options.cells, text="cells") as shown:
-        with Search(path, asked, folder, first=first) as search:
+        with Search(recording.path, lock_options(options, recording), folder, first=first) as search:
             cells = table_of_cells(search, options.cells, program, shown.update)
     if options.json:
         print(json.dumps([cell.as_json() for cell in cells]))
@@ -408,7 +404,8 @@ def main(arguments: list[str] | None = None) -> int:
         return 0
     check_words(words, options)
     try:
-        (lock_and_tell if options.lock else take_plainly)(options)
+        with taken(options.recording, options) as recording:
+            (lock_and_tell if options.lock else take_plainly)(options, recording)
     except MemoryError:
         raise Refused("out of memory: give --count") from None
     return 0

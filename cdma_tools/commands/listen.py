@@ -54,31 +54,28 @@ import argparse
 import contextlib
 import os
 import re
-import stat
-import sys
 from collections.abc import Iterator
 from fractions import Fraction
 
 from cdma_tools import sigmf
 from cdma_tools.arguments import Parser, Within, number_within, rational, whole_within, wrong
 from cdma_tools.errors import Refused, WrongArguments
-from cdma_tools.frequencies import FREQUENCY_OPTIONS, add_frequency_options, frequency_fault, frequency_given
 from cdma_tools.listening.follow_run import Handset
 from cdma_tools.listening.line_writer import LineWriter, Write
-from cdma_tools.listening.live import Stream, hear_stream
+from cdma_tools.listening.live import hear_stream
 from cdma_tools.listening.output import Output, open_output
 from cdma_tools.listening.notes import Notes
 from cdma_tools.listening.parts import PART, Recording
 from cdma_tools.listening.sharing import hear_recording
-from cdma_tools.listening.live_sources import FIXED_TYPES, RTL_TCP, SENT_TYPES, SOAPY, TUNED, LiveSource, scheme_of
-from cdma_tools.listening.sources import Tuning
 from cdma_tools.listening.stream_lock import LockOptions
 from cdma_tools.overwriting import META, STANDARD, InputFile, OutputFile, UpdatedFile
 from cdma_tools.program import add_program_option, find_program
 from cdma_tools.radio.air import CHIP_RATE
 from cdma_tools.radio.search_policy import TRIES, add_search_options, policy_of
-from cdma_tools.recordings import TYPES, absolute, sample_count, type_named
-from cdma_tools.sources import add_capture_option, is_described, stored_of
+from cdma_tools.recordings import TYPES, absolute, sample_count
+from cdma_tools.sources.live import Stream, scheme_of
+from cdma_tools.sources.options import SOURCE_HELP, add_radio_options, add_sample_options, source_fault, stream_of
+from cdma_tools.sources.stored import is_described, stored_of
 from cdma_tools.wireshark.capture import Capture
 from cdma_tools.wireshark.stream import PacketStream
 
@@ -87,7 +84,6 @@ LEAST_PART, MOST_PART = 10, 1_000_000
 JSON_LINES = ".jsonl"
 SERIAL = re.compile(r"[0-9a-f]{8}")
 SYNC_ROW, MOST_EVENTS = 32, 4_294_967_295
-GAINS, MOST_PPM = (-10, 100), 1_000  # dB, and millionths
 
 
 def serial_of(text: str) -> str:
@@ -120,27 +116,11 @@ def add_handset(words: argparse.ArgumentParser) -> None:
         handset.add_argument(f"--complement-{bits}", action="store_true", help=what)
 
 
-def add_tuning(words: argparse.ArgumentParser) -> None:
-    """The arguments that tune a radio."""
-    radio = words.add_argument_group("a radio: rtl_tcp and soapy")
-    add_frequency_options(radio, "frequency to which the radio is tuned (default unchanged)")
-    radio.add_argument("--gain", type=number_within(*GAINS), metavar="DB", help="gain of the radio (default unchanged)")
-    crystal = "correct the radio's crystal by N millionths (default 0)"
-    radio.add_argument("--ppm", type=whole_within(-MOST_PPM, MOST_PPM), metavar="N", help=crystal)
-    radio.add_argument("--bias-tee", action="store_true", help="feed an amplifier at the antenna")
-    radio.add_argument("--agc", action="store_true", help="let the radio set its gain by itself")
-
-
 def add_source(words: argparse.ArgumentParser) -> None:
     """The source, its samples, and the program that follows."""
-    source = "a file of samples, a .sigmf-meta, .sigmf or .wav, -, or the address of a live source"
-    words.add_argument("source", type=InputFile, metavar="SOURCE", help=source)
-    kinds = "how the samples are kept; not with a .sigmf-meta, a .sigmf or a .wav"
-    words.add_argument("--type", type=type_named, choices=TYPES, metavar="TYPE", help=f"{kinds}: {', '.join(TYPES)}")
-    rates = "samples a second, as 2400000 or 2.4M; with a .sigmf-meta only if that has no rate"
-    words.add_argument("--rate", type=Within(rational, CHIP_RATE, MOST_RATE), metavar="N", help=rates)
+    words.add_argument("source", type=InputFile, metavar="SOURCE", help=SOURCE_HELP)
+    add_sample_options(words, Within(rational, CHIP_RATE, MOST_RATE), tuple(TYPES))
     add_program_option(words)
-    add_capture_option(words)
 
 
 def add_lock(words: argparse.ArgumentParser) -> None:
@@ -168,7 +148,7 @@ def parser() -> Parser:
     words.add_argument("--pcapng", type=OutputFile, metavar="FILE", help=packets)
     notes = "write the recording's .sigmf-meta with notes on what was decoded; for a file of samples"
     words.add_argument("--meta", type=UpdatedFile, metavar="FILE", help=notes)
-    add_tuning(words)
+    add_radio_options(words)
     add_handset(words)
     add_lock(words)
     shared = words.add_argument_group("files of samples")
@@ -181,31 +161,9 @@ def parser() -> Parser:
     return words
 
 
-def check_live(words: argparse.ArgumentParser, options: argparse.Namespace, scheme: str) -> None:
-    """Ends with status 2 where arguments don't go with a live source."""
-    kind = SENT_TYPES.get(scheme)
-    if scheme in FIXED_TYPES and options.type not in (None, kind):
-        words.error(f"the samples of {scheme} are {kind}")
-    if options.rate is None or scheme == RTL_TCP and options.rate.denominator != 1:
-        words.error("--rate is needed with a live source" + (", as a whole number" if scheme == RTL_TCP else ""))
-    if options.type is None and kind is None:
-        words.error(f"--type is needed with {scheme}://")
-
-
 def check_source(words: argparse.ArgumentParser, options: argparse.Namespace) -> None:
     """Ends with status 2 if arguments don't go with the source."""
-    scheme = scheme_of(options.source)
-    if scheme is not None:
-        check_live(words, options, scheme)
-    elif is_described(options.source):
-        if options.type:
-            words.error("--type can't be given with a .sigmf-meta, a .sigmf or a .wav, which has its own")
-    elif options.type is None or options.rate is None:
-        words.error("--type and --rate are needed, unless SOURCE is a .sigmf-meta, a .sigmf or a .wav")
-    given = [name for name in (*FREQUENCY_OPTIONS, "gain", "ppm", "bias_tee", "agc") if getattr(options, name)]
-    if given and scheme not in TUNED:
-        words.error(f"--{given[0].replace('_', '-')} goes with a radio: {RTL_TCP}://HOST:PORT or {SOAPY}:driver=NAME")
-    if fault := frequency_fault(options):
+    if fault := source_fault(options.source, options):
         words.error(fault)
 
 
@@ -270,11 +228,6 @@ def counts_of(options: argparse.Namespace) -> dict[str, int]:
     return {"raw": options.raw or 0, **{name: value for name, value in given.items() if value is not None}}
 
 
-def tuning_of(options: argparse.Namespace) -> Tuning:
-    """How a radio is to be tuned."""
-    return Tuning(frequency_given(options), options.gain, options.ppm, options.bias_tee, options.agc)
-
-
 def check_there(options: argparse.Namespace) -> None:
     """Refuses a file that isn't there."""
     if scheme_of(options.source) is None and options.source != STANDARD:
@@ -283,21 +236,12 @@ def check_there(options: argparse.Namespace) -> None:
 
 def source_of(options: argparse.Namespace) -> Stream | Recording:
     """The stream or the recording that is listened to; refuses one that isn't there."""
-    if (scheme := scheme_of(options.source)) is not None:
-        kind = options.type or SENT_TYPES[scheme]
-        live = LiveSource(options.source, scheme, kind, options.rate, tuning_of(options))
-        return Stream(kind, options.rate, live=live)
-    if options.source == "-":
-        return Stream(options.type, options.rate, file=sys.stdin.buffer)
+    if (stream := stream_of(options.source, options)) is not None:
+        return stream
     kind, rate, path = options.type, options.rate, options.source
     if is_described(options.source):
         stored = stored_of(options.source, options.rate, options.capture)
         kind, rate, path = stored.kind, stored.rate, stored.path
-    try:
-        if not stat.S_ISREG(os.stat(path).st_mode):
-            return Stream(kind, rate, file=open(path, "rb", buffering=0))
-    except OSError as why:
-        raise Refused(f"{path}: {why.strerror}") from None
     # A worker may have another working directory.
     return Recording(absolute(path), sample_count(path, kind), lock_options(options, kind, rate))
 

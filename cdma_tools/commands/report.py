@@ -1,8 +1,10 @@
 """Makes one HTML page that shows a recording, and what a handset receives in it.
 
-FILE_OR_RECORDING is a sample file, or a recording of a radio: a .sigmf-meta, or interleaved samples with --type and
---rate. A recording is imported first, by `tools/import_capture --lock` with the arguments of --import. Then `find`,
-`follow` and `survey` run once each. The page is self-contained: it needs no network and no second file.
+FILE_OR_RECORDING is a sample file, or a recording of a radio: a .sigmf-meta, .sigmf or .wav, interleaved samples with
+--type and --rate, - for standard input, or the address of a live source, of which --seconds are taken (tools/listen
+--help lists the addresses). A recording is imported first, by `tools/import_capture --lock` with the arguments of
+--import. Then `find`, `follow` and `survey` run once each. The page is self-contained: it needs no network and no
+second file.
 
 For a recording of more than 27 seconds the page is drawn from the lines of tools/listen, and FILE_OR_RECORDING may also
 be a file of such lines, as text or as JSON. The page counts all lines, and shows as many as it has room for, evenly
@@ -26,7 +28,7 @@ its head.
 
 Exit status: that of follow if a page was written (0 all was read, 1 no sync message, 3 no sample file, and so on); 2
 wrong arguments, and no page; 9 no page, because the program or a package is missing, or a file can't be read or
-written; 10 a page that says why the recording couldn't be imported.
+written, or a page of what came before a live source failed; 10 a page that says why the recording couldn't be imported.
 """
 
 import argparse
@@ -34,26 +36,38 @@ import json
 import os
 import shlex
 import tempfile
-from fractions import Fraction
+from dataclasses import replace
 from typing import Any, NamedTuple, NoReturn
 
 from cdma_tools.analysis.measuring import SeenLock, seen_lock
-from cdma_tools.arguments import Parser, rate_of, whole_within
+from cdma_tools.arguments import Parser, whole_within
 from cdma_tools.commands import FAILED, import_capture, listen
 from cdma_tools.errors import Refused, WrongArguments
-from cdma_tools.overwriting import InputFile, OutputFile
+from cdma_tools.frequencies import FREQUENCY_OPTIONS, frequency_given
+from cdma_tools.overwriting import META, InputFile, OutputFile
 from cdma_tools.program import add_program_option, find_program
 from cdma_tools.radio.air import CHIP_RATE
-from cdma_tools.radio.guessing import type_of
 from cdma_tools.radio.locking import Held
-from cdma_tools.radio.plain import AUTO
 from cdma_tools.radio.search_policy import SEARCH_OPTIONS, add_search_options
 from cdma_tools.recordings import sample_count
 from cdma_tools.report import cells, document, gathering, measures, waveform
 from cdma_tools.report.heard_lines import heard_lines, is_lines
 from cdma_tools.report.lines_page import page_of_lines
 from cdma_tools.sample_header import MOST_CHIPS
-from cdma_tools.sources import is_described, stored_of
+from cdma_tools.sources.options import (
+    ANY_MIDDLE,
+    RADIO_OPTIONS,
+    SOURCE_HELP,
+    add_radio_options,
+    add_sample_options,
+    add_seconds_option,
+    is_received,
+    is_told,
+    source_fault,
+    source_words,
+)
+from cdma_tools.sources.stored import is_described
+from cdma_tools.sources.taking import TakenSource, take
 from cdma_tools.writing import write_out
 
 # Seconds of a recording that a sample file has room for; what is longer is listened to.
@@ -63,6 +77,7 @@ SPANS = {str(span) for span in range(64, 32_769)}  # as follow takes them
 SPAN = 2_048  # samples of the search by default (--span, docs/FORMATS.md)
 MOST_CELLS = 12
 MOST_NOTES = 40  # of a recording's own
+RECORDING_ONLY = ("more", *SEARCH_OPTIONS, "capture", "seconds", *FREQUENCY_OPTIONS, *RADIO_OPTIONS)
 # The options of follow, as docs/FORMATS.md has them.
 FOLLOW_WORDS = {
     "span": "number of first samples in which the pilot is searched (64 to 32,768, default 2,048)",
@@ -82,13 +97,13 @@ FOLLOW_WORDS = {
 def parser() -> Parser:
     """The command line."""
     words = Parser("report", __doc__, allow_abbrev=False)
-    what = "a sample file, a .sigmf-meta, raw samples, or lines"
+    what = f"a sample file, lines, or {SOURCE_HELP}"
     words.add_argument("recording", type=InputFile, metavar="FILE_OR_RECORDING", help=what)
     page = "the page to write, - for standard output"
     words.add_argument("--out", required=True, type=OutputFile, metavar="PAGE", help=page)
     add_program_option(words)
-    words.add_argument("--type", metavar="TYPE", help="type of raw samples, as for import_capture")
-    words.add_argument("--rate", metavar="N", help="samples per second of raw samples, as for import_capture")
+    add_sample_options(words)
+    add_seconds_option(words)
     words.add_argument(
         "--import", dest="more", default="", metavar="ARGUMENTS",
         help="arguments for import_capture, for example --import='--skip 100'",
@@ -101,6 +116,7 @@ def parser() -> Parser:
         help="for a recording: a section for each of up to N cells (default 1)",
     )
     add_search_options(words.add_argument_group("of a recording"))
+    add_radio_options(words, ANY_MIDDLE)
     follow = words.add_argument_group("arguments of follow")
     for name, told in FOLLOW_WORDS.items():
         follow.add_argument(f"--{name}", metavar="H" if name == "esn" else "N", help=told)
@@ -126,13 +142,14 @@ def notes_of(path: str) -> dict[str, str]:
 
 def is_recording(options: argparse.Namespace) -> bool:
     """Whether the input must be imported: by its name, or because its type or rate is given."""
-    return is_described(options.recording) or options.type is not None or options.rate is not None
+    return is_told(options.recording) or options.type is not None or options.rate is not None
 
 
 def import_words(options: argparse.Namespace) -> list[str]:
     """The arguments for the import: it takes as many paths as follow does."""
-    told = [(name, getattr(options, name)) for name in ("type", "rate", "fingers", *SEARCH_OPTIONS)]
-    return [f"--{name}={value}" for name, value in told if value is not None] + shlex.split(options.more)
+    told = [(name, getattr(options, name)) for name in ("fingers", *SEARCH_OPTIONS)]
+    given = [f"--{name}={value}" for name, value in told if value is not None]
+    return source_words(options) + given + shlex.split(options.more)
 
 
 class ImportParser(import_capture.CaptureParser):
@@ -158,19 +175,35 @@ class Imported(NamedTuple):
     seen: SeenLock | None = None
 
 
-def run_import(recording: str, file: str, words: list[str]) -> Imported:
-    """Imports a recording into a sample file, and locks to its pilot."""
-    whole = ["--lock", *words]
+class Page(NamedTuple):
+    """A page, the status to end with, and the fault of a source that failed after what the page shows."""
+
+    text: str
+    status: int
+    fault: str = ""
+
+
+def import_options(options: argparse.Namespace, file: str) -> argparse.Namespace:
+    """The arguments of the import into a file, as its own command line judges them."""
     parser = import_capture.parser(ImportParser)
-    options = parser.parse_args([*whole, recording, file])
-    import_capture.check_words(parser, options)
+    taken: argparse.Namespace = parser.parse_args(["--lock", *import_words(options), options.recording, file])
+    import_capture.check_words(parser, taken)
+    return taken
+
+
+def run_import(options: argparse.Namespace, recording: TakenSource, asked: argparse.Namespace) -> Imported:
+    """Imports a recording into the sample file that `asked` names, and locks to its pilot."""
+    whole = ["--lock", *import_words(options)]
     seen: list[SeenLock] = []
     try:
-        locked = import_capture.take_by_lock(options, lambda held, one: seen.append(seen_lock(held, one.lost)))
+        locked = import_capture.take_by_lock(
+            asked, recording, lambda held, one: seen.append(seen_lock(held, one.lost))
+        )
     except Refused as why:
-        return Imported(gathering.Imported(whole, FAILED, {}, [str(why)]))
+        return Imported(gathering.Imported(whole, FAILED, {}, [str(recording.explained(why))]))
     found = dict(word.split("=", 1) for word in locked.line().split())
-    return Imported(gathering.Imported(whole, 0, found, locked.remarks()), seen[0] if seen else None)
+    remarks = locked.remarks() + ([recording.fault] if recording.fault else [])
+    return Imported(gathering.Imported(whole, 0, found, remarks), seen[0] if seen else None)
 
 
 def not_run(command: str) -> gathering.Ran:
@@ -178,125 +211,155 @@ def not_run(command: str) -> gathering.Ran:
     return gathering.Ran([command], NOT_IMPORTED, [], "not run")
 
 
-def imported_page(options: argparse.Namespace, program: str, file: str) -> tuple[str, int]:
-    """The page of a recording, which is imported into a file first, and the status to end with."""
-    imported = run_import(options.recording, file, import_words(options))
-    notes = notes_of(options.recording) if options.recording.endswith(".sigmf-meta") else {}
-    if imported.told.status == 0:
-        return page_of(options, program, file, imported, notes)
+def unimported_page(options: argparse.Namespace, imported: gathering.Imported) -> Page:
+    """The page of a recording that couldn't be imported: it says why."""
     runs = [not_run(command) for command in ("find", "survey", "follow")]
-    gathered = gathering.Gathered(shown_name(options.recording), imported.told, *runs)
-    return document.page_of(gathered, measures.Measured(0, 0, 0, SPAN), notes), NOT_IMPORTED
+    gathered = gathering.Gathered(shown_name(options.recording), imported, *runs)
+    text = document.page_of(gathered, measures.Measured(0, 0, 0, SPAN), recorded_notes(options))
+    return Page(text, NOT_IMPORTED)
 
 
-def page_of(
-    options: argparse.Namespace, program: str, file: str, imported: Imported | None, notes: dict[str, str]
-) -> tuple[str, int]:
-    """Returns the page of a sample file, and the exit status; `imported` describes the import, if there was one."""
+def recorded_notes(options: argparse.Namespace) -> dict[str, str]:
+    """The notes of a recording, if it is a .sigmf-meta."""
+    return notes_of(options.recording) if options.recording.endswith(META) else {}
+
+
+def imported_page(
+    options: argparse.Namespace, program: str, recording: TakenSource, asked: argparse.Namespace
+) -> Page:
+    """The page of a recording, which is imported into a file first."""
+    imported = run_import(options, recording, asked)
+    if imported.told.status:
+        return unimported_page(options, imported.told)
+    return page_of(options, program, asked.file, Import(imported, recording, asked))
+
+
+class Import(NamedTuple):
+    """An import that was done, its recording, and its arguments."""
+
+    imported: Imported
+    recording: TakenSource
+    asked: argparse.Namespace
+
+    @property
+    def raw(self) -> waveform.Raw:
+        """The recording as the sections on its waveform take it."""
+        recording = self.recording
+        return waveform.Raw(recording.path, recording.kind, float(recording.rate), recording.frequency)
+
+
+def page_of(options: argparse.Namespace, program: str, file: str, done: Import | None) -> Page:
+    """Returns the page of a sample file; `done` describes the import, if there was one."""
     words = {name: value for name in FOLLOW_WORDS if (value := getattr(options, name)) is not None}
-    told, seen = imported if imported is not None else (None, None)
+    told, seen = done.imported if done is not None else (None, None)
     gathered = gathering.Gathered(shown_name(options.recording), told, *gathering.gather_runs(program, file, words))
     phases = [read["phase"] for _, read in gathered.find.reads("pilot")]
     span = words.get("span", "")
     measured = measures.measured(file, phases[0] if phases else None, int(span) if span in SPANS else SPAN)
     made = waveform.waveform_of(
-        gathered, file, phases[0] if phases and measured.stands_out else None, raw_of(options, notes), seen
+        gathered, file, phases[0] if phases and measured.stands_out else None, None if done is None else done.raw, seen
     )
-    held = seen.held if seen is not None else None
-    more = cells_of(options, program, words, file, held) if options.cells > 1 else document.Addition()
-    return document.page_of(gathered, measured, notes, made, more), gathered.follow.status
+    has_cells = options.cells > 1 and done is not None
+    more = cells_of(options, program, words, done) if has_cells and done is not None else document.Addition()
+    text = document.page_of(gathered, measured, recorded_notes(options) if done is not None else {}, made, more)
+    return Page(text, gathered.follow.status)
 
 
-def cells_of(
-    options: argparse.Namespace, program: str, words: dict[str, str], file: str, held: Held | None
-) -> document.Addition:
+def cells_of(options: argparse.Namespace, program: str, words: dict[str, str], done: Import) -> document.Addition:
     """Returns the sections of each cell of a recording; the folder of its imported file has space for others.
 
-    `held` is the lock to the strongest cell, if the import made it.
+    They begin with the lock to the strongest cell, if the import made it.
     """
-    raw = raw_of(options, {})
-    folder = os.path.join(os.path.dirname(file), "cells")
+    folder = os.path.join(os.path.dirname(done.asked.file), "cells")
     os.mkdir(folder)
-    taken = import_capture.parser(ImportParser).parse_args([*import_words(options), options.recording, "-"])
+    held = done.imported.seen.held if done.imported.seen is not None else None
     try:
-        if raw is None:
-            raise Refused("the recording's type or rate isn't known")
-        asked = import_capture.lock_options(taken, raw.kind, Fraction(raw.rate).limit_denominator(1_000))
-        return cells.addition_of(cells.gather_cells(raw.path, asked, options.cells, program, words, folder, held))
+        asked = import_capture.lock_options(done.asked, done.recording)
+        return cells.addition_of(
+            cells.gather_cells(done.recording.path, asked, options.cells, program, words, folder, held)
+        )
     except Refused as why:
         return cells.addition_why(why)
 
 
-def raw_of(options: argparse.Namespace, notes: dict[str, str]) -> waveform.Raw | None:
-    """The raw samples of a recording; none of a sample file."""
-    if not is_recording(options):
-        return None
+def seconds_of(recording: TakenSource) -> float:
+    """Returns the length of a recording, 0 if it isn't known; the import reports its faults."""
     try:
-        middle = None
-        if is_described(options.recording):
-            stored = stored_of(options.recording, None if options.rate is None else rate_of(options.rate))
-            kind, rate, path, middle = stored.kind, stored.rate, stored.path, stored.frequency
-        else:
-            kind, rate, path = options.type, Fraction(options.rate), options.recording
-            kind = type_of(path) if kind == AUTO else kind
-    except (Refused, ValueError, ArithmeticError, TypeError, AttributeError, RecursionError):
-        return None
-    return waveform.Raw(path, kind, float(rate), middle)
-
-
-def seconds_of(options: argparse.Namespace) -> float:
-    """Returns the length of a recording, as far as it is known; the import reports its faults."""
-    try:
-        kind, rate, path = options.type, options.rate, options.recording
-        if is_described(path):
-            stored = stored_of(path, None if rate is None else rate_of(rate))
-            kind, rate, path = stored.kind, stored.rate, stored.path
-        return sample_count(path, kind) / float(rate)
-    except (Refused, KeyError, TypeError, ValueError, ArithmeticError, argparse.ArgumentTypeError):
+        return sample_count(recording.path, recording.kind) / float(recording.rate)
+    except Refused:
         return 0.0
 
 
-def listening_words(options: argparse.Namespace, program: str, out: str) -> list[str]:
+def listening_words(options: argparse.Namespace, recording: TakenSource, program: str, out: str) -> list[str]:
     """The arguments of a listening to a recording."""
-    given = {"type": options.type, "rate": options.rate, "program": program, "out": out}
-    given |= {name: getattr(options, name) for name in SEARCH_OPTIONS}
+    given = {"program": program, "out": out} | {name: getattr(options, name) for name in SEARCH_OPTIONS}
     given |= {name: getattr(options, name) for name in FOLLOW_WORDS if name not in ("span", "workers")}
-    return [options.recording, *(f"--{name}={value}" for name, value in given.items() if value is not None)]
+    if is_described(options.recording):
+        given |= {name: getattr(options, name) for name in ("rate", "capture")}
+    else:
+        given |= {"type": recording.kind, "rate": recording.rate}
+    path = options.recording if is_described(options.recording) else recording.path
+    return [path, *(f"--{name}={value}" for name, value in given.items() if value is not None)]
 
 
-def page_of_listening(options: argparse.Namespace, program: str) -> tuple[str, int]:
+def page_of_listening(options: argparse.Namespace, recording: TakenSource, program: str) -> Page:
     """The page of a recording that is longer than a sample file, which is listened to."""
     with tempfile.TemporaryDirectory(prefix="report-") as folder:
         lines = os.path.join(folder, "heard.jsonl")
-        status = listen.main(listening_words(options, program, lines))
-        return page_of_lines(shown_name(options.recording), heard_lines(lines)), status
+        status = listen.main(listening_words(options, recording, program, lines))
+        return Page(page_of_lines(shown_name(options.recording), heard_lines(lines)), status)
 
 
-def reported(options: argparse.Namespace) -> tuple[str, int]:
-    """The page, and the status to end with."""
-    if not is_recording(options) and is_lines(options.recording):
-        return page_of_lines(shown_name(options.recording), heard_lines(options.recording)), 0
-    program = find_program(options.program)
-    if not is_recording(options):
-        return page_of(options, program, options.recording, None, {})
-    if not options.more and seconds_of(options) > MOST_SECONDS:
-        return page_of_listening(options, program)
+def recording_page(options: argparse.Namespace, program: str) -> Page:
+    """The page of a recording; of a source that fails, of what came before."""
     with tempfile.TemporaryDirectory(prefix="report-") as folder:
-        return imported_page(options, program, os.path.join(folder, "recording.is95"))
+        asked = import_options(options, os.path.join(folder, "recording.is95"))
+        try:
+            found = take(options.recording, asked)
+        except Refused as why:
+            if is_received(options.recording):
+                raise
+            words = ["--lock", *import_words(options)]
+            return unimported_page(options, gathering.Imported(words, FAILED, {}, [str(why)]))
+        with found as recording:
+            if not options.more and seconds_of(recording) > MOST_SECONDS:
+                page = page_of_listening(options, recording, program)
+            else:
+                page = imported_page(options, program, with_middle(recording, options), asked)
+        return page._replace(fault=recording.fault)
+
+
+def with_middle(recording: TakenSource, options: argparse.Namespace) -> TakenSource:
+    """A recording with the middle that the arguments name, if they do."""
+    given = frequency_given(options)
+    return recording if given is None else replace(recording, frequency=given)
+
+
+def reported(options: argparse.Namespace) -> Page:
+    """The page, and what to end with."""
+    if not is_recording(options) and is_lines(options.recording):
+        return Page(page_of_lines(shown_name(options.recording), heard_lines(options.recording)), 0)
+    program = find_program(options.program)
+    if is_recording(options):
+        return recording_page(options, program)
+    return page_of(options, program, options.recording, None)
 
 
 def check_words(words: Parser, options: argparse.Namespace) -> None:
     """Ends with status 2 if options don't go together."""
     if options.cells > 1 and not is_recording(options):
         words.error("--cells goes with a recording: a .sigmf-meta, or --type and --rate")
-    given = [name for name in ("more", *SEARCH_OPTIONS) if getattr(options, name)]
+    given = [name for name in RECORDING_ONLY if getattr(options, name)]
     if given and not is_recording(options):
-        name = given[0].replace("more", "import")
+        name = given[0].replace("more", "import").replace("_", "-")
         words.error(f"--{name} goes with a recording: a .sigmf-meta, or --type and --rate")
     try:
         shlex.split(options.more)
     except ValueError as why:
         words.error(f"--import {options.more!r}: {why}")
+    if is_recording(options) and not options.more:
+        if fault := source_fault(options.recording, options, has_middle=True):
+            words.error(fault)
 
 
 def main(arguments: list[str] | None = None) -> int:
@@ -304,7 +367,9 @@ def main(arguments: list[str] | None = None) -> int:
     words = parser()
     options = words.parse_args(arguments)
     check_words(words, options)
-    page, status = reported(options)
+    page = reported(options)
     with write_out(options.out) as file:
-        file.write(page.encode())
-    return status
+        file.write(page.text.encode())
+    if page.fault:
+        raise Refused(page.fault)
+    return page.status

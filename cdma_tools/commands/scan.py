@@ -1,7 +1,8 @@
 """Finds the frequencies of a recording at which a pilot stands out.
 
 For a recording that is wider than one channel, or whose carrier is unknown. RECORDING is a file of interleaved samples
-with --type and --rate, or the .sigmf-meta of a SigMF recording. Centre frequencies are tried around the recording's
+with --type and --rate, a .sigmf-meta, .sigmf or .wav, - for standard input, or the address of a live source, of which
+--seconds are taken (tools/listen --help lists the addresses). Centre frequencies are tried around the recording's
 middle, in steps of 1.25 MHz or of --step, as far as a whole channel lies in it; --all tries every frequency in the
 width. What stands out is tracked for a third of a second, and reported if a pilot is found there too. Each pilot gets a
 line:
@@ -24,6 +25,7 @@ carrier: PILOT_PN, Ec/Io, delay, carrier, messages, SID, NID and BASE_ID, as imp
 
     tools/scan radio.sigmf-meta
     tools/scan --json --cells 3 radio.sigmf-meta
+    tools/scan --rate 2.4M --channel 283 --seconds 2 rtl_tcp://radio:1234
     tools/import_capture --lock --shift 1249851 radio.sigmf-meta radio.is95
 
 Exit status: 0 a pilot was found, 1 none, or the recording can't be taken, 2 wrong arguments.
@@ -34,12 +36,11 @@ import json
 import sys
 import tempfile
 from dataclasses import replace
-from fractions import Fraction
-from typing import Any, NamedTuple
+from typing import Any
 
 from cdma_tools.analysis.cell_table import CellFacts, table_of_cells
 from cdma_tools.analysis.cells import Search
-from cdma_tools.arguments import MOST_HERTZ, Parser, count_of, number_within, rate_of, text_of, whole_within
+from cdma_tools.arguments import MOST_HERTZ, Parser, count_of, number_within, text_of, whole_within
 from cdma_tools.cell_options import MOST_RANK
 from cdma_tools.errors import Refused, said
 from cdma_tools.overwriting import InputFile
@@ -50,39 +51,31 @@ from cdma_tools.radio.air import CHIP_RATE
 from cdma_tools.radio.confirmation import LEAST
 from cdma_tools.radio.front import Front
 from cdma_tools.radio.locking import Options
-from cdma_tools.radio.plain import TYPE_CHOICES, assumed, recording_told, with_hints
 from cdma_tools.radio.scanning import RASTER, Seen, everywhere, raster, scan
 from cdma_tools.radio.search_policy import SPAN, SearchPolicy, add_search_options, policy_of
-from cdma_tools.recordings import Recording, type_named
-from cdma_tools.sources import add_capture_option, is_described
+from cdma_tools.recordings import Recording
+from cdma_tools.sources.options import (
+    SOURCE_HELP,
+    add_radio_options,
+    add_sample_options,
+    add_seconds_option,
+    source_fault,
+)
+from cdma_tools.sources.taking import TakenSource, taken
 from cdma_tools.starting import called
 
 MOST_CENTRES = 100_000
+LIVE_SECONDS = 5.0  # of a source that may not end
 LOCK_SEARCH = 1_000.0  # Hz to each side of a pilot that was found
 MOST_CARRIERS = 2_000_000  # that are tried around all centres; each takes some 7 ms
-
-
-class Told(NamedTuple):
-    """The type, the rate and the path of a recording's samples."""
-
-    kind: str
-    rate: Fraction
-    path: str
 
 
 def parser() -> argparse.ArgumentParser:
     """The command line."""
     words = Parser("scan", __doc__)
-    words.add_argument("recording", type=InputFile, metavar="RECORDING", help="interleaved samples, or a .sigmf-meta")
-    words.add_argument(
-        "--type",
-        type=type_named,
-        choices=TYPE_CHOICES,
-        help="sample type, or auto to guess it from the bytes; not with a .sigmf-meta",
-    )
-    words.add_argument(
-        "--rate", type=rate_of, metavar="N", help="samples per second; with a .sigmf-meta if it has none"
-    )
+    words.add_argument("recording", type=InputFile, metavar="RECORDING", help=SOURCE_HELP)
+    add_sample_options(words)
+    add_seconds_option(words, LIVE_SECONDS)
     words.add_argument(
         "--skip", type=count_of, default=0, metavar="N", help="leave out the recording's first N samples"
     )
@@ -91,7 +84,6 @@ def parser() -> argparse.ArgumentParser:
         "--step", type=number_within(1_000, MOST_HERTZ), metavar="HZ", help="step of centre frequencies (default 1,250,000)"
     )
     where.add_argument("--all", action="store_true", help="every frequency in the width")
-    add_capture_option(words)
     add_search_options(words)
     words.add_argument(
         "--cells",
@@ -102,6 +94,7 @@ def parser() -> argparse.ArgumentParser:
     words.add_argument("--json", action="store_true", help="write one list of objects instead of lines")
     add_program_option(words)
     words.add_argument("--verbose", action="store_true", help="also print a line for each centre without a pilot")
+    add_radio_options(words)
     return words
 
 
@@ -129,19 +122,21 @@ def object_of(seen: Seen, cells: list[CellFacts] | None) -> dict[str, Any]:
     return told if cells is None else told | {"cells": [cell.as_json() for cell in cells]}
 
 
-def cells_at(seen: Seen, options: argparse.Namespace, told: Told, program: str | None) -> list[CellFacts]:
+def cells_at(seen: Seen, options: argparse.Namespace, recording: TakenSource, program: str | None) -> list[CellFacts]:
     """The table of cells on the carrier of a pilot that was found."""
     conjugate = "yes" if seen.is_conjugate else "no"
-    asked = Options(told.kind, told.rate, options.skip, seen.carrier, LOCK_SEARCH, conjugate)
+    asked = Options(recording.kind, recording.rate, options.skip, seen.carrier, LOCK_SEARCH, conjugate)
     with tempfile.TemporaryDirectory(prefix="cells-") as folder, bar(total=options.cells, text="cells") as shown:
-        with Search(told.path, asked, folder) as search:
+        with Search(recording.path, asked, folder) as search:
             return table_of_cells(search, options.cells, program, shown.update)
 
 
-def write_all(options: argparse.Namespace, found: list[Seen], told: Told, lines: list[str]) -> None:
+def write_all(options: argparse.Namespace, found: list[Seen], recording: TakenSource, lines: list[str]) -> None:
     """Writes what was found, with tables of cells if they are asked for."""
     program = program_or_hint(options.program, lines) if options.cells else None
-    tables = [cells_at(seen, options, told, program) if options.cells and seen.is_pilot else None for seen in found]
+    tables = [
+        cells_at(seen, options, recording, program) if options.cells and seen.is_pilot else None for seen in found
+    ]
     if options.json:
         rows = [object_of(seen, cells) for seen, cells in zip(found, tables) if seen.is_pilot or options.verbose]
         sys.stdout.write(json.dumps(rows) + "\n")
@@ -166,11 +161,8 @@ def fault_of(found: list[Seen], policy: SearchPolicy) -> str:
 
 def check_words(words: argparse.ArgumentParser, options: argparse.Namespace) -> None:
     """Ends with status 2 if options don't go together."""
-    if is_described(options.recording):
-        if options.type:
-            words.error("--type can't be given with a .sigmf-meta, a .sigmf or a .wav, which has its own")
-    elif options.type is None or options.rate is None:
-        words.error("--type and --rate are needed, unless RECORDING is a .sigmf-meta")
+    if fault := source_fault(options.recording, options):
+        words.error(fault)
 
 
 def policy_round(options: argparse.Namespace) -> SearchPolicy:
@@ -196,25 +188,29 @@ def centres_of(options: argparse.Namespace, rate: float, policy: SearchPolicy) -
     return centres
 
 
+def scan_all(options: argparse.Namespace, recording: TakenSource) -> None:
+    """Scans a recording, and writes what was found; refuses one without a pilot."""
+    if recording.rate < CHIP_RATE:
+        raise Refused(f"{text_of(recording.rate)} samples a second are fewer than the chip rate, {CHIP_RATE}")
+    policy, rate = policy_round(options), float(recording.rate)
+    centres, steps = centres_of(options, rate, policy), policy.steps_apart()
+    with Recording(recording.path, recording.kind, rate, options.skip) as samples, bar(
+        total=len(centres) * len(steps), text="scan"
+    ) as shown:
+        found = scan(Front(samples), centres, steps, shown.update)
+    lines: list[str] = []
+    write_all(options, found, recording, lines)
+    if fault := fault_of(found, policy):
+        raise Refused("; ".join([fault, *lines]))
+    for line in (*recording.remarks, *lines):
+        said(called("scan"), line)
+
+
 def main(arguments: list[str] | None = None) -> int:
     """Runs the tool, and returns its exit status."""
     words = parser()
     options = words.parse_args(arguments)
     check_words(words, options)
-    kind, rate, path = recording_told(options)
-    lines = assumed(options, kind, path)
-    if rate < CHIP_RATE:
-        raise Refused(f"{text_of(rate)} samples a second are fewer than the chip rate, {CHIP_RATE}")
-    policy = policy_round(options)
-    centres, steps = centres_of(options, float(rate), policy), policy.steps_apart()
-    with with_hints(lines):
-        with Recording(path, kind, float(rate), options.skip) as recording, bar(
-            total=len(centres) * len(steps), text="scan"
-        ) as shown:
-            found = scan(Front(recording), centres, steps, shown.update)
-        write_all(options, found, Told(kind, rate, path), lines)
-        if fault := fault_of(found, policy):
-            raise Refused(fault)
-    for line in lines:
-        said(called("scan"), line)
+    with taken(options.recording, options) as recording:
+        scan_all(options, recording)
     return 0

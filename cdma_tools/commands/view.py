@@ -34,6 +34,7 @@ import webbrowser
 from cdma_tools.arguments import Parser, number_within, whole_within
 from cdma_tools.commands import listen
 from cdma_tools.program import find_program
+from cdma_tools.sources.options import add_radio_options
 from cdma_tools.view.chip_store import ChipStore
 from cdma_tools.view.listener import ListenerProcess, shows_lines
 from cdma_tools.view.safety import LOOPBACK, Door
@@ -59,7 +60,7 @@ def parser() -> Parser:
     pages.add_argument("--exit", action="store_true", help="end when the source ends")
     paced = "play a file of samples N times as fast as it was recorded (default 1)"
     pages.add_argument("--speed", type=number_within(*SPEEDS), default=1.0, metavar="N", help=paced)
-    listen.add_tuning(words)
+    add_radio_options(words)
     listen.add_handset(words)
     listen.add_lock(words)
     return words

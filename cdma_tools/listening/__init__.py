@@ -10,5 +10,5 @@
 | `events`, `system_time` | lines with the chip at which each was known, and the time of chips |
 | `listening` | the lock and the runs of one stream |
 | `parts`, `sharing` | a recording in parts, done here or by workers, and joined |
-| `sources`, `line_writer`, `output` | sources of samples, and destinations of lines |
+| `line_writer`, `output` | destinations of lines |
 """

@@ -1,12 +1,7 @@
 """Listening to a live stream: to its end, or until an interrupt ends it in order."""
 
-import contextlib
-import threading
-from collections.abc import Iterable, Iterator
-from dataclasses import dataclass
+from collections.abc import Iterable
 from datetime import datetime, timezone
-from fractions import Fraction
-from typing import BinaryIO
 
 from cdma_tools.errors import Refused, said
 from cdma_tools.interrupts import each_hang_up, first_interrupt
@@ -14,34 +9,10 @@ from cdma_tools.listening.follow_run import Handset
 from cdma_tools.listening.line_writer import LineWriter
 from cdma_tools.listening.listening import Listening
 from cdma_tools.listening.output import Output
-from cdma_tools.listening.live_sources import LiveSource
-from cdma_tools.listening.sources import Backlog, Item, Skipped, read_pipe
 from cdma_tools.listening.stream_lock import LockOptions
+from cdma_tools.sources.backlog import Item, Skipped
+from cdma_tools.sources.live import Stream
 from cdma_tools.starting import called
-
-
-@dataclass(frozen=True)
-class Stream:
-    """A live source."""
-
-    kind: str
-    rate: Fraction
-    file: BinaryIO | None = None
-    live: LiveSource | None = None
-
-    @contextlib.contextmanager
-    def opened(self) -> Iterator[Backlog]:
-        """Its backlog, which a thread fills."""
-        backlog = Backlog()
-        if self.live is not None:
-            reader = threading.Thread(target=self.live.begin(backlog), daemon=True)
-        else:
-            reader = threading.Thread(target=read_pipe, args=(self.file, backlog), daemon=True)
-        reader.start()
-        try:
-            yield backlog
-        finally:
-            backlog.stop()
 
 
 class LiveListening:

@@ -16,10 +16,9 @@ from dataclasses import asdict, dataclass
 from typing import IO
 
 from cdma_tools.listening.pieces import Break, Chips, Lost, Piece
-from cdma_tools.listening.sources import BLOCK_SECONDS, blocks_of_file
 from cdma_tools.listening.stream_lock import LockOptions, StreamLock
 from cdma_tools.radio.air import CHIP_RATE
-from cdma_tools.recordings import TYPES, sample_count
+from cdma_tools.recordings import BLOCK_SECONDS, TYPES, blocks_of_file, sample_count
 from cdma_tools.sample_header import MOST_CHIPS, header
 
 # Lost chips that are written at once.

@@ -18,11 +18,10 @@ from cdma_tools.listening.events import Collected, Event, Remark
 from cdma_tools.listening.follow_run import Handset, sets_of
 from cdma_tools.listening.listening import Anchor, Listening
 from cdma_tools.listening.seams import OVERLAP, off_grid
-from cdma_tools.listening.sources import BLOCK_SECONDS, blocks_of_file
 from cdma_tools.listening.stream_lock import LockOptions
 from cdma_tools.listening.system_time import SystemTime, time_told
 from cdma_tools.radio.air import CHIP_RATE, PERIOD
-from cdma_tools.recordings import TYPES
+from cdma_tools.recordings import BLOCK_SECONDS, TYPES, blocks_of_file
 
 # Seconds of a part, for which it is locked before its beginning, and after its end.
 PART, LEAD, TRAIL = 600.0, 60.0, 5.0

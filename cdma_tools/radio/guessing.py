@@ -12,6 +12,8 @@ from numpy.typing import NDArray
 from cdma_tools.errors import Refused
 from cdma_tools.recordings import first_byte, sample_bytes
 
+# The name of a type that is taken from the samples' own bytes.
+AUTO = "auto"
 # Bytes of a piece that is looked at, and pieces, spread over the file.
 PIECE, PIECES = 1 << 14, 16
 # Spread of floating-point numbers around their median, in doublings; a Gaussian's is 1.6.

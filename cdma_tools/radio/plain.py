@@ -1,62 +1,21 @@
 """The plain ways from a recording to chips, with a known carrier and clock: as is, every n-th sample, resampled."""
 
 import argparse
-import contextlib
 from fractions import Fraction
-from typing import Any, Iterator
+from typing import Any
 
 import numpy
 from numpy.typing import NDArray
 
 from cdma_tools.arguments import text_of
 from cdma_tools.errors import Refused
-from cdma_tools.overwriting import STANDARD
 from cdma_tools.radio.air import CHIP_RATE
-from cdma_tools.radio.guessing import type_of
 from cdma_tools.recordings import TYPES, first_byte, sample_count
 from cdma_tools.sample_file import FORM, GREATEST, MOST_CHIPS
-from cdma_tools.sources import is_described, kept_input, stored_of
+from cdma_tools.sources.taking import TakenSource
 
 # The ratio up to which a rate is resampled at once: scipy's filter has some 20 taps for each unit of it.
 LARGEST_RATIO = 100_000
-# The type that is guessed from the samples' bytes.
-AUTO = "auto"
-TYPE_CHOICES = (*TYPES, AUTO)
-
-
-def recording_told(options: argparse.Namespace) -> tuple[str, Fraction, str]:
-    """The type, the rate and the path of the samples that the arguments name; a file keeps standard input."""
-    if is_described(options.recording):
-        stored = stored_of(options.recording, options.rate, options.capture)
-        return stored.kind, stored.rate, stored.path
-    if options.recording == STANDARD:
-        options.recording = kept_input(options.type, options.rate)
-    kind = type_of(options.recording) if options.type == AUTO else options.type
-    return kind, options.rate, options.recording
-
-
-def assumed(options: argparse.Namespace, kind: str, path: str) -> list[str]:
-    """Returns the remarks on the samples' type: that it was taken from the bytes, or that these look like another."""
-    if options.type == AUTO:
-        return [f"the sample type is guessed from the bytes: {kind}"]
-    try:
-        looks = type_of(path)
-    except Refused:
-        return []
-    return (
-        []
-        if looks == kind
-        else [f"the samples are read as {kind}, but their bytes look like {looks}: is the type right?"]
-    )
-
-
-@contextlib.contextmanager
-def with_hints(lines: list[str]) -> Iterator[None]:
-    """Adds the remarks on the samples' type to the reason why a recording is refused."""
-    try:
-        yield
-    except Refused as why:
-        raise Refused("; ".join([str(why), *lines])) from None
 
 
 def resampled(branch: NDArray[Any], up: int, down: int) -> NDArray[numpy.float64]:
@@ -160,9 +119,9 @@ def scaled(chips: NDArray[Any], scale: float | str | None, version: int) -> tupl
     return parts.astype(FORM[version]), factor
 
 
-def plain_chips(options: argparse.Namespace) -> tuple[NDArray[Any], float]:
+def plain_chips(options: argparse.Namespace, recording: TakenSource) -> tuple[NDArray[Any], float]:
     """The chips to write, and the scale that was taken."""
-    kind, rate, path = recording_told(options)
+    kind, rate, path = recording.kind, recording.rate, recording.path
     plan = Plan(rate, options)
     most = None if options.count is None else plan.samples_for(options.count)
     parts = read_samples(path, kind, options.skip, most)

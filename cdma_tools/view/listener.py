@@ -14,11 +14,11 @@ from cdma_tools.frequencies import frequency_given
 from cdma_tools.json_lines import LONGEST, as_json, as_line
 from cdma_tools.lines import NoLine
 from cdma_tools.listening.line_writer import Already
-from cdma_tools.listening.live import Stream
 from cdma_tools.listening.parts import Recording
 from cdma_tools.radio.search_policy import policy_of
 from cdma_tools.report.heard_lines import is_lines
-from cdma_tools.sources import is_described, stored_of
+from cdma_tools.sources.live import Stream
+from cdma_tools.sources.stored import is_described, stored_of
 from cdma_tools.starting import INTERRUPTED
 from cdma_tools.view.chip_store import ChipKeeper, ChipStore
 from cdma_tools.view.outbox import Outbox

@@ -8,10 +8,10 @@ from dataclasses import dataclass
 from fractions import Fraction
 
 from cdma_tools.errors import Refused
-from cdma_tools.listening.live import Stream
 from cdma_tools.listening.parts import Recording
-from cdma_tools.listening.sources import BLOCK_SECONDS, Backlog, blocks_of_file
-from cdma_tools.recordings import TYPES
+from cdma_tools.recordings import BLOCK_SECONDS, TYPES, blocks_of_file
+from cdma_tools.sources.backlog import Backlog
+from cdma_tools.sources.live import Stream
 
 
 @dataclass(frozen=True)
@@ -29,7 +29,7 @@ class PacedRecording(Stream):
         return cls(kind, rate, path=recording.path, count=recording.count, speed=speed)
 
     @contextlib.contextmanager
-    def opened(self) -> Iterator[Backlog]:
+    def opened(self, is_tried_again: bool = True) -> Iterator[Backlog]:
         """Its backlog, which a thread fills at the recording's pace."""
         backlog = Backlog()
         threading.Thread(target=self.play, args=(backlog,), daemon=True).start()

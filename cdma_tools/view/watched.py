@@ -12,11 +12,11 @@ from cdma_tools.listening.line_writer import LineWriter
 from cdma_tools.listening.listening import Listening
 from cdma_tools.listening.live import LiveListening
 from cdma_tools.listening.pieces import Break, Chips, Lost, Piece
-from cdma_tools.listening.sources import Backlog, Item
 from cdma_tools.listening.stream_lock import LockOptions, State, StreamLock
 from cdma_tools.radio.air import CHIP_RATE
 from cdma_tools.radio.strength import emptied
 from cdma_tools.recordings import TYPES
+from cdma_tools.sources.backlog import Backlog, Item
 from cdma_tools.starting import called
 from cdma_tools.view.chip_store import ChipKeeper
 from cdma_tools.view.outbox import Outbox

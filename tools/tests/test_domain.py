@@ -430,7 +430,7 @@ class Recorded(Recordings):
             (1, "No such file", (self.at("none.is95"),)),
             (1, "not a sample file", (os.path.abspath(__file__),)),
             (1, "no program at /none", (few, "--program", "/none")),
-            (2, "--type and --rate are needed", (quiet, "--type", "cu8")),
+            (2, "give --rate, unless", (quiet, "--type", "cu8")),
             (2, "can't both go to standard output", (quiet, "--plot", "-", "--json", "-")),
             (2, "--skip goes with a recording", (quiet, "--skip", "9")),
             (2, "--tap needs --limits", (quiet, "--tap")),

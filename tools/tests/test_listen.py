@@ -40,8 +40,9 @@ from cdma_tools.listening.listening import Anchor, Listening
 from cdma_tools.listening.parts import Joiner, Part, PartHeard, Recording, part_at, parts_of
 from cdma_tools.listening.pieces import Unheard
 from cdma_tools.listening.sharing import joined_parts
-from cdma_tools.listening.sources import Backlog, ServerReader, Skipped
-from cdma_tools.listening.sources import Server as RadioServer
+from cdma_tools.sources.backlog import Backlog, Skipped
+from cdma_tools.sources.rtl_tcp import Server as RadioServer
+from cdma_tools.sources.rtl_tcp import ServerReader
 from cdma_tools.listening.stream_lock import LockOptions
 
 SECONDS = float(os.environ.get("CDMA_LISTEN_SECONDS", "20"))
@@ -429,7 +430,7 @@ class NoServerTest(unittest.TestCase):
             (short.address, "the server closed the connection before its header"),
             (f"rtl_tcp://127.0.0.1:{port}", "Connection refused"),
             ("rtl_tcp://127.0.0.1:99999", "Port out of range"),
-            ("rtl_tcp://", "not an address of the form"),
+            ("rtl_tcp://", "not an address of the form rtl_tcp://HOST:PORT"),
         ):
             status, wrote, said = listen("--rate", RATE, address)
             self.assertEqual((status, wrote, len(said.splitlines())), (1, b"", 1), said)
@@ -443,8 +444,8 @@ class RefusedTest(unittest.TestCase):
     def test_arguments(self) -> None:
         wrong: tuple[tuple[list[object], str], ...] = (
             ([], "arguments are required: SOURCE"),
-            (["-"], "--type and --rate are needed"),
-            (["--type", "cu8", "-"], "--type and --rate are needed"),
+            (["-"], ", unless the recording is"),
+            (["--type", "cu8", "-"], ", unless the recording is"),
             (["--type", "cu8", "--rate", "1228799", "-"], "not 1,228,800 to 100,000,000"),
             (["--type", "cu8", "--rate", "2e9", "-"], "not 1,228,800 to 100,000,000"),
             (["--type", "cu9", "--rate", "2400000", "-"], "invalid choice"),

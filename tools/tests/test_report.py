@@ -428,7 +428,7 @@ class Recordings(Folder):
     def imports(self, remarks: list[str], data: bytes = b"", why: str = "") -> None:
         """Sets the import's further remarks and what it writes as the file, or why it refuses."""
 
-        def take(options: argparse.Namespace, look: object) -> Lock:
+        def take(options: argparse.Namespace, recording: object, look: object) -> Lock:
             self.taken.append(options)
             if why:
                 raise Refused(why)
@@ -477,7 +477,7 @@ class Recordings(Folder):
         self.assertEqual(hostile.elements, plain.elements)
         self.assertIn(MARKUP, hostile.texts["td"])
         for told in (b"[]", b"{", b'{"global": 3, "captures": 4}', b'{"captures": {"a": 1}}', b"\xff", b"[" * 100_000):
-            self.page(file=self.keep("strange.sigmf-meta", told))
+            self.page(status=10, file=self.keep("strange.sigmf-meta", told))
 
     def test_wrong_arguments_of_the_import(self) -> None:
         """The import's own command line judges them, and there is no page."""

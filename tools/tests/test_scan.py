@@ -106,7 +106,7 @@ class Scans(Recordings):
         path = self.recorded()
         for why, words in (
             ("not allowed with", ("--all", "--step", "1e6", path)),
-            ("--type and --rate are needed", (self.at("in.sigmf-data"),)),
+            ("give --type and --rate, unless", (self.at("in.sigmf-data"),)),
             ("--type can't be given", ("--type", "ci8", path)),
             ("--search: not above 0, at most 614,400", ("--search", "1e6", path)),
         ):

@@ -37,17 +37,17 @@ from cdma_tools.listening.events import Collected, Event
 from cdma_tools.listening.follow_run import FollowRun, Handset, Sets
 from cdma_tools.listening.line_writer import LineWriter
 from cdma_tools.listening.listening import Listening
-from cdma_tools.listening.live import Stream, hear_stream
-from cdma_tools.listening.live_sources import scheme_of
+from cdma_tools.listening.live import hear_stream
 from cdma_tools.listening.output import GrowingFile
 from cdma_tools.listening.pieces import Chips
 from cdma_tools.listening.relay import MOST_KILLED, Relay
 from cdma_tools.listening.seams import LEAST_OVERLAP
 from cdma_tools.listening.searching import SLICE_BINS, LiveSearch
-from cdma_tools.listening.sources import Backlog, Item, Skipped
 from cdma_tools.listening.stream_lock import LockOptions, StreamLock
 from cdma_tools.radio.acquisition import bins_within
 from cdma_tools.radio.search_policy import MOST_SEARCH
+from cdma_tools.sources.backlog import Backlog, Item, Skipped
+from cdma_tools.sources.live import Stream, scheme_of
 
 # The place of the recording's pilot: the first slice of a live search finds it, however busy the machine is.
 NEAR = ["--shift", "3000", "--conjugate", "no"]

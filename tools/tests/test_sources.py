@@ -1,4 +1,4 @@
-"""Recordings by their names, and live sources: cdma_tools.sources and cdma_tools.listening.live_sources."""
+"""Recordings by their names, and live sources: cdma_tools.sources."""
 
 import importlib.util
 import io
@@ -22,12 +22,13 @@ needs("numpy", "scipy")
 import numpy  # noqa: E402
 from numpy.typing import NDArray  # noqa: E402
 
-from cdma_tools import sources  # noqa: E402
+from cdma_tools.sources import stored as sources  # noqa: E402
 from cdma_tools.arguments import hertz_of, rate_of  # noqa: E402
 from cdma_tools.errors import Refused  # noqa: E402
 from cdma_tools.frequencies import channel_at, channel_hertz  # noqa: E402
-from cdma_tools.listening import live_sources as live  # noqa: E402
-from cdma_tools.listening.sources import Backlog, Server, Told, Tuning  # noqa: E402
+from cdma_tools.sources import live  # noqa: E402
+from cdma_tools.sources.backlog import Backlog, Told  # noqa: E402
+from cdma_tools.sources.rtl_tcp import Server, Tuning  # noqa: E402
 from cdma_tools.recordings import Recording, type_named  # noqa: E402
 from tools.tests.radio_helping import Recordings  # noqa: E402
 

@@ -413,7 +413,7 @@ class TheServer(Server):
 
     def test_what_is_no_source(self) -> None:
         for words, status, told in (
-            ((os.path.join(self.folder, "none.jsonl"),), 2, "--type and --rate are needed"),
+            ((os.path.join(self.folder, "none.jsonl"),), 2, "give --type and --rate"),
             (("--type", "cu8", "--rate", "2M", os.path.join(self.folder, "none")), 1, "No such file"),
             ((self.lines, "--port", "70000"), 2, "--port"),
             ((self.lines, "--speed", "0"), 2, "--speed"),

@@ -14,26 +14,19 @@ received by then stays.
 
 from __future__ import annotations
 
+import contextlib
 import socket
+import threading
 from collections.abc import Callable, Iterator
 from dataclasses import dataclass
 from fractions import Fraction
-from typing import Any
+from typing import Any, BinaryIO
 from urllib.parse import urlsplit
 
 from cdma_tools.errors import Refused
-from cdma_tools.listening.sources import (
-    DEFAULT_PORT,
-    PIECE_BYTES,
-    SERVER_TIMEOUT,
-    Backlog,
-    Item,
-    Server,
-    ServerReader,
-    Told,
-    Tuning,
-)
 from cdma_tools.recordings import TYPES
+from cdma_tools.sources.backlog import PIECE_BYTES, STANDARD_INPUT, Backlog, Item, Told, read_pipe
+from cdma_tools.sources.rtl_tcp import DEFAULT_PORT, SERVER_TIMEOUT, Server, ServerReader, Tuning
 
 RTL_TCP, TCP, UDP, ZMQ, SOAPY = "rtl_tcp", "tcp", "udp", "zmq", "soapy"
 # The type that each sends, unless it sends any; and whether it can be tuned.
@@ -69,16 +62,49 @@ class LiveSource:
             raise Refused(f"{self.address}: not an address of the form {self.scheme}://HOST:PORT")
         return parts.hostname, port
 
-    def begin(self, backlog: Backlog) -> Callable[[], None]:
-        """Connects to the source, and returns what fills a backlog with its samples, in its own thread."""
+    def begin(self, backlog: Backlog, is_tried_again: bool = True) -> Callable[[], None]:
+        """Connects to the source, and returns what fills a backlog with its samples, in its own thread.
+
+        If the connection to an rtl_tcp server is lost it connects again, unless is_tried_again is False.
+        """
         if self.scheme == RTL_TCP:
             host, port = self.place
             server = Server(host, port, int(self.rate), TYPES[self.kind].size, self.tuning)
-            return ServerReader(server, backlog).run
+            return ServerReader(server, backlog, is_tried_again).run
         items = {TCP: tcp_items, UDP: udp_items, ZMQ: zmq_items, SOAPY: soapy_items}[self.scheme](self)
         first = next(items)  # reaches it
         assert first == b""
         return lambda: fill(backlog, items)
+
+
+@dataclass(frozen=True)
+class Stream:
+    """A live source, or a pipe."""
+
+    kind: str
+    rate: Fraction
+    file: BinaryIO | None = None
+    live: LiveSource | None = None
+    path: str = STANDARD_INPUT  # of the pipe
+
+    @property
+    def name(self) -> str:
+        """Its name in faults."""
+        return self.path if self.live is None else self.live.address
+
+    @contextlib.contextmanager
+    def opened(self, is_tried_again: bool = True) -> Iterator[Backlog]:
+        """Its backlog, which a thread fills; see `LiveSource.begin` for is_tried_again."""
+        backlog = Backlog()
+        if self.live is not None:
+            reader = threading.Thread(target=self.live.begin(backlog, is_tried_again), daemon=True)
+        else:
+            reader = threading.Thread(target=read_pipe, args=(self.file, backlog, self.name), daemon=True)
+        reader.start()
+        try:
+            yield backlog
+        finally:
+            backlog.stop()
 
 
 def scheme_of(source: str) -> str | None:

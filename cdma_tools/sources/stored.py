@@ -8,24 +8,19 @@
 | any other | nothing: its type and rate have to be given |
 """
 
-import argparse
 import os
 import struct
-import sys
 import tarfile
-import tempfile
 from dataclasses import dataclass
 from fractions import Fraction
 from typing import Any, BinaryIO, Iterator
 
 from cdma_tools import sigmf
-from cdma_tools.arguments import whole_within
 from cdma_tools.errors import Refused
 from cdma_tools.recordings import TYPES, SamplePath
 
 ARCHIVE, WAVE = ".sigmf", ".wav"
 DESCRIBED = (sigmf.META, ARCHIVE, WAVE)
-MOST_CAPTURES = 1_000_000
 # Formats of a WAV file, by their number and their bits, and the number that refers to another place.
 PCM, FLOATING, EXTENSIBLE = 1, 3, 0xFFFE
 WAVE_TYPES = {
@@ -36,7 +31,6 @@ SUBFORMAT_PLACE, SIZES_PLACE = 24, 8
 # The chunk of SDR programs: two times of 16 bytes, and then the frequency of the middle in Hz.
 FREQUENCY_PLACE = 32
 TO_THE_END = (0, 0xFFFF_FFFF)
-MOST_KEPT = 28  # seconds of standard input that are kept: what a sample file has room for, and a second
 MOST_CHUNK = 1 << 16  # bytes of a chunk, but for the samples', that are read
 
 
@@ -53,16 +47,6 @@ class Stored:
 def is_described(path: str) -> bool:
     """Whether a recording has its own type and rate."""
     return path.endswith(DESCRIBED)
-
-
-def add_capture_option(words: argparse._ActionsContainer) -> None:
-    """Adds --capture, which chooses one of several captures."""
-    words.add_argument(
-        "--capture",
-        type=whole_within(1, MOST_CAPTURES),
-        metavar="N",
-        help="capture N of a SigMF recording of several; default: all, if they have one frequency",
-    )
 
 
 def stored_of(path: str, rate: Fraction | None, capture: int | None = None) -> Stored:
@@ -163,26 +147,3 @@ def wave_format(path: str, data: bytes) -> tuple[str, int]:
     if not rate:
         raise Refused(f"{path}: a rate of 0 samples a second")
     return WAVE_TYPES[form, bits], rate
-
-
-KEPT: list[Any] = []  # files that hold standard input until this process ends
-
-
-def kept_input(kind: str | None, rate: Fraction) -> str:
-    """The path of a file with what comes on standard input: at most as much as a sample file has room for."""
-    one = TYPES[kind].size if kind in TYPES else 1
-    most = int(MOST_KEPT * rate) * (one if one > 1 else max(known.size for known in TYPES.values()))
-    file = tempfile.NamedTemporaryFile(prefix="standard-input-")
-    KEPT.append(file)
-    held = 0
-    try:
-        while held < most and (data := sys.stdin.buffer.read(min(1 << 20, most - held))):
-            file.write(data)
-            held += len(data)
-        file.truncate(held // one * one)  # the source may have ended within a sample
-        file.flush()
-    except OSError as why:
-        raise Refused(f"standard input: {why.strerror}") from None
-    if held < one:
-        raise Refused("standard input: no samples arrived")
-    return file.name

@@ -1,55 +1,22 @@
-"""Sources of samples: a file, standard input, or a server of samples with the protocol of rtl_tcp.
+"""A server of samples with the protocol of rtl_tcp, which tunes a radio."""
 
-A source that can't wait is read by a thread of its own into a backlog, so that a search doesn't make its writer lose
-samples. If a server's backlog is full samples are left out, and that is reported; a pipe's writer must wait.
-"""
-
-import os
 import socket
 import struct
-import threading
 import time
-from collections import deque
-from collections.abc import Iterator
 from dataclasses import dataclass
-from typing import BinaryIO
 
-from cdma_tools.errors import Refused
-from cdma_tools.recordings import first_byte
+from cdma_tools.errors import Refused, text_of
+from cdma_tools.sources.backlog import PIECE_BYTES, Backlog, Skipped, Told
 
-# Seconds of samples that are read of a file at once.
-BLOCK_SECONDS = 0.05
-# Bytes that are taken of a pipe or of a server at once, and those of a backlog.
-PIECE_BYTES, BACKLOG_BYTES = 1 << 16, 1 << 25
-# Seconds after which it is looked again whether a backlog is to end.
-LOOK_AGAIN = 0.2
-# The protocol of rtl_tcp: a header of its word, the tuner's type and the number of its gains; and commands of a byte
-# and a number, of which these set the middle of the band in Hz, the rate, who sets the gain (1: by hand), the gain in
-# tenths of dB, the correction in millionths, the automatic gain of the converter, and the bias tee.
+# A header of its word, the tuner's type and the number of its gains; and commands of a byte and a number, of which
+# these set the middle of the band in Hz, the rate, who sets the gain (1: by hand), the gain in tenths of dB, the
+# correction in millionths, the automatic gain of the converter, and the bias tee.
 SERVER_HEADER, SERVER_WORD = struct.Struct(">4sII"), b"RTL0"
 COMMAND, SET_FREQUENCY, SET_RATE, SET_GAIN_MODE, SET_GAIN, SET_PPM = struct.Struct(">BI"), 1, 2, 3, 4, 5
 SET_AGC, SET_BIAS_TEE, WORD = 8, 14, 0xFFFF_FFFF
 SCHEME, DEFAULT_PORT = "rtl_tcp", 1234
 # Seconds for which a server may be silent, and from one try to reach it to the next.
 SERVER_TIMEOUT, RETRY = 10.0, 5.0
-
-
-@dataclass(frozen=True)
-class Skipped:
-    """A number of samples that won't come, and the reason."""
-
-    samples: int
-    why: str
-
-
-@dataclass(frozen=True)
-class Told:
-    """A message of a source."""
-
-    text: str
-
-
-Item = bytes | Skipped | Told
 
 
 @dataclass(frozen=True)
@@ -92,98 +59,15 @@ class Server:
         return f"{SCHEME}://{self.host}:{self.port}"
 
 
-def blocks_of_file(path: str, first: int, count: int, block: int) -> Iterator[bytes]:
-    """Yields bytes first to first + count - 1 of a file, some at a time; raises Refused if they can't be read."""
-    try:
-        with open(path, "rb", buffering=0) as file:
-            file.seek(first_byte(path) + first)
-            left = count
-            while left > 0:
-                data = file.read(min(block, left))
-                if not data:
-                    raise Refused(f"{path}: the file ended early")
-                left -= len(data)
-                yield data
-    except OSError as why:
-        raise Refused(f"{path}: {why.strerror}") from None
-
-
-class Backlog:
-    """Items that a thread has taken from a source, and that wait for the lock."""
-
-    def __init__(self, most: int = BACKLOG_BYTES) -> None:
-        """An empty backlog, with space for `most` bytes."""
-        self.most = most
-        self.items: deque[Item | Refused | None] = deque()
-        self.bytes = 0
-        self.changed = threading.Condition()
-        self.is_stopped = threading.Event()
-        self.is_ending = False  # whether only what has come so far is wanted
-
-    def has_room(self, size: int) -> bool:
-        """Whether there is space for `size` more bytes; messages need none."""
-        return not size or self.bytes + size <= self.most
-
-    def put(self, item: Item | Refused | None, may_wait: bool = True) -> bool:
-        """Adds an item, None as the end; waits for space or, if it may not, returns False."""
-        size = len(item) if isinstance(item, bytes) else 0
-        with self.changed:
-            if self.is_ending:
-                return True
-            while not self.has_room(size) and not self.is_stopped.is_set():
-                if not may_wait:
-                    return False
-                self.changed.wait(timeout=LOOK_AGAIN)
-            self.items.append(item)
-            self.bytes += size
-            self.changed.notify_all()
-        return True
-
-    def get(self) -> Item | Refused | None:
-        """The next item, as soon as there is one; None at the end."""
-        with self.changed:
-            while not self.items:
-                if self.is_ending:
-                    return None
-                self.changed.wait(timeout=LOOK_AGAIN)
-            item = self.items.popleft()
-            if isinstance(item, bytes):
-                self.bytes -= len(item)
-            self.changed.notify_all()
-        return item
-
-    def __iter__(self) -> Iterator[Item]:
-        """Yields the items as they come; raises Refused if the source did."""
-        while (item := self.get()) is not None:
-            if isinstance(item, Refused):
-                raise item
-            yield item
-
-    def end(self) -> None:
-        """Nothing more is wanted than what has come so far; it may be called by a signal."""
-        self.is_ending = True
-
-    def stop(self) -> None:
-        """The items are no longer wanted."""
-        self.is_stopped.set()
-
-
-def read_pipe(file: BinaryIO, backlog: Backlog) -> None:
-    """Takes all that comes from a pipe; runs in a thread of its own."""
-    try:
-        while not backlog.is_stopped.is_set() and (data := os.read(file.fileno(), PIECE_BYTES)):
-            backlog.put(data)
-        backlog.put(None)
-    except OSError as why:
-        backlog.put(Refused(f"standard input: {why.strerror}"))
-
-
 class ServerReader:
     """Takes the samples of a server, and connects again if it goes away."""
 
-    def __init__(self, server: Server, backlog: Backlog) -> None:
-        """Connects to the server; raises Refused if none there speaks the protocol."""
-        self.server, self.backlog = server, backlog
+    def __init__(self, server: Server, backlog: Backlog, is_tried_again: bool = True) -> None:
+        """Connects to the server; raises Refused if none there speaks the protocol.
+
+        With is_tried_again a server that goes away is tried until it is there again; otherwise that is a fault.
+        """
+        self.server, self.backlog, self.is_tried_again = server, backlog, is_tried_again
         self.received = self.lost = 0  # bytes of this connection, and those of the last ones that found no room
         self.since = 0.0  # when the last bytes came
         try:
@@ -218,11 +102,15 @@ class ServerReader:
                 data = self.connection.recv(PIECE_BYTES)
                 why = "the server closed the connection"
             except OSError as fault:
-                data, why = b"", fault.strerror or str(fault)
+                is_silent = isinstance(fault, TimeoutError) and not fault.errno
+                data, why = b"", f"no samples for {SERVER_TIMEOUT:.0f} s" if is_silent else text_of(fault)
             if data:
                 self.take(data)
-            else:
+            elif self.is_tried_again:
                 self.reach_again(why)
+            else:
+                self.backlog.put(Refused(f"{self.server.name}: {why}"))
+                break
         self.connection.close()
 
     def take(self, data: bytes) -> None:
