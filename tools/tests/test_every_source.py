@@ -99,7 +99,7 @@ def page_in(folder: str) -> bool:
 def remarks_in(folder: str, source: str) -> list[str]:
     """The remarks on a source that a page has."""
     with open(os.path.join(folder, "page.html"), encoding="utf-8") as file:
-        return re.findall(f"{re.escape(source)}: it ended[^<]*", file.read())
+        return re.findall(f"{re.escape(source)}: the stream ended[^<]*", file.read())
 
 
 TOOLS = (
@@ -196,7 +196,7 @@ class Stand:
     def rtl_tcp(self, ending: Ending) -> Offered:
         """A server with the protocol of rtl_tcp."""
         port = self.server(b"RTL0" + bytes(8), self.data("cu8", ending), ending)
-        told = TOLD[ending] if ending in (Ending.SILENCE, Ending.REFUSAL) else "it closed the connection"
+        told = TOLD[ending] if ending in (Ending.SILENCE, Ending.REFUSAL) else "the server closed the connection"
         return Offered(f"rtl_tcp://{HOST}:{port}", ("--rate", "2457.6k", "--channel", 384, "--band", 800), told, 1)
 
     def udp(self, ending: Ending) -> Offered:
@@ -243,7 +243,7 @@ class Stand:
         """A radio of SoapySDR, which sends whole samples: it fails, falls silent, or isn't there."""
         samples = numpy.frombuffer(self.samples["cf32_le"], numpy.complex64)
         self.stack.enter_context(mock.patch.dict(sys.modules, {"SoapySDR": soapy_module(samples, ending)}))
-        told = {Ending.SILENCE: TOLD[ending], Ending.REFUSAL: "no match"}.get(ending, "it failed, with -2")
+        told = {Ending.SILENCE: TOLD[ending], Ending.REFUSAL: "no match"}.get(ending, "reading failed with error -2")
         return Offered("soapy:driver=stand", ("--rate", RATE, "--frequency", "881.52M", "--gain", 30), told, 1)
 
     def standard_input(self, ending: Ending) -> Offered:
@@ -292,12 +292,12 @@ def soapy_module(samples: Any, ending: Ending) -> types.ModuleType:
 
 
 TOLD = {
-    Ending.END: r"it ended after 0\.244 s|^$",
-    Ending.HALF: "within a sample: 1 bytes are left out",
+    Ending.END: r"the stream ended after 0\.244 s|^$",
+    Ending.HALF: "ended within a sample: its last 1 bytes were dropped",
     Ending.SILENCE: "no samples for 0 s",
     Ending.REFUSAL: "Connection refused",
 }
-TOLD_OF_PIPES = TOLD | {Ending.END: "^$", Ending.REFUSAL: "no samples came|no pilot stands out anywhere"}
+TOLD_OF_PIPES = TOLD | {Ending.END: "^$", Ending.REFUSAL: "no samples arrived|no pilot stands out anywhere"}
 STATUS = {Ending.END: 0, Ending.HALF: 0, Ending.SILENCE: 1, Ending.REFUSAL: 1}
 SOURCES: tuple[Callable[[Stand, Ending], Offered], ...] = (
     Stand.rtl_tcp, Stand.tcp, Stand.udp, Stand.zmq, Stand.soapy, Stand.standard_input, Stand.fifo,

@@ -22,15 +22,18 @@ needs("numpy", "scipy")
 import numpy  # noqa: E402
 from numpy.typing import NDArray  # noqa: E402
 
-from cdma_tools.sources import stored as sources  # noqa: E402
 from cdma_tools.arguments import hertz_of, rate_of  # noqa: E402
+from cdma_tools.commands import domain, import_capture, listen, report, scan  # noqa: E402
 from cdma_tools.errors import Refused  # noqa: E402
 from cdma_tools.frequencies import channel_at, channel_hertz  # noqa: E402
+from cdma_tools.recordings import Recording, type_named  # noqa: E402
 from cdma_tools.sources import live  # noqa: E402
+from cdma_tools.sources import stored as sources  # noqa: E402
 from cdma_tools.sources.backlog import Backlog, Told  # noqa: E402
 from cdma_tools.sources.rtl_tcp import Server, Tuning  # noqa: E402
-from cdma_tools.recordings import Recording, type_named  # noqa: E402
-from tools.tests.radio_helping import Recordings  # noqa: E402
+from cdma_tools.sources.stored import Stored as StoredSamples  # noqa: E402
+from cdma_tools.sources.taking import TakenSource, take  # noqa: E402
+from tools.tests.radio_helping import Recordings, run_main  # noqa: E402
 
 RATE = 2_400_000
 PARTS = numpy.random.default_rng(1).integers(-3_000, 3_000, 2_000)
@@ -49,7 +52,9 @@ def fields_of(form: int, bits: int, channels: int = 2) -> bytes:
     return struct.pack("<HHIIHH", form, channels, RATE, RATE * block, block, bits)
 
 
-class Stored(unittest.TestCase):
+class Kept(unittest.TestCase):
+    """A folder for files of samples."""
+
     def setUp(self) -> None:
         self.folder = temporary_folder(self.addCleanup)
 
@@ -60,11 +65,27 @@ class Stored(unittest.TestCase):
             file.write(data)
         return path
 
-    def parts(self, stored: sources.Stored) -> NDArray[Any]:
+    def parts(self, stored: StoredSamples | TakenSource) -> NDArray[Any]:
         """Returns all I and Q values of a recording."""
         with Recording(stored.path, stored.kind, float(stored.rate)) as recording:
             return recording.read(0, recording.count).view(numpy.float32)
 
+    def meta(self, captures: list[dict[str, Any]], **more: Any) -> dict[str, Any]:
+        """Returns the object of a recording of 16 bits."""
+        return {"global": {"core:datatype": "ci16_le", "core:sample_rate": RATE, **more}, "captures": captures}
+
+    def archive(self, names: dict[str, bytes]) -> str:
+        """Returns the path of an archive of these files."""
+        path = os.path.join(self.folder, "x.sigmf")
+        with tarfile.open(path, "w") as file:
+            for name, data in names.items():
+                told = tarfile.TarInfo(name)
+                told.size = len(data)
+                file.addfile(told, io.BytesIO(data))
+        return path
+
+
+class Stored(Kept):
     def test_names_of_types_and_numbers(self) -> None:
         named = {"ci16": "ci16_le", "cf32": "cf32_le", "cu8": "cu8", "cf64": "cf64_le", "ci16_be": "ci16_be", "x": "x"}
         self.assertEqual({name: type_named(name) for name in named}, named)
@@ -76,7 +97,7 @@ class Stored(unittest.TestCase):
     def test_further_types(self) -> None:
         for kind, form in (("cf32_be", ">f4"), ("ci32_le", "<i4"), ("cf64_le", "<f8")):
             path = self.kept(kind, PARTS.astype(form).tobytes())
-            self.assertTrue(numpy.array_equal(self.parts(sources.Stored(kind, Fraction(RATE), path)), PARTS), kind)
+            self.assertTrue(numpy.array_equal(self.parts(StoredSamples(kind, Fraction(RATE), path)), PARTS), kind)
 
     def test_wave_files(self) -> None:
         auxi = b"auxi" + struct.pack("<I", 64) + bytes(32) + struct.pack("<I", 878_490_000) + bytes(28)
@@ -112,20 +133,6 @@ class Stored(unittest.TestCase):
                 sources.stored_of(self.kept("x.wav", content), None)
         with self.assertRaisesRegex(Refused, "--rate can't be given"):
             sources.stored_of(self.kept("x.wav", wave(fields_of(1, 16), data)), Fraction(RATE))
-
-    def meta(self, captures: list[dict[str, Any]], **more: Any) -> dict[str, Any]:
-        """Returns the object of a recording of 16 bits."""
-        return {"global": {"core:datatype": "ci16_le", "core:sample_rate": RATE, **more}, "captures": captures}
-
-    def archive(self, names: dict[str, bytes]) -> str:
-        """Returns the path of an archive of these files."""
-        path = os.path.join(self.folder, "x.sigmf")
-        with tarfile.open(path, "w") as file:
-            for name, data in names.items():
-                told = tarfile.TarInfo(name)
-                told.size = len(data)
-                file.addfile(told, io.BytesIO(data))
-        return path
 
     def test_archives(self) -> None:
         data = PARTS.astype("<i2").tobytes()
@@ -195,6 +202,157 @@ class Tools(Recordings):
         self.assertEqual((status, wrote == wanted), (0, True), said)
         status, wrote, said = self.run_tool(*words, data=b"\1")
         self.assertEqual((status, wrote, said), (1, b"", "import_capture: standard input: no samples arrived\n"))
+
+
+def taken_by_import(words: list[str], name: str) -> TakenSource:
+    """The samples that an import takes."""
+    parser = import_capture.parser()
+    options = parser.parse_args([*words, name, "-"])
+    import_capture.check_words(parser, options)
+    return take(name, options)
+
+
+def taken_by_scan(words: list[str], name: str) -> TakenSource:
+    """The samples that a scan takes."""
+    parser = scan.parser()
+    options = parser.parse_args([*words, name])
+    scan.check_words(parser, options)
+    return take(name, options)
+
+
+def taken_by_domain(words: list[str], name: str) -> TakenSource:
+    """The samples whose code domain is measured."""
+    parser = domain.parser()
+    options = parser.parse_args([*words, name])
+    domain.check_arguments(parser, options)
+    return take(name, options)
+
+
+def taken_by_report(words: list[str], name: str) -> TakenSource:
+    """The samples of which a page is made."""
+    parser = report.parser()
+    options = parser.parse_args([*words, name, "--out", "-"])
+    report.check_words(parser, options)
+    return take(name, report.import_options(options, "-"))
+
+
+def taken_by_listening(words: list[str], name: str) -> StoredSamples:
+    """The samples that are listened to."""
+    parser = listen.parser()
+    options = parser.parse_args([*words, name])
+    listen.check(parser, options)
+    source = listen.source_of(options)
+    assert isinstance(source, listen.Recording)
+    return StoredSamples(source.lock.kind, Fraction(source.lock.rate), source.path)
+
+
+TAKEN_BY = (taken_by_import, taken_by_scan, taken_by_domain, taken_by_report, taken_by_listening)
+
+
+class EveryForm(Kept):
+    """Each tool takes each form of a recording, and refuses the same arguments."""
+
+    def held(self, name: str, words: list[str], kind: str, wanted: NDArray[Any], frequency: float | None) -> None:
+        """That each tool takes these samples from a recording."""
+        for taken_by in TAKEN_BY:
+            with self.subTest(taken_by.__name__, name=name, words=words):
+                found = taken_by(words, name)
+                self.assertEqual((found.kind, found.rate), (kind, RATE))
+                self.assertTrue(numpy.array_equal(self.parts(found), wanted))
+                if isinstance(found, TakenSource):
+                    self.assertEqual(found.frequency, frequency)
+
+    def test_each_type_of_raw_samples(self) -> None:
+        for named, kind, form in (
+            ("ci16", "ci16_le", "<i2"), ("ci16_be", "ci16_be", ">i2"), ("cf32", "cf32_le", "<f4"),
+            ("cf32_be", "cf32_be", ">f4"), ("ci32", "ci32_le", "<i4"), ("cf64", "cf64_le", "<f8"),
+        ):  # fmt: skip
+            path = self.kept("x.raw", PARTS.astype(form).tobytes())
+            self.held(path, ["--type", named, "--rate", "2.4M"], kind, PARTS, None)
+
+    def test_recordings_that_state_their_type(self) -> None:
+        data = PARTS.astype("<i2").tobytes()
+        auxi = b"auxi" + struct.pack("<I", 64) + bytes(32) + struct.pack("<I", 878_490_000) + bytes(28)
+        self.held(self.kept("x.wav", wave(fields_of(1, 16), data, auxi)), [], "ci16_le", PARTS, 878.49e6)
+        captures = [{"core:sample_start": 0, "core:frequency": 1e9}, {"core:sample_start": 200, "core:frequency": 2e9}]
+        text = json.dumps(self.meta(captures)).encode()
+        archive = self.archive({"x.sigmf-meta": text, "x.sigmf-data": data})
+        self.kept("x.sigmf-data", data)
+        for name in (archive, self.kept("x.sigmf-meta", text)):
+            self.held(name, ["--capture", "1"], "ci16_le", PARTS[:400], 1e9)
+            self.held(name, ["--capture", "2"], "ci16_le", PARTS[400:], 2e9)
+
+    def test_arguments_that_each_tool_refuses(self) -> None:
+        raw, known = self.kept("x.raw", b""), self.kept("x.wav", b"")
+        told = ["--type", "cu8", "--rate", "2.4M"]
+        for name, words, why in (
+            (raw, ["--type", "cu8"], "give --rate, unless the recording is a .sigmf-meta, a .sigmf or a .wav"),
+            (raw, ["--rate", "2.4M"], "give --type, unless"),
+            (known, ["--type", "cu8"], "--type can't be given with"),
+            (raw, [*told, "--gain", "20"], "--gain goes with a radio"),
+            (raw, [*told, "--bias-tee"], "--bias-tee goes with a radio"),
+            ("tcp://a:1", ["--rate", "2.4M"], "--type is needed with tcp://"),
+            ("tcp://a:1", ["--type", "cu8"], "--rate is needed with a live source"),
+            ("tcp://a:1", [*told, "--agc"], "--agc goes with a radio"),
+            ("tcp://a:1", [*told, "--capture", "1"], "--capture goes with a SigMF recording"),
+            ("rtl_tcp://a", ["--type", "ci8", "--rate", "2.4M"], "the samples of rtl_tcp are cu8"),
+            ("rtl_tcp://a", ["--rate", "2400000.5"], "as a whole number"),
+            ("rtl_tcp://a", ["--rate", "200M"], "at most 100,000,000|not 1,228,800 to 100,000,000"),
+            ("rtl_tcp://a", ["--rate", "2.4M", "--channel", "900"], "band 800 has no channel 900"),
+            ("soapy:driver=a", ["--rate", "2.4M", "--band", "800"], "--band needs --channel"),
+            ("soapy:driver=a", ["--rate", "2.4M", "--channel", "3", "--frequency", "9M"], "can't both be given"),
+        ):
+            for tool, more in (
+                ("import_capture", ["-"]), ("scan", []), ("domain", []), ("report", ["--out", "-"]), ("listen", []),
+            ):  # fmt: skip
+                with self.subTest(tool, name=name, words=words):
+                    status, wrote, said = run_main(tool, *words, name, *more)
+                    self.assertEqual((status, wrote), (2, ""), said)
+                    self.assertRegex(said, why)
+
+    def test_the_bound_goes_with_a_source_that_may_not_end(self) -> None:
+        raw, words = self.kept("x.raw", b""), ["--type", "cu8", "--rate", "2.4M", "--seconds", "3"]
+        for tool, more in (("import_capture", ["-"]), ("scan", []), ("domain", []), ("report", ["--out", "-"])):
+            status, _, said = run_main(tool, *words, raw, *more)
+            self.assertEqual(status, 2)
+            self.assertIn("--seconds goes with standard input or a live source", said)
+
+
+class Bound(unittest.TestCase):
+    """What is taken of standard input."""
+
+    def taken(self, data: bytes, *words: str) -> TakenSource:
+        """The samples that an import takes of standard input."""
+        with mock.patch("sys.stdin", mock.Mock(buffer=io.BytesIO(data))):
+            found = taken_by_import(["--rate", "2M", *words], "-")
+        self.addCleanup(found.close)
+        return found
+
+    def bytes_of(self, found: TakenSource) -> bytes:
+        """All bytes that were kept."""
+        with open(found.path, "rb") as file:
+            return file.read()
+
+    def test_at_most_a_number_of_seconds_is_taken(self) -> None:
+        data = PARTS.astype("<i2").tobytes() * 100
+        found = self.taken(data, "--type", "ci16", "--seconds", "0.01")
+        self.assertTrue(self.bytes_of(found) == data[: 4 * 20_000])
+        self.assertEqual(found.remarks, ())
+        found = self.taken(data, "--type", "ci16")
+        self.assertTrue(self.bytes_of(found) == data)
+        found.close()
+        self.assertFalse(os.path.exists(found.path))
+
+    def test_the_type_is_guessed_of_what_came(self) -> None:
+        draws = numpy.random.default_rng(5)
+        parts = numpy.rint(draws.normal(0, 900, 400_000)).astype("<i2")
+        for count, cut in ((len(parts), 20_000), (4_000, 2_000)):  # before the end, and at it
+            found = self.taken(parts[:count].tobytes() + b"\1", "--type", "auto", "--seconds", "0.01")
+            self.assertEqual(found.kind, "ci16_le")
+            self.assertIn("the sample type is guessed from the bytes: ci16_le", found.remarks)
+            self.assertTrue(self.bytes_of(found) == parts[: 2 * cut].tobytes())
+        with self.assertRaisesRegex(Refused, "^standard input: 4 bytes are too few to guess the sample type"):
+            self.taken(b"abcd", "--type", "auto")
 
 
 class Live(unittest.TestCase):
