@@ -62,7 +62,7 @@ MAKES = "it asks for samples or for a trial, and --maker names another program f
 def parser() -> Parser:
     """The command line."""
     words = Parser("conformance", __doc__)
-    add_options(words, "samples", "the inputs")
+    add_options(words, "samples", "each input, and its words, lines and status")
     words.add_argument(
         "--standard", action="store_true", help="ask and compare only what the standard fixes"
     )

@@ -467,9 +467,8 @@ def tried(
     wanted = case.fields.get("sha256")
     if wanted and hashlib.sha256(data).hexdigest() != wanted:
         return [(case.words, [f"the samples that {maker} makes don't have the case's checksum"])]
-    if keep and data:
-        with open(os.path.join(keep, case.name + (".script" if case.input == "script" else ".is95")), "wb") as kept:
-            kept.write(data)
+    if keep:
+        keep_vector(case, data, keep)
     found = []
     for words in case.runs:
         answer = asked(case, program, words, data, minutes, is_group=True)
@@ -479,6 +478,19 @@ def tried(
         if said:
             found.append((words, said))
     return found
+
+
+def keep_vector(case: Case, data: bytes, folder: str) -> None:
+    """Writes what another machine needs to try a case by itself: its input, and what is expected of each run."""
+    parts = {".words": "".join(shlex.join(words) + "\n" for words in case.runs).encode()}
+    parts[".status"] = f"{case.status}\n".encode()
+    if data:
+        parts[".script" if case.input == "script" else ".is95"] = data
+    if case.sink is None and case.written is None:
+        parts[".lines"] = case.wanted()
+    for ending, content in parts.items():
+        with open(os.path.join(folder, case.name + ending), "wb") as kept:
+            kept.write(content)
 
 
 def names_of_cases() -> list[str]:

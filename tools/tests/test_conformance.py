@@ -267,6 +267,10 @@ class AsksOfSamples(Asks):
         os.mkdir(self.at("kept"))
         self.asked("exit 0", "--keep", self.at("kept"))
         self.assertEqual(self.kept("kept/first.is95"), sample_file(SAMPLES, flags=2))
+        # With these a receiver is compared by a shell: it gets the words and the file, and writes the lines.
+        self.assertEqual(self.kept("kept/first.words"), b"find --span 64\n")
+        self.assertEqual(self.kept("kept/first.lines"), b"pilot phase=1\nlast\n")
+        self.assertEqual(self.kept("kept/first.status"), b"0\n")
 
     def test_a_receiver_that_makes_no_samples(self) -> None:
         """If another program makes the samples, cases of `make` and `trial` are left out unless they are named."""
