@@ -14,6 +14,8 @@ from cdma_tools.recordings import first_byte, sample_bytes
 
 # The name of a type that is taken from the samples' own bytes.
 AUTO = "auto"
+# The types that bytes may show; those of other types look like one of these, or like none.
+GUESSED = ("cf32_le", "ci16_le", "ci16_be", "cu8", "ci8")
 # Bytes of a piece that is looked at, and pieces, spread over the file.
 PIECE, PIECES = 1 << 14, 16
 # Spread of floating-point numbers around their median, in doublings; a Gaussian's is 1.6.

@@ -16,7 +16,7 @@ from typing import IO
 
 from cdma_tools.errors import Refused
 from cdma_tools.frequencies import frequency_given
-from cdma_tools.radio.guessing import AUTO, type_of
+from cdma_tools.radio.guessing import AUTO, GUESSED, type_of
 from cdma_tools.recordings import TYPES
 from cdma_tools.sources.backlog import Backlog, Item, Skipped
 from cdma_tools.sources.live import Stream
@@ -92,6 +92,8 @@ def remarks_on(name: str, kind: str, path: str, is_guessed: bool) -> tuple[str, 
     """Returns the remarks on the samples' type: that it was taken from the bytes, or that these look like another."""
     if is_guessed:
         return (f"the sample type is guessed from the bytes: {kind}",)
+    if kind not in GUESSED:
+        return ()
     try:
         looks = type_of(path)
     except Refused:

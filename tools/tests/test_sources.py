@@ -11,6 +11,7 @@ import tarfile
 import threading
 import types
 import unittest
+from collections.abc import Callable
 from fractions import Fraction
 from typing import Any
 from unittest import mock
@@ -26,6 +27,7 @@ from cdma_tools.arguments import hertz_of, rate_of  # noqa: E402
 from cdma_tools.commands import domain, import_capture, listen, report, scan  # noqa: E402
 from cdma_tools.errors import Refused  # noqa: E402
 from cdma_tools.frequencies import channel_at, channel_hertz  # noqa: E402
+from cdma_tools.listening.parts import Recording as HeardRecording  # noqa: E402
 from cdma_tools.recordings import Recording, type_named  # noqa: E402
 from cdma_tools.sources import live  # noqa: E402
 from cdma_tools.sources import stored as sources  # noqa: E402
@@ -242,11 +244,17 @@ def taken_by_listening(words: list[str], name: str) -> StoredSamples:
     options = parser.parse_args([*words, name])
     listen.check(parser, options)
     source = listen.source_of(options)
-    assert isinstance(source, listen.Recording)
+    assert isinstance(source, HeardRecording)
     return StoredSamples(source.lock.kind, Fraction(source.lock.rate), source.path)
 
 
-TAKEN_BY = (taken_by_import, taken_by_scan, taken_by_domain, taken_by_report, taken_by_listening)
+TAKEN_BY: tuple[Callable[[list[str], str], StoredSamples | TakenSource], ...] = (
+    taken_by_import, taken_by_scan, taken_by_domain, taken_by_report, taken_by_listening,
+)  # fmt: skip
+# The arguments that each tool needs besides its source.
+NEEDED: dict[str, list[str]] = {
+    "import_capture": ["-"], "scan": [], "domain": [], "report": ["--out", "-"], "listen": []
+}  # fmt: skip
 
 
 class EveryForm(Kept):
@@ -258,6 +266,7 @@ class EveryForm(Kept):
             with self.subTest(taken_by.__name__, name=name, words=words):
                 found = taken_by(words, name)
                 self.assertEqual((found.kind, found.rate), (kind, RATE))
+                self.assertEqual(getattr(found, "remarks", ()), ())  # as that the bytes look like another type
                 self.assertTrue(numpy.array_equal(self.parts(found), wanted))
                 if isinstance(found, TakenSource):
                     self.assertEqual(found.frequency, frequency)
@@ -302,9 +311,7 @@ class EveryForm(Kept):
             ("soapy:driver=a", ["--rate", "2.4M", "--band", "800"], "--band needs --channel"),
             ("soapy:driver=a", ["--rate", "2.4M", "--channel", "3", "--frequency", "9M"], "can't both be given"),
         ):
-            for tool, more in (
-                ("import_capture", ["-"]), ("scan", []), ("domain", []), ("report", ["--out", "-"]), ("listen", []),
-            ):  # fmt: skip
+            for tool, more in NEEDED.items():
                 with self.subTest(tool, name=name, words=words):
                     status, wrote, said = run_main(tool, *words, name, *more)
                     self.assertEqual((status, wrote), (2, ""), said)
@@ -312,8 +319,8 @@ class EveryForm(Kept):
 
     def test_the_bound_goes_with_a_source_that_may_not_end(self) -> None:
         raw, words = self.kept("x.raw", b""), ["--type", "cu8", "--rate", "2.4M", "--seconds", "3"]
-        for tool, more in (("import_capture", ["-"]), ("scan", []), ("domain", []), ("report", ["--out", "-"])):
-            status, _, said = run_main(tool, *words, raw, *more)
+        for tool in NEEDED.keys() - {"listen"}:
+            status, _, said = run_main(tool, *words, raw, *NEEDED[tool])
             self.assertEqual(status, 2)
             self.assertIn("--seconds goes with standard input or a live source", said)
 
