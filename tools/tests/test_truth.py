@@ -9,6 +9,7 @@ import json
 import math
 import os
 import random
+import re
 import unittest
 from dataclasses import dataclass
 from typing import Any
@@ -24,7 +25,9 @@ SEED, FEW, MANY = 89, 3, 10
 CHIPS = 900_000
 # What may lie between a figure and the truth: Hz, millionths, dB, chips.
 MOST = {"carrier": 3.0, "clock": 0.1, "ec_io": 0.1, "level": 0.15, "delay": 0.1}
-MOST |= {"scan ec_io": 0.2, "scan carrier": 30.0}
+MOST |= {"scan ec_io": 0.2, "scan carrier": 30.0, "at": 0.0, "rho": 0.0001}
+SUPERFRAME = 98_304  # chips of 80 ms
+LEAST_SYNCED = 2  # messages: each takes 240 ms, and the recordings last 0.7 s
 
 
 @dataclass(frozen=True)
@@ -74,6 +77,22 @@ def recorded(folder: str, number: int) -> Truth:
 def decibels(ratio: float) -> float:
     """Returns a ratio of powers in dB."""
     return 10 * math.log10(ratio)
+
+
+def figure(pattern: str, text: str) -> float:
+    """The one number that a page has at a pattern."""
+    (found,) = set(re.findall(pattern, text))
+    return float(found)
+
+
+def rows_of(text: str) -> list[dict[str, str]]:
+    """The rows of a page's table of cells, by the heads of their columns."""
+    table = text[text.index('<section id="cells">') :].partition("</table>")[0]
+    heads = re.findall("<th[^>]*>([^<]*)</th>", table.partition("</thead>")[0])
+    return [
+        dict(zip(heads, re.findall("<t[hd][^>]*>([^<]*)</t[hd]>", row)))
+        for row in re.findall("<tr>(.*?)</tr>", table.partition("<tbody>")[2])
+    ]
 
 
 @unittest.skipUnless(PROGRAM, NO_PROGRAM)
@@ -136,6 +155,49 @@ class Truths(unittest.TestCase):
             wanted = 2 * decibels(gain / cell.pilot)
             self.near("domain", f"row {row} against row 0", rows[row] - rows[0], wanted, "level")
         self.assertAlmostEqual(sum(10 ** (row["total_db"] / 10) for row in told["rows"]), 1, delta=0.002)
+        self.rho = told["rho"]
+
+    def listen_holds(self, truth: Truth) -> None:
+        """The messages that a listening hears are those that the strongest cell sends, and as often."""
+        status, wrote, said = run_main("listen", "--json", "--program", PROGRAM, truth.path)
+        self.assertEqual(status, 0, said)
+        lines, cell = [json.loads(line) for line in wrote.splitlines()], truth.cells[0]
+        synced = [line for line in lines if line["line"] == "sync"]
+        self.assertGreaterEqual(len(synced), LEAST_SYNCED)
+        for line in synced:
+            self.assertEqual((line["pn"], line["sid"], line["nid"]), (cell.pn, cell.sid, cell.nid))
+        # A sync message takes a whole number of superframes of 80 ms (7.7.1.1), by the base station's clock.
+        for before, after in zip(synced, synced[1:]):
+            chips = (after["time"] - before["time"]) * SUPERFRAME
+            self.near("listen", "chips between syncs", after["at"] - before["at"], chips, "at")
+        for line in lines:
+            if line.get("message") == "system":
+                self.assertEqual((line["sid"], line["nid"], line["base"]), (cell.sid, cell.nid, cell.base))
+            elif line.get("message") == "neighbors":
+                self.assertEqual([pn for _, pn in line["pilots"]], list(cell.neighbors))
+
+    def report_holds(self, truth: Truth) -> None:
+        """The page has the lock's figures, the table of cells and domain's rho, and each only once."""
+        page, count = os.path.join(self.folder, "page.html"), len(truth.cells)
+        words = ("--cells", max(2, count), "--program", PROGRAM, "--out", page)
+        status, _, said = run_main("report", truth.path, *words)
+        self.assertEqual(status, 0, said)
+        with open(page, encoding="utf-8") as file:
+            text = file.read()
+        import_part = text.partition("As the import found it")[2].partition("</table>")[0]
+        carrier = figure(r"<td>(\S+) Hz above", import_part)
+        self.near("report", "carrier", carrier, truth.carrier, "carrier")
+        self.near("report", "clock", figure(r"<td>(\S+) ppm slower", text), truth.clock, "clock")
+        level = figure(r"<th>Ec/Io</th><td>(\S+) dB: the pilot", text)
+        self.near("report", "Ec/Io", level, truth.ec_io, "ec_io")
+        self.near("report", "rho, as domain's", figure(r"<th>rho</th><td>([0-9.]+),", text), self.rho, "rho")
+        table = rows_of(text)
+        self.assertEqual(len(table), count)
+        for row, cell, power, delay in zip(table, truth.cells, truth.levels, truth.delays):
+            self.assertEqual((int(row["PN"]), int(row["SID"]), int(row["NID"])), (cell.pn, cell.sid, cell.nid))
+            self.near("report", f"PN {cell.pn} Ec/Io", float(row["Ec/Io, dB"]), truth.ec_io + power, "level")
+            self.near("report", f"PN {cell.pn} delay", float(row["Delay, chips"]), delay, "delay")
+        self.assertEqual(float(table[0]["Ec/Io, dB"]), level)
 
     def test_each_tool_tells_the_truth(self) -> None:
         count = MANY if os.environ.get("EVERY_TRUTH") else FEW
@@ -143,7 +205,9 @@ class Truths(unittest.TestCase):
             truth = recorded(self.folder, number)
             self.table.append(f"recording {number}: PN {', '.join(str(cell.pn) for cell in truth.cells)}")
             with self.subTest(number):
-                for holds in (self.import_holds, self.scan_holds, self.domain_holds):
+                for holds in (
+                    self.import_holds, self.scan_holds, self.domain_holds, self.listen_holds, self.report_holds
+                ):  # fmt: skip
                     holds(truth)
         if count == MANY:
             print("\n" + "\n".join(self.table))
