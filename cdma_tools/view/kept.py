@@ -15,15 +15,13 @@ from typing import Any, Generic, TypeVar
 from cdma_tools.heard_run import CHIP_RATE
 from cdma_tools.lines import BY_WORDS, ORIGIN, TIME_NAME, Field, Group, NoLine, Shape, spell_line
 from cdma_tools.listening.events import Event
-from cdma_tools.listening.system_time import time_told
 from cdma_tools.report.heard_lines import Thinned
 from cdma_tools.report.meaning import MEANINGS, rows_of
-from cdma_tools.view.steps import MarkTold
 
 # Lines, rows of the waterfall, remarks and points of the figures over time that are kept.
 MOST_LINES, MOST_SPECTRA, MOST_REMARKS, MOST_POINTS = 5_000, 150, 200, 600
-# Sync messages whose time is kept: more than the 27 seconds of chips have.
-MOST_MARKS = 400
+# Sync messages that are kept: more than the 27 seconds of chips have.
+MOST_SYNCS = 400
 # Messages that identify the base station, by their lines' words, and the names of their tables.
 IDENTITY = {("sync", None): "Sync message", ("paging", "system"): "System Parameters"}
 # Figures that are shown over time.
@@ -137,7 +135,7 @@ class Kept:
         self.base = self.end = 0  # chips: of the first line of this stream, and of the last one
         self.pilot: int | None = None  # PILOT_PN of the last sync message
         self.has_pages = False
-        self.marks: deque[MarkTold] = deque(maxlen=MOST_MARKS)  # by the chips of lines
+        self.syncs: deque[Event] = deque(maxlen=MOST_SYNCS)  # by chips from the recording's start
         self.row: int | None = None  # of the traffic channel, by the last pilot sets
 
     def take(self, data: bytes) -> None:
@@ -176,8 +174,7 @@ class Kept:
         words = read["line"], read.get("message")
         if words[0] == "sync":
             self.pilot = read["pn"]
-            if time := time_told(Event(read["at"], text)):
-                self.marks.append(MarkTold.of(time, read))
+            self.syncs.append(Event(read["at"], text))
         if words[0] == "sets":
             self.row = next((row for pn, row, _ in read["active"] if pn == self.pilot), self.row)
         self.has_pages = self.has_pages or words[0] == "paging"

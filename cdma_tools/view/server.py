@@ -20,21 +20,21 @@ from tornado.web import Application, HTTPError, RequestHandler
 from tornado.websocket import WebSocketClosedError, WebSocketHandler
 
 from cdma_tools.errors import Refused, said
+from cdma_tools.listening.events import Event
 from cdma_tools.report.heard_lines import heard_lines
 from cdma_tools.starting import INTERRUPTED, called
 from cdma_tools.view.chip_store import ChipStore, Extent
+from cdma_tools.view.feed import Feed
 from cdma_tools.view.kept import Kept, KeptLine, field_rows
 from cdma_tools.view.listener import ListenerProcess
 from cdma_tools.view.outbox import message_of
 from cdma_tools.view.safety import Door
-from cdma_tools.view.steps import WHY_NONE, FrameAsked, Handset, steps_text
+from cdma_tools.view.steps import WHY_NONE, FrameAsked, Handset, MarkTold, steps_text
 from cdma_tools.view.waveform import WHOLE, Measured, Wanted, measured
 
 HERE = os.path.dirname(os.path.abspath(__file__))
 # Seconds from one update of a browser to the next, and from one measurement to the next.
 UPDATE_EVERY, MEASURE_EVERY = 0.1, 0.5
-# Lines of an update, and of the first one; rows of a waterfall of one update.
-MOST_LINES, FIRST_LINES, MOST_ROWS = 200, 500, 10
 MOST_VIEWERS = 16
 LONGEST_MESSAGE, LONGEST_LINE = 1_000, 1 << 20  # bytes: of a browser's request, and of the listening's
 # Seconds for which a listening may take to end, and a browser to take its end.
@@ -110,13 +110,14 @@ class Hub:
 
     async def steps(self, line: KeptLine) -> str:
         """Returns the steps of the frame in which a line ends, or why there are none."""
-        asked = FrameAsked.of(line.read, line.read.get("at", 0))
+        origin = self.kept.figures.get("origin", 0)
+        asked = FrameAsked.of(line.read, line.read.get("at", 0) + origin)
         if asked is None or not self.extent.end:
             return WHY_NONE
-        origin, row = self.kept.figures["origin"], self.kept.row or self.row
-        extent = Extent(self.extent.first - origin, self.extent.end - origin)
+        told = [MarkTold.of(Event(sync.chip + origin, sync.line)) for sync in self.kept.syncs]
+        marks = [mark for mark in told if mark is not None]
         loop = asyncio.get_running_loop()
-        words = self.store, extent, asked, list(self.kept.marks), self.handset, row, origin
+        words = self.store, self.extent, asked, marks, self.handset, self.kept.row or self.row
         return await loop.run_in_executor(self.explainer, steps_text, *words)
 
     def measure_chips(self, extent: Extent, wanted: Wanted) -> Measured | None:
@@ -265,16 +266,10 @@ class Viewer(Guarded, WebSocketHandler):
     def open(self, *_: Any, **__: Any) -> None:
         """Sends what there is, and from now on what is new."""
         self.set_nodelay(True)
-        kept = self.hub.kept
-        self.line, self.remark = max(kept.lines.first, kept.lines.count - FIRST_LINES), kept.remarks.first
-        self.spectrum, self.point = kept.spectra.first, 0
-        self.versions: dict[str, int] = {}
-        self.missed = 0  # lines and rows that were dropped before they could be sent
+        self.feed = Feed(self.hub.kept, self.hub.number)
         self.sending: asyncio.Future[None] | None = None
         self.is_explaining = False
-        hello = {"run": self.hub.number, "name": kept.name, "source": {}, "history": kept.history.kept}
-        self.point = kept.history.count
-        self.send({"hello": hello, **self.news()})
+        self.send(self.feed.first())
         self.hub.viewers.add(self)
 
     def on_close(self) -> None:
@@ -313,35 +308,8 @@ class Viewer(Guarded, WebSocketHandler):
         if self.sending is not None and self.sending.exception() is not None:
             self.hub.viewers.discard(self)
             return
-        if news := self.news():
+        if news := self.feed.news():
             self.send(news)
-
-    def news(self) -> dict[str, Any]:
-        """Returns what this browser doesn't have yet, as much as an update may hold."""
-        kept, told = self.hub.kept, dict[str, Any]()
-        self.missed += max(0, kept.lines.first - self.line)
-        most = MOST_LINES if self.versions else FIRST_LINES
-        if lines := [line.shown(number) for number, line in kept.lines.since(self.line, most)]:
-            told["lines"] = lines
-        self.line = max(self.line, kept.lines.first) + len(lines)
-        begin = max(self.spectrum, kept.spectra.count - MOST_ROWS) if self.versions else self.spectrum
-        self.missed += max(0, begin - self.spectrum)
-        if rows := [row for _, row in kept.spectra.since(begin, len(kept.spectra.kept))]:
-            told["spectra"] = rows
-        self.spectrum = kept.spectra.count
-        if remarks := [remark for _, remark in kept.remarks.since(self.remark, len(kept.remarks.kept))]:
-            told["remarks"] = remarks
-        self.remark = kept.remarks.count
-        if kept.history.count > self.point and kept.history.kept:
-            told["points"] = kept.history.kept[-1:]
-            self.point = kept.history.count
-        for name, (version, content) in kept.panels.items():
-            if self.versions.get(name) != version:
-                self.versions[name] = version
-                told[name] = content
-        if told and self.missed:
-            told["missed"] = self.missed
-        return told
 
 
 def asked_for(message: str | bytes) -> tuple[str, int] | None:

@@ -11,8 +11,9 @@ import numpy
 
 from cdma_tools.commands.explain import text_of
 from cdma_tools.explaining.frame_steps import NoFrame, Steps, paging_steps, sync_steps, traffic_steps
+from cdma_tools.listening.events import Event
 from cdma_tools.listening.notes import FRAME
-from cdma_tools.listening.system_time import SUPERFRAME, SystemTime
+from cdma_tools.listening.system_time import SUPERFRAME, fields_of, time_told
 from cdma_tools.radio.air import PERIOD
 from cdma_tools.view.chip_store import ChipStore, Extent
 from model.files import Capture
@@ -39,25 +40,26 @@ class Handset:
 
 @dataclass(frozen=True)
 class MarkTold:
-    """A sync message's time and state of the long code, and the chip at which they hold."""
+    """A sync message's time and state of the long code, and the number of the chip at which they hold."""
 
     chip: int
     read: dict[str, Any]
 
     @classmethod
-    def of(cls, time: SystemTime, read: dict[str, Any]) -> "MarkTold":
-        """Returns the mark of a sync message that gives a time."""
-        return cls(time.base + SUPERFRAME * time.told, read)
+    def of(cls, event: Event) -> "MarkTold | None":
+        """Returns the mark of a sync message that was known at the chip of a number; None of another line."""
+        time, read = time_told(event), fields_of(event)
+        return cls(time.base + SUPERFRAME * time.told, read) if time is not None and read is not None else None
 
     def in_window(self, begin: int) -> Mark:
         """Returns the model's mark in a window that begins at a chip."""
         read = self.read
-        return Mark(self.chip - begin, read["time"], int(read["lc"], 16), read["pn"], read["prat"])
+        return Mark(self.chip - begin, read["time"], read["lc"], read["pn"], read["prat"])
 
 
 @dataclass(frozen=True)
 class FrameAsked:
-    """A frame: the kind of its line, and its first chip."""
+    """A frame: the kind of its line, and the number of its first chip."""
 
     line: str
     first: int
@@ -86,13 +88,8 @@ def steps_text(
     marks: list[MarkTold],
     handset: Handset,
     row: int | None,
-    origin: int,
 ) -> str:
-    """Returns the steps of a frame in lines, or why they can't be shown.
-
-    `row` is that of the traffic channel. All chips count from the recording's start, which has number `origin` in the
-    store.
-    """
+    """Returns the steps of a frame in lines, or why they can't be shown; `row` is that of the traffic channel."""
     mark = mark_before(marks, asked.first, extent)
     if asked.line == "sync":
         begin = max(extent.first, asked.first - 16 * PERIOD)
@@ -103,9 +100,9 @@ def steps_text(
     if asked.first < begin or asked.first >= extent.end:
         return WHY_NONE
     window = Extent(begin, min(extent.end, asked.first + 2 * PERIOD + AFTER))
-    samples = store.samples(Extent(window.first + origin, window.end + origin)).astype(numpy.complex128)
+    samples = store.samples(window).astype(numpy.complex128)
     capture = Capture(bool(handset.flags & 1), bool(handset.flags & 2), len(samples), samples, None)
-    found = Found((begin + origin) % PERIOD, 0, [0])
+    found = Found(begin % PERIOD, 0, [0])
     try:
         steps = steps_of(capture, found, asked, begin, mark, handset, row)
     except NoFrame as why:

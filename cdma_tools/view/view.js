@@ -46,7 +46,6 @@ function take(told) {
   if (told.hello) {
     held = emptied();
     held.run = told.hello.run;
-    held.source = told.hello.source;
     held.points = told.hello.history;
     place("name").textContent = told.hello.name;
     document.title = told.hello.name;

@@ -3,6 +3,7 @@
 from __future__ import annotations
 
 import asyncio
+import contextlib
 import json
 import os
 import re
@@ -16,7 +17,7 @@ import urllib.request
 from collections.abc import Callable
 from typing import Any, ClassVar
 
-from tools.tests.helping import HEADER, PYTHON, ROOT, needs, run_inside, temporary_folder
+from tools.tests.helping import HEADER, PROGRAM, PYTHON, ROOT, example, needs, run_inside, temporary_folder
 
 needs("numpy", "scipy", "tornado", "plotly")
 
@@ -26,12 +27,16 @@ from tornado.httpclient import HTTPClientError, HTTPRequest  # noqa: E402
 from tornado.websocket import WebSocketClientConnection, websocket_connect  # noqa: E402
 
 from cdma_tools.analysis.spectrum import BINS  # noqa: E402
+from cdma_tools.lines import read_line  # noqa: E402
+from cdma_tools.listening.events import Event  # noqa: E402
 from cdma_tools.listening.pieces import Chips  # noqa: E402
 from cdma_tools.radio.air import PERIOD  # noqa: E402
 from cdma_tools.view.chip_store import CHIP_BYTES, MOST, ROOM, ChipKeeper, ChipStore, Extent  # noqa: E402
+from cdma_tools.view.feed import Feed  # noqa: E402
 from cdma_tools.view.kept import MOST_LINES, Kept, Numbered  # noqa: E402
 from cdma_tools.view.safety import Door  # noqa: E402
 from cdma_tools.view.spectrum_rows import SpectrumRows  # noqa: E402
+from cdma_tools.view.steps import WHY_NONE, FrameAsked, Handset, MarkTold, steps_text  # noqa: E402
 from cdma_tools.view.waveform import WHOLE, Measured, Wanted, measured  # noqa: E402
 from tools.tests.radio_helping import code, whole_cell  # noqa: E402
 from tools.tests.report_fixture import FOLLOWED  # noqa: E402
@@ -39,6 +44,8 @@ from tools.tests.report_fixture import FOLLOWED  # noqa: E402
 SECONDS = 120  # that a server may take to start on a busy machine
 TOOL = [PYTHON, "-B", os.path.join(ROOT, "tools", "view")]
 PAGE_MOST = 10  # updates a second
+# A line of a frame that was known at a chip.
+FRAME = b'{"line":"frame","at":%d,"rate":1200,"good":1,"bits":"0:","commands":[0,1,0,1,0,1,0,1,0,1,0,1,0,1,0,1]}\n'
 
 
 class TheChips(unittest.TestCase):
@@ -191,9 +198,8 @@ class WhatIsKept(unittest.TestCase):
         """However many lines, spectra, remarks and figures come, a fixed number of each is kept."""
         kept = Kept("x")
         self.addCleanup(kept.file.file.close)
-        frame = '{"line":"frame","at":%d,"rate":1200,"good":1,"bits":"0:","commands":[%s]}\n'
         for number in range(MOST_LINES + 500):
-            kept.take((frame % (number, ",".join("01" * 8))).encode())
+            kept.take(FRAME % number)
         for number in range(2_000):
             kept.take(b'{"view":"spectrum","seconds":%d,"levels":[1]}\n' % number)
             kept.take(b'{"view":"remark","seconds":%d,"text":"x"}\n' % number)
@@ -202,6 +208,121 @@ class WhatIsKept(unittest.TestCase):
         self.assertEqual(kept.lines.count, MOST_LINES + 500)
         self.assertLessEqual(max(len(kept.spectra.kept), len(kept.remarks.kept), len(kept.history.kept)), 700)
         self.assertEqual(kept.counts["frame 1200"], MOST_LINES + 500)
+
+
+class TheFeed(unittest.TestCase):
+    """What a browser gets, and what one misses that is too slow."""
+
+    def setUp(self) -> None:
+        self.kept = Kept("x")
+        self.addCleanup(self.kept.file.file.close)
+        self.feed = Feed(self.kept, "run")
+        self.feed.first()
+
+    def lines(self, first: int, count: int) -> None:
+        """Takes lines at some chips."""
+        for at in range(first, first + count):
+            self.kept.take(FRAME % at)
+
+    def test_each_line_once(self) -> None:
+        """Lines come in updates of at most 200, in order, each once; then nothing more comes."""
+        self.lines(0, 450)
+        updates = [self.feed.news().get("lines", []) for _ in range(4)]
+        self.assertEqual([len(update) for update in updates], [200, 200, 50, 0])
+        self.assertEqual([line["n"] for update in updates for line in update], list(range(450)))
+        self.assertEqual(self.feed.news(), {})
+
+    def test_a_slow_browser(self) -> None:
+        """Of more lines and rows than are kept the oldest are missed, and counted; an update stays small."""
+        self.lines(0, MOST_LINES + 1_000)
+        for number in range(400):
+            self.kept.take(b'{"view":"spectrum","seconds":%d,"levels":[1.5]}\n' % number)
+        news = self.feed.news()
+        self.assertEqual(news["missed"], 1_000 + 400 - len(news["spectra"]))
+        self.assertEqual((news["lines"][0]["n"], len(news["lines"])), (1_000, 200))
+        self.assertEqual([row["seconds"] for row in news["spectra"]], list(range(390, 400)))
+        self.assertLess(len(json.dumps(news)), 50_000)
+
+    def test_only_changed_panels(self) -> None:
+        self.kept.take(b'{"view":"figures","seconds":1}\n')
+        self.assertEqual(self.feed.news(), {"figures": {"seconds": 1}})
+        self.assertEqual(self.feed.news(), {})
+        self.kept.take(b'{"view":"figures","seconds":2}\n')
+        self.kept.take(b'{"view":"figures","seconds":3}\n')
+        self.assertEqual(self.feed.news(), {"figures": {"seconds": 3}})
+
+
+class TheSteps(unittest.TestCase):
+    """The steps of frames of a second of paging, against those of `explain` over the same samples."""
+
+    store: ClassVar[ChipStore]
+    path: ClassVar[str]
+    phase: ClassVar[int]
+    lines: ClassVar[list[str]]
+    extent: ClassVar[Extent]
+
+    @classmethod
+    def setUpClass(cls) -> None:
+        folder = temporary_folder(cls.addClassCleanup)
+        command = [PROGRAM] if PROGRAM else [PYTHON, "-B", "-m", "model"]
+
+        def run(word: str, data: bytes) -> bytes:
+            return subprocess.run([*command, word], input=data, capture_output=True, check=True, cwd=ROOT).stdout
+
+        made = run("make", example("second_of_paging.script"))
+        cls.lines = run("follow", made).decode().splitlines()
+        cls.path = os.path.join(folder, "second.is95")
+        with open(cls.path, "wb") as file:
+            file.write(made)
+        cls.phase = read_line(cls.lines[0])["phase"]
+        cls.store = ChipStore()
+        cls.addClassCleanup(cls.store.file.close)
+        parts = numpy.frombuffer(made[HEADER.size :], ">i2" if made[5] == 1 else "i1").astype(">i2")
+        cls.extent = Extent(cls.phase, cls.phase + len(parts) // 2)
+        cls.store.write(cls.phase, parts.tobytes())
+
+    def text(self, line: str, extent: Extent | None = None) -> str:
+        """The steps of the frame in which a line ends."""
+        read = read_line(line)
+        syncs = [Event(read_line(other)["at"] + self.phase, other) for other in self.lines if other.startswith("sync")]
+        marks = [mark for mark in map(MarkTold.of, syncs) if mark is not None]
+        asked = FrameAsked.of(read, read["at"] + self.phase)
+        assert asked is not None
+        return steps_text(self.store, extent or self.extent, asked, marks, Handset(1, None, 0, 0), None)
+
+    def explained(self, *words: object) -> tuple[int, list[str]]:
+        """The sample at which a frame begins, and its steps after the title, as `explain` shows them."""
+        status, wrote, said = run_inside("explain", self.path, *words)
+        self.assertEqual(status, 0, said)
+        title, *steps = wrote.decode().splitlines()
+        found = re.search(r"from sample (\d+) on", title)
+        assert found is not None
+        return int(found[1]), steps
+
+    def test_pages(self) -> None:
+        """A page's frame begins two frames before the chip at which it is known; some frames are tried."""
+        first, _ = self.explained("--paging", 1, "--frame", 0)
+        pages = [line for line in self.lines if line.startswith("paging")]
+        for line in (pages[0], pages[-1]):
+            number = round((read_line(line)["at"] - 2 * 24_576 - first) / 24_576)
+            with self.subTest(number=number):
+                place, wanted = self.explained("--paging", 1, "--frame", number)
+                self.assertAlmostEqual(place, read_line(line)["at"] - 2 * 24_576, delta=2)
+                shown = self.text(line).splitlines()
+                self.assertEqual(shown[shown.index("2 scrambling bits") :], wanted[wanted.index("2 scrambling bits") :])
+
+    def test_a_sync_message(self) -> None:
+        line = next(line for line in self.lines if line.startswith("sync"))
+        first, _ = self.explained("--sync", "--frame", 0)
+        number = round((read_line(line)["at"] - 2 * PERIOD - first) / PERIOD)
+        _, wanted = self.explained("--sync", "--frame", number)
+        shown = self.text(line).splitlines()
+        last = next(at for at, text in enumerate(wanted) if text.startswith("7 bits"))
+        self.assertEqual(shown[-len(wanted[last:]) :], wanted[last:])
+
+    def test_without_samples(self) -> None:
+        line = next(line for line in self.lines if line.startswith("paging"))
+        self.assertEqual(self.text(line, Extent(900_000, 901_000)), WHY_NONE)
 
 
 class TheDoor(unittest.TestCase):
@@ -448,6 +569,79 @@ class TheServer(Server):
         many = self.keep("many.jsonl", FOLLOWED[0] + "\n" + (FOLLOWED[2] + "\n") * 30_000)
         _, url = self.start(many)
         self.assertLessEqual(self.watch(url, count), 3 * PAGE_MOST + 1)
+
+
+class Streams(Server):
+    """Sources that come as the air does, and how they end."""
+
+    raw = ("--type", "ci8", "--rate", "1228800", "--program", "/bin/true")
+
+    def told(self, url: str) -> dict[str, Any]:
+        """How a listening ended, as the page is told."""
+        ended: dict[str, Any] = self.watch(url, lambda connection: told_until(connection, "ended"))["ended"]
+        return ended
+
+    def test_no_pilot(self) -> None:
+        """A stream of noise ends with one line, the page says the same, and the status is that of `listen`."""
+        process, url = self.start(*self.raw, "--search", "1000", "-", given=subprocess.PIPE)
+        noise = numpy.random.default_rng(5).normal(0, 20, 2 * 1_600_000).round().astype("i1").tobytes()
+        assert process.stdin is not None
+        with contextlib.suppress(BrokenPipeError):
+            process.stdin.buffer.write(noise)
+            process.stdin.buffer.close()
+        told = self.told(url)
+        self.assertEqual(told["status"], 1)
+        self.assertRegex(told["text"], "^no pilot stands out anywhere ")
+        status, said = self.finished(process)
+        self.assertEqual(status, 1)
+        self.assertEqual([line for line in said.splitlines() if " s: " not in line], [self.last_line(told)])
+
+    def test_an_interrupt(self) -> None:
+        """Ctrl-C ends a listening to a stream in order, and then the server; the page is told."""
+        process, url = self.start(*self.raw, "-", given=subprocess.PIPE)
+        told = self.watch(url, lambda connection: self.interrupted(process, connection))
+        self.assertEqual(told["ended"]["status"], 1)
+        status, said = self.finished(process)
+        self.assertEqual((status, said), (1, f"view: {told['ended']['text']}\n"))
+
+    async def interrupted(self, process: subprocess.Popen[str], connection: WebSocketClientConnection) -> Any:
+        """What a page is told up to the end of a listening that Ctrl-C ends."""
+        await told_until(connection, "figures")
+        process.send_signal(signal.SIGINT)
+        return await told_until(connection, "ended")
+
+    def test_a_server_that_is_not_there(self) -> None:
+        with socket.create_server(("127.0.0.1", 0)) as taken:
+            port = taken.getsockname()[1]
+        process, url = self.start("--rate", "1228800", "--program", "/bin/true", f"rtl_tcp://127.0.0.1:{port}")
+        told = self.told(url)
+        self.assertEqual(told, {"status": 1, "text": f"rtl_tcp://127.0.0.1:{port}: Connection refused"})
+        status, said = self.ended(process)
+        self.assertEqual((status, said), (1, self.last_line(told) + "\n"))
+
+    def test_a_server_that_goes_away(self) -> None:
+        """A source that is unplugged ends the listening as `listen` ends."""
+        with socket.create_server(("127.0.0.1", 0)) as server:
+            process, url = self.start(*self.raw, "--exit", f"tcp://127.0.0.1:{server.getsockname()[1]}")
+            server.settimeout(SECONDS)
+            connection, _ = server.accept()
+            connection.sendall(bytes(3_001))
+            connection.close()
+            _, said = process.communicate(timeout=SECONDS)
+        self.assertEqual(process.returncode, 1)
+        self.assertIn("the stream ended within a sample", said)
+        self.assertRegex(said.splitlines()[-1], "^view: no pilot stands out anywhere ")
+
+    def last_line(self, told: dict[str, Any]) -> str:
+        """The last line of a server whose page stays."""
+        return f"view: {told['text']}; the page stays until Ctrl-C"
+
+    def finished(self, process: subprocess.Popen[str]) -> tuple[int, str]:
+        """The status and the words of a server, which Ctrl-C ends if it is still there."""
+        if process.stdin is not None:
+            process.stdin.close()
+            process.stdin = None
+        return self.ended(process)
 
 
 async def connected(asked: HTTPRequest) -> WebSocketClientConnection:

@@ -198,8 +198,22 @@ class ARecording(Watched):
         fields = {row[0]: row[1] for row in self.rows("fields-table")}
         self.assertEqual((fields["NID"], fields["PILOT_PN"]), (str(self.cells[0].nid), "300"))
         self.driver.find_element(By.CSS_SELECTOR, "#close").click()
+        self.check_steps()
         self.driver.find_element(By.ID, "text").send_keys(" nothing")
         self.until("return document.querySelectorAll('#lines tbody tr').length === 0")
+
+
+    def check_steps(self) -> None:
+        """A click on a frame shows the steps by which it was decoded."""
+        self.driver.find_element(By.ID, "text").clear()
+        Select(self.driver.find_element(By.ID, "kind")).select_by_value("frame")
+        self.until("return document.querySelector('#lines tbody tr').cells[1].textContent === 'frame'")
+        line = self.rows("lines")[0][2]
+        self.driver.find_element(By.CSS_SELECTOR, "#lines tbody tr").click()
+        self.until("return document.getElementById('fields-line').textContent === arguments[0]", line)
+        self.driver.find_element(By.ID, "steps").click()
+        self.wait_text("steps-text", "=> good, at 9600 bits a second")
+        self.driver.find_element(By.ID, "close").click()
 
 
 class Lines(Watched):
