@@ -2,7 +2,7 @@
 
 import os
 import tempfile
-from typing import NamedTuple
+from typing import IO, NamedTuple
 
 import numpy
 from numpy.typing import NDArray
@@ -16,8 +16,8 @@ CHIP_BYTES = SAMPLE_BYTES[VERSION]
 # Chips of the longest sample file, and those that may be written while they are read.
 MOST, SPARE = MOST_CHIPS[VERSION], 4 * CHIP_RATE
 ROOM = MOST + SPARE
-# Zeros that are written at once for chips that were lost.
-ZEROS = 1 << 16
+# Zeros that are written at once for chips that were lost, and chips that are copied at once.
+ZEROS, PIECE = 1 << 16, 1 << 18
 
 
 class Extent(NamedTuple):
@@ -61,9 +61,14 @@ class ChipStore:
         parts = numpy.frombuffer(self.read(extent), FORM[VERSION]).astype(numpy.float32)
         return parts.view(numpy.complex64)
 
-    def sample_file(self, extent: Extent) -> bytes:
-        """Returns the sample file of chips."""
-        return header(VERSION, 0, extent.end - extent.first) + self.read(extent)
+    def sample_file(self, extent: Extent, flags: int = 0) -> IO[bytes]:
+        """Returns the sample file of chips, in a file without a name, so that they may be written over meanwhile."""
+        file = tempfile.TemporaryFile(prefix="cdma-view-")
+        file.write(header(VERSION, flags, extent.end - extent.first))
+        for first in range(extent.first, extent.end, PIECE):
+            file.write(self.read(Extent(first, min(first + PIECE, extent.end))))
+        file.seek(0)
+        return file
 
 
 class ChipKeeper:

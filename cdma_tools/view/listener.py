@@ -125,8 +125,18 @@ def run(options: argparse.Namespace, outbox: Outbox, store: ChipStore) -> int:
     return status
 
 
+def hear_only_server() -> None:
+    """Lets only the server interrupt this process, once for each interrupt that the server gets.
+
+    A terminal and timeout(1) send a signal to the whole group, and a service manager to all processes.
+    """
+    os.setpgid(0, 0)
+    signal.signal(signal.SIGTERM, signal.SIG_IGN)
+    signal.signal(signal.SIGINT, signal.default_int_handler)
+
+
 class ListenerProcess:
-    """A child of this process that listens; SIGTERM ends it in order, a second one breaks it off."""
+    """A child of this process that listens; SIGINT ends it in order, a second one breaks it off."""
 
     def __init__(self, options: argparse.Namespace, store: ChipStore, closed: list[int]) -> None:
         """Starts it; `closed` are descriptors of files that are not the child's."""
@@ -138,7 +148,7 @@ class ListenerProcess:
             os.close(writer)
             return
         try:
-            signal.signal(signal.SIGINT, signal.SIG_IGN)  # Ctrl-C in a terminal comes to the server, which passes it on
+            hear_only_server()
             for descriptor in (self.reader, *closed):
                 os.close(descriptor)
             status = run(options, Outbox(writer, may_wait=False), store)
@@ -150,7 +160,7 @@ class ListenerProcess:
     def stop(self) -> None:
         """Ends it in order, or breaks it off if it is ending already."""
         with contextlib.suppress(ProcessLookupError):
-            os.kill(self.number, signal.SIGTERM)
+            os.kill(self.number, signal.SIGINT)
 
     def wait(self, seconds: float) -> int:
         """Returns its status; kills it if it hasn't ended after some seconds."""

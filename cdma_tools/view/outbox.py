@@ -76,7 +76,7 @@ class Outbox:
             with self.changed:
                 self.is_closed = True
                 self.changed.notify_all()
-            os.kill(os.getpid(), signal.SIGTERM)
+            os.kill(os.getpid(), signal.SIGINT)
 
     def next(self) -> bytes | None:
         """Returns the next bytes to write, once there are some; None at the end. Fails if the server has ended."""

@@ -10,7 +10,7 @@ import signal
 import socket
 import time
 from concurrent.futures import ThreadPoolExecutor
-from typing import Any
+from typing import IO, Any
 
 from tornado.httpserver import HTTPServer
 from tornado.ioloop import PeriodicCallback
@@ -223,16 +223,17 @@ class Saved(Guarded):
         kinds = {"lines.jsonl": "application/x-ndjson", "report.html": "text/html; charset=utf-8"}
         self.set_header("Content-Type", kinds.get(name, "application/octet-stream"))
         self.set_header("Content-Disposition", f'attachment; filename="{name}"')
-        if name == "lines.jsonl":
-            await self.send_lines()
-            return
         loop = asyncio.get_running_loop()
-        made = self.report if name == "report.html" else self.sample_file
-        self.write(await loop.run_in_executor(self.hub.worker, made))
+        if name == "report.html":
+            self.write(await loop.run_in_executor(self.hub.explainer, self.report))
+        elif name == "lines.jsonl":
+            await self.send(open(self.hub.kept.file.path, "rb"))
+        else:
+            await self.send(await loop.run_in_executor(self.hub.explainer, self.sample_file))
 
-    async def send_lines(self) -> None:
-        """Sends all lines so far, some at a time."""
-        with open(self.hub.kept.file.path, "rb") as file:
+    async def send(self, file: IO[bytes]) -> None:
+        """Sends a file, some at a time, so that a large one takes no memory."""
+        with file:
             while data := file.read(PIECE):
                 self.write(data)
                 await self.flush()
@@ -243,9 +244,9 @@ class Saved(Guarded):
 
         return page_of_lines(self.hub.kept.name, heard_lines(self.hub.kept.file.path)).encode()
 
-    def sample_file(self) -> bytes:
+    def sample_file(self) -> IO[bytes]:
         """Returns the sample file of the last chips."""
-        return self.hub.store.sample_file(self.hub.extent.last())
+        return self.hub.store.sample_file(self.hub.extent.last(), self.hub.handset.flags)
 
 
 class Viewer(Guarded, WebSocketHandler):

@@ -9,8 +9,8 @@ from typing import Any
 
 import numpy
 
-from cdma_tools.commands.explain import text_of
 from cdma_tools.explaining.frame_steps import NoFrame, Steps, paging_steps, sync_steps, traffic_steps
+from cdma_tools.explaining.frame_text import text_of
 from cdma_tools.listening.events import Event
 from cdma_tools.listening.notes import FRAME
 from cdma_tools.listening.system_time import SUPERFRAME, fields_of, time_told

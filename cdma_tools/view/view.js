@@ -155,7 +155,7 @@ draw.spectrum = () => {
     shapes.push({ type: "line", x0: at, x1: at, y0: 0, y1: 1, yref: "paper", line: { color: "#c0392b", dash: "dot", width: 1 } });
   }
   plot("spectrum", [{ x, y: levels, mode: "lines", line: { color: "#1f6fb2", width: 1.2 } }],
-       { shapes, xaxis: { ...AXIS, title: { text: title, standoff: 2 } }, yaxis: { ...AXIS } });
+       { shapes, margin: { l: 40, r: 8, t: 4, b: 36 }, xaxis: { ...AXIS, title: { text: title, standoff: 8 } }, yaxis: { ...AXIS } });
 };
 
 draw.waterfall = () => {

@@ -17,7 +17,7 @@ import urllib.request
 from collections.abc import Callable
 from typing import Any, ClassVar
 
-from tools.tests.helping import HEADER, PROGRAM, PYTHON, ROOT, example, needs, run_inside, temporary_folder
+from tools.tests.helping import HEADER, PROGRAM, PYTHON, ROOT, example, is_gone, needs, run_inside, temporary_folder
 
 needs("numpy", "scipy", "tornado", "plotly")
 
@@ -86,7 +86,8 @@ class TheChips(unittest.TestCase):
     def test_a_sample_file(self) -> None:
         chips = numpy.arange(-6, 6).astype(">i2").tobytes()
         self.keeper.add(Chips(99, chips))
-        self.assertEqual(self.store.sample_file(self.keeper.extent), HEADER.pack(b"IS95", 1, 0, 6) + chips)
+        with self.store.sample_file(self.keeper.extent, 2) as file:
+            self.assertEqual(file.read(), HEADER.pack(b"IS95", 1, 2, 6) + chips)
 
 
 class TheSpectrum(unittest.TestCase):
@@ -586,23 +587,25 @@ class Streams(Server):
         process, url = self.start(*self.raw, "--search", "1000", "-", given=subprocess.PIPE)
         noise = numpy.random.default_rng(5).normal(0, 20, 2 * 1_600_000).round().astype("i1").tobytes()
         assert process.stdin is not None
-        with contextlib.suppress(BrokenPipeError):
-            process.stdin.buffer.write(noise)
-            process.stdin.buffer.close()
+        with contextlib.suppress(BrokenPipeError), open(process.stdin.fileno(), "wb", closefd=False) as pipe:
+            pipe.write(noise)
+        process.stdin.close()
+        process.stdin = None
         told = self.told(url)
         self.assertEqual(told["status"], 1)
         self.assertRegex(told["text"], "^no pilot stands out anywhere ")
-        status, said = self.finished(process)
-        self.assertEqual(status, 1)
-        self.assertEqual([line for line in said.splitlines() if " s: " not in line], [self.last_line(told)])
+        assert process.stderr is not None
+        while " s: " in (said := process.stderr.readline()):
+            pass
+        self.assertEqual((self.ended(process)[0], said), (1, self.last_line(told) + "\n"))
 
     def test_an_interrupt(self) -> None:
         """Ctrl-C ends a listening to a stream in order, and then the server; the page is told."""
         process, url = self.start(*self.raw, "-", given=subprocess.PIPE)
         told = self.watch(url, lambda connection: self.interrupted(process, connection))
         self.assertEqual(told["ended"]["status"], 1)
-        status, said = self.finished(process)
-        self.assertEqual((status, said), (1, f"view: {told['ended']['text']}\n"))
+        _, said = process.communicate(timeout=SECONDS)
+        self.assertEqual((process.returncode, said), (1, f"view: {told['ended']['text']}\n"))
 
     async def interrupted(self, process: subprocess.Popen[str], connection: WebSocketClientConnection) -> Any:
         """What a page is told up to the end of a listening that Ctrl-C ends."""
@@ -610,14 +613,36 @@ class Streams(Server):
         process.send_signal(signal.SIGINT)
         return await told_until(connection, "ended")
 
+    def test_an_interrupt_of_all_processes(self) -> None:
+        """SIGTERM to the command and to its child at once, as a service manager sends it, ends both in order."""
+
+        async def interrupted(connection: WebSocketClientConnection) -> Any:
+            await told_until(connection, "figures")
+            for number in (*children_of(process.pid), process.pid):
+                os.kill(number, signal.SIGTERM)
+            return await told_until(connection, "ended")
+
+        process, url = self.start(*self.raw, "-", given=subprocess.PIPE)
+        told = self.watch(url, interrupted)
+        _, said = process.communicate(timeout=SECONDS)
+        self.assertEqual((process.returncode, said), (1, f"view: {told['ended']['text']}\n"))
+
+    def test_a_server_that_is_killed(self) -> None:
+        """If the command is killed, the process that listens ends too."""
+        process, _ = self.start(*self.raw, "-", given=subprocess.PIPE)
+        (child,) = children_of(process.pid)
+        process.kill()
+        self.assertTrue(is_gone(child))
+
     def test_a_server_that_is_not_there(self) -> None:
         with socket.create_server(("127.0.0.1", 0)) as taken:
             port = taken.getsockname()[1]
         process, url = self.start("--rate", "1228800", "--program", "/bin/true", f"rtl_tcp://127.0.0.1:{port}")
         told = self.told(url)
         self.assertEqual(told, {"status": 1, "text": f"rtl_tcp://127.0.0.1:{port}: Connection refused"})
-        status, said = self.ended(process)
-        self.assertEqual((status, said), (1, self.last_line(told) + "\n"))
+        assert process.stderr is not None
+        said = process.stderr.readline()
+        self.assertEqual((self.ended(process)[0], said), (1, self.last_line(told) + "\n"))
 
     def test_a_server_that_goes_away(self) -> None:
         """A source that is unplugged ends the listening as `listen` ends."""
@@ -636,12 +661,11 @@ class Streams(Server):
         """The last line of a server whose page stays."""
         return f"view: {told['text']}; the page stays until Ctrl-C"
 
-    def finished(self, process: subprocess.Popen[str]) -> tuple[int, str]:
-        """The status and the words of a server, which Ctrl-C ends if it is still there."""
-        if process.stdin is not None:
-            process.stdin.close()
-            process.stdin = None
-        return self.ended(process)
+
+def children_of(number: int) -> list[int]:
+    """The processes that a process has started."""
+    told = subprocess.run(["ps", "--ppid", str(number), "-o", "pid="], capture_output=True, text=True)
+    return [int(word) for word in told.stdout.split()]
 
 
 async def connected(asked: HTTPRequest) -> WebSocketClientConnection:

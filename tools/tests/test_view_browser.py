@@ -28,7 +28,7 @@ from tools.tests.radio_helping import figures, run_main  # noqa: E402
 from tools.tests.report_fixture import FOLLOWED  # noqa: E402
 from tools.tests.test_report import MARKUP  # noqa: E402
 from tools.tests.test_report_browser import started  # noqa: E402
-from tools.tests.test_view import SECONDS, Server  # noqa: E402
+from tools.tests.test_view import SECONDS, Server, children_of  # noqa: E402
 
 CHIPS = 6 * 1_228_800
 HANDSET = ("--esn", "00c0ffee", "--row", "20")  # of the traffic channel of a drawn cell
@@ -257,8 +257,7 @@ class Lines(Watched):
         process, url = self.start(*words, given=subprocess.PIPE)
         self.driver.get(url)
         self.wait_text("state", "searching a pilot")
-        children = subprocess.run(["ps", "--ppid", str(process.pid), "-o", "pid="], capture_output=True, text=True)
-        os.kill(int(children.stdout.split()[0]), signal.SIGKILL)
+        os.kill(children_of(process.pid)[0], signal.SIGKILL)
         self.wait_text("state", "the listening's process was killed")
         self.assertEqual(self.ended(process)[0], 1)
 
