@@ -1,10 +1,14 @@
-"""The pytest plugin pytest-cdma: fixtures over the cases of conformance/, and a test for each case of a receiver.
+"""The plugin pytest-cdma: fixtures over the cases of conformance/, and a test for each case of a receiver.
 
-    pytest --cdma-receiver my_module:follow
+    pytest -p cdma.pytest_plugin --cdma-receiver my_module:follow
 
-The receiver is called as `cdma.follow` is: with chips, and with those options of the case that are given. It returns
-or yields lines, or events whose text is the line. Each case of `follow` over samples is one test, whose message names
-the first difference and the step of the frame at which it arose.
+If pip has installed the library, `-p` is not needed. The receiver is called as `cdma.follow` is: with chips, and with
+those options of the case that are given. It returns or yields lines, or events whose text is the line. Each case of
+`follow` over samples is one test, whose message names the first difference. It also names the step of the frame at
+which that arose, if the receiver writes steps (docs/FORMATS.md, "Steps of a frame").
+
+`--cdma-standard` compares only what the standard fixes, and `--cdma-model` makes the samples by the model. A test of
+one's own may take the fixtures `cdma_case` (`chips()`, `options`, `lines` and `check(lines)`) and `cdma_program`.
 """
 
 import contextlib

@@ -159,7 +159,13 @@ def page() -> str:
     for title, names in GROUPS.items():
         parts.append(f"## {title}\n")
         parts += [section(name) for name in names]
-    return "\n".join(parts)
+    return "\n".join([*parts, "## Tests of a receiver\n", plugin_text()])
+
+
+def plugin_text() -> str:
+    """Returns what the plugin of pytest says of itself; it can't be imported without pytest."""
+    with open(os.path.join(TOP, "cdma", "pytest_plugin.py"), encoding="utf-8") as file:
+        return as_page(ast.get_docstring(ast.parse(file.read())) or "")
 
 
 def main(arguments: list[str] | None = None) -> int:
