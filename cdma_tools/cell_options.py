@@ -19,5 +19,5 @@ def add_cell_options(words: argparse._ActionsContainer) -> None:
         help="the K-th strongest cell (default 1): stronger ones are subtracted first",
     )
     which.add_argument(
-        "--pn", type=whole_within(0, OFFSETS - 1), metavar="P", help="the cell with PILOT_PN P, by the program"
+        "--pn", type=whole_within(0, OFFSETS - 1), metavar="P", help="the cell with PILOT_PN P, decoded by the program"
     )
