@@ -484,7 +484,7 @@ class NoiseTest(unittest.TestCase):
         class Radio:
             """A source that gives these items."""
 
-            def begin(self, backlog: Backlog) -> Any:
+            def begin(self, backlog: Backlog, is_tried_again: bool = True) -> Any:
                 """What a thread does to fill a backlog."""
                 return lambda: [backlog.put(item) for item in items]
 
