@@ -188,6 +188,10 @@ class OfTheProgram(Installed):
         subprocess.run(["dpkg-deb", "-x", made[0], root], check=True, timeout=60)
         self.try_out(os.path.join(root, "usr"))
         self.assertIn("usr/share/zsh/vendor-completions/_cdma-scan", files_below(root))  # where Debian's zsh looks
+        modules = os.path.join(root, "usr", debian.MODULES, "cdma-replay.pth")  # by which Debian's Python finds cdma
+        with open(modules, encoding="ascii") as file:
+            self.assertEqual(file.read(), "/usr/share/cdma-replay\n")
+        self.assertIn("usr/share/cdma-replay/cdma/__init__.py", files_below(root))
         self.assertFalse([name for name in files_below(root) if "__pycache__" in name])
         for folder in ("share/cdma-replay", debian.PLUGINS):
             self.assertIn(f"usr/{folder}/is95.lua", files_below(root))
@@ -315,6 +319,11 @@ class Parts(Installed):
                 [script, "--version"], capture_output=True, text=True, env=run, cwd=self.work, timeout=60
             )
             self.assertEqual((told.returncode, told.stdout), (0, f"{name} {cdma_tools.__version__}\n"), told.stderr)
+        code = "import cdma, sys; cdma.use_model(); print(cdma.find(sys.argv[1]).phase, cdma.__file__)"
+        words = [PYTHON, "-c", code, os.path.join(ROOT, "examples", "pilot_in_noise.is95")]
+        told = subprocess.run(words, capture_output=True, text=True, env=run, cwd=self.work, timeout=60)
+        self.assertEqual(told.stdout, f"12345 {os.path.join(where, 'cdma', '__init__.py')}\n", told.stderr)
+        self.assertTrue(os.path.exists(os.path.join(where, "cdma", "py.typed")))
         script = os.path.join(prefix, next(path for path in scripts if path.endswith("/cdma-conformance")))
         told = subprocess.run([script, "--list"], capture_output=True, text=True, env=run, cwd=self.work, timeout=60)
         self.assertGreater(told.stdout.count("\n"), 300, told.stderr)
