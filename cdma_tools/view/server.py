@@ -36,6 +36,9 @@ HERE = os.path.dirname(os.path.abspath(__file__))
 # Seconds from one update of a browser to the next, and from one measurement to the next.
 UPDATE_EVERY, MEASURE_EVERY = 0.1, 0.5
 MOST_VIEWERS = 16
+# Seconds from one ping of a browser to the next, and without an answer after which it is gone. A machine that is very
+# busy may let a browser wait for half a minute.
+PING_EVERY, GONE = 20, 120
 LONGEST_MESSAGE, LONGEST_LINE = 1_000, 1 << 20  # bytes: of a browser's request, and of the listening's
 # Seconds for which a listening may take to end, and a browser to take its end.
 ENDING, LAST_WORDS = 60.0, 1.0
@@ -347,7 +350,8 @@ def application(door: Door, hub: Hub) -> Application:
             (rf"{start}save/(?P<name>lines\.jsonl|report\.html|samples\.is95)", Saved, shared),
         ],
         log_function=lambda handler: None,
-        websocket_ping_interval=10,
+        websocket_ping_interval=PING_EVERY,
+        websocket_ping_timeout=GONE,
         websocket_max_message_size=LONGEST_MESSAGE,
     )
 
