@@ -42,6 +42,10 @@ LINES = (
     "adapt --command /bin/cat -- find",
     "gate_times survey.txt",
 )
+# What the interpreter reports of an interrupt before the first line of a launcher.
+BEFORE_PYTHON = re.compile(
+    r"^Python runtime state: (core initialized|preinitializ)|, line 0, in <module>\nKeyboardInterrupt\n\Z", re.MULTILINE
+)
 LAUNCHERS = {module: launcher for module, launcher, _ in COMMANDS}
 INPUTS = ("input", "cell.is95", "survey.txt")
 SECONDS = 120  # in which a run has to end
@@ -63,7 +67,7 @@ class Ended:
     @property
     def is_before_python(self) -> bool:
         """Whether an interrupt ended the interpreter in the milliseconds before it read a line of the tool."""
-        return re.search(r"^Python runtime state: (core initialized|preinitializ)", self.said, re.MULTILINE) is not None
+        return BEFORE_PYTHON.search(self.said) is not None
 
     def fault(self, tool: str, statuses: set[int]) -> str:
         """Returns the fault of the end, empty if there is none."""

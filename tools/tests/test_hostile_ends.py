@@ -57,6 +57,9 @@ class Ends(unittest.TestCase):
         state = "echo 'Python runtime state: {}' >&2; echo Traceback >&2; exit 1"
         self.assertEqual(self.fault(interrupted, 1, state.format("core initialized")), "")
         self.assertIn("a traceback", self.fault(interrupted, 1, state.format("initialized")))
+        place = "printf 'Traceback\\n  File \"tools/lines\", line {}, in <module>\\nKeyboardInterrupt\\n' >&2; exit 1"
+        self.assertEqual(self.fault(interrupted, 1, place.format(0)), "")
+        self.assertIn("a traceback", self.fault(interrupted, 1, place.format(8)))
         lost = "echo lost > same.png; echo same.png >&2; exit 1"
         self.assertRegex(self.fault(same_file, 1, lost), "an input was changed|not refused")
         self.assertIn("not refused", self.fault(same_file, 1, "exit 0"))
