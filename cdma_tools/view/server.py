@@ -20,6 +20,7 @@ from tornado.web import Application, HTTPError, RequestHandler
 from tornado.websocket import WebSocketClosedError, WebSocketHandler
 
 from cdma_tools.errors import Refused, said
+from cdma_tools.interrupts import noted_interrupts
 from cdma_tools.listening.events import Event
 from cdma_tools.report.heard_lines import heard_lines
 from cdma_tools.starting import INTERRUPTED, called
@@ -421,7 +422,11 @@ class Serving:
 
 def serve(hub: Hub, listener: ListenerProcess, sockets: list[socket.socket], door: Door, is_ending: bool) -> int:
     """Serves the page of a listening, and returns the exit status."""
-    status = asyncio.run(Serving(hub, listener, is_ending).serve(sockets, door))
+    with asyncio.Runner() as runner:
+        # A loop that an interrupt leaves half made can't be closed.
+        with noted_interrupts(signal.SIGINT, signal.SIGTERM):
+            runner.get_loop()
+        status = runner.run(Serving(hub, listener, is_ending).serve(sockets, door))
     for worker in (hub.worker, hub.explainer):
         worker.shutdown(wait=False, cancel_futures=True)
     if status == INTERRUPTED:
