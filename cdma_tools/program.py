@@ -1,38 +1,45 @@
-"""One way to the program `cdma_replay`, for every tool that runs it."""
+"""One way to the program `cdma_replay`, or to the Python model in its place, for every tool that runs it."""
 
 import argparse
+import functools
 import os
 import shutil
 import subprocess
 import sys
 from typing import IO
 
-from cdma_tools.errors import Refused
+from cdma_tools.errors import Refused, said
 from cdma_tools.overwriting import InputFile
-from cdma_tools.places import BUILT
-from cdma_tools.starting import is_installed
+from cdma_tools.places import BUILT, TOP
+from cdma_tools.starting import INSTALLED, is_installed
 
 NAME = "cdma_replay"
 LONGEST_RUN = 600  # seconds that a run over a sample file may take
 VARIABLE = "CDMA_REPLAY"
+MODEL = "model"  # what names the model in place of a program's file
+SLOWER = "10 to 30 times slower"  # over the examples, start included
 
 # Where the program is searched by default, and the error if it isn't there: in a checkout, and installed.
 IN_CHECKOUT = "the one built in this checkout"
 BESIDE = "the one next to this command"
+INSTEAD = f"--program {MODEL} runs the Python model instead, {SLOWER}"
 NOT_FOUND = (
     f"{NAME} was not found: give --program or set ${VARIABLE}; it is not built in this checkout (rt ci builds it), and"
-    " not on the path"
+    f" not on the path; {INSTEAD}"
 )
 NOT_INSTALLED = (
     f"{NAME} was not found: give --program or set ${VARIABLE}; it is not next to this command, and not on the path:"
-    " install the package cdma-replay, which has it"
+    f" install the package cdma-replay, which has it; {INSTEAD}"
 )
 
 
 def add_program_option(parser: argparse.ArgumentParser, *others: str) -> None:
     """Adds the option --program, and other names of it, to a command line."""
     nearest = BESIDE if is_installed() else IN_CHECKOUT
-    what = f"cdma_replay (default ${VARIABLE}, or {nearest}, or {NAME} on the path)"
+    what = (
+        f"{NAME}, or {MODEL} for the Python model, which is {SLOWER} (default ${VARIABLE}, or {nearest}, or {NAME} on"
+        " the path)"
+    )
     parser.add_argument("--program", *others, dest="program", type=InputFile, metavar="FILE", help=what)
 
 
@@ -43,27 +50,50 @@ def checked_program(path: str) -> str:
     return os.path.abspath(path)
 
 
-def nearest_programs() -> list[str]:
-    """Returns the places where the program may be nearest: next to an installed command, by its name or its link, or in
-    a checkout."""
-    if not is_installed():
-        return [BUILT]
+def beside(name: str) -> list[str]:
+    """Returns the places of a program next to the command of this process, by the command's name and by its link."""
     commands = (os.path.abspath(sys.argv[0]), os.path.realpath(sys.argv[0]))
-    return [os.path.join(os.path.dirname(command), NAME) for command in commands]
+    return [os.path.join(os.path.dirname(command), name) for command in commands]
+
+
+def first_program(places: list[str], name: str) -> str | None:
+    """Returns the first of the places that has a program, otherwise the program of this name on the path, if any."""
+    there = (place for place in places if os.path.isfile(place) and os.access(place, os.X_OK))
+    found = next(there, None) or shutil.which(name)
+    return found and os.path.abspath(found)
+
+
+def model_program() -> str:
+    """Returns the command that runs the model: of this checkout or next to this command, otherwise on the path."""
+    command = INSTALLED[MODEL]
+    places = beside(command) if is_installed() else [os.path.join(TOP, "tools", MODEL)]
+    found = first_program([*places, os.path.join(os.path.dirname(sys.executable), command)], command)
+    if found is None:
+        raise Refused(f"no {command}, which runs the model: it is neither next to this command nor on the path")
+    remark_on_model()
+    return found
+
+
+@functools.cache
+def remark_on_model() -> None:
+    """Writes to standard error, once in a process, that the model runs."""
+    said(MODEL, f"runs instead of {NAME}, {SLOWER}")
 
 
 def find_program(given: str | None) -> str:
-    """Returns the program to run: the given one, otherwise $CDMA_REPLAY, the nearest, or the one on the path."""
+    """Returns the program to run: the given one, otherwise $CDMA_REPLAY, the nearest, or the one on the path.
+
+    The word `model` names the command that runs the model.
+    """
     named = given or os.environ.get(VARIABLE)
+    if named == MODEL:
+        return model_program()
     if named:
         return checked_program(named)
-    for nearest in nearest_programs():
-        if os.path.isfile(nearest) and os.access(nearest, os.X_OK):
-            return nearest
-    found = shutil.which(NAME)
+    found = first_program(beside(NAME) if is_installed() else [BUILT], NAME)
     if found is None:
         raise Refused(NOT_INSTALLED if is_installed() else NOT_FOUND)
-    return os.path.abspath(found)
+    return found
 
 
 def program_or_hint(given: str | None, lines: list[str], without: str = "no cell's messages are decoded") -> str | None:
@@ -73,7 +103,7 @@ def program_or_hint(given: str | None, lines: list[str], without: str = "no cell
     except Refused as why:
         if given:
             raise
-        lines.append(f"{why}; {without}")
+        lines.append(f"{without}: {why}")
         return None
 
 

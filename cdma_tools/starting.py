@@ -27,6 +27,7 @@ COMMANDS = (
     ("domain", "tools/domain", "cdma-domain"),
     ("adapt", "tools/adapt", "cdma-adapt"),
     ("script", "tools/script", "cdma-script"),
+    ("model", "tools/model", "cdma-model"),
     ("agree", "tools/agree", ""),
     ("bench", "tools/bench", ""),
     ("build", "tools/build", ""),

@@ -12,11 +12,11 @@ import sys
 INTERRUPTED = 130
 
 
-def main() -> int:
+def main(words: list[str]) -> int:
     """Runs a command on standard input, and returns its exit status."""
     from model.run import WRITE_FAULT, run
 
-    outcome = run(sys.argv[1:], sys.stdin.buffer.read)
+    outcome = run(words, sys.stdin.buffer.read)
     try:
         for piece in outcome.written:
             sys.stdout.buffer.write(piece)
@@ -31,7 +31,7 @@ def main() -> int:
 
 if __name__ == "__main__":
     try:
-        status = main()
+        status = main(sys.argv[1:])
     except KeyboardInterrupt:
         os.write(2, b"model: broken off\n")
         os._exit(INTERRUPTED)  # what was written stays as it is

@@ -4,6 +4,7 @@ from __future__ import annotations
 
 import contextlib
 import importlib.util
+import io
 import json
 import os
 import re
@@ -27,10 +28,11 @@ from cdma_tools.arguments import joined  # noqa: E402
 from cdma_tools.commands import channel  # noqa: E402
 from cdma_tools.errors import Refused  # noqa: E402
 from cdma_tools.hostile_tools import told_fault  # noqa: E402
-from cdma_tools.program import NOT_FOUND, NOT_INSTALLED, find_program  # noqa: E402
+from cdma_tools.program import MODEL, NOT_FOUND, NOT_INSTALLED, SLOWER, find_program, remark_on_model  # noqa: E402
 from cdma_tools.repository import launchers  # noqa: E402
 from cdma_tools.starting import COMMANDS, IN_CHECKOUT, INSTALLED, called, named_by  # noqa: E402
 from cdma_tools.writing import write_beside  # noqa: E402
+from model.run import run  # noqa: E402
 from tools.tests.radio_helping import run_main  # noqa: E402
 
 WAYS = [f"tools/{name}" for name in sorted(os.listdir(os.path.join(ROOT, "tools"))) if name != "tests"]
@@ -103,7 +105,9 @@ class Command(unittest.TestCase):
             with self.subTest(way):
                 status, wrote, said = run_main(name, "--none")
                 self.assertEqual((status, wrote, said.count("\n")), (2, "", 1), said)
-                self.assertTrue(said.startswith(f"{called(name)}: "), said)
+                # The model's texts are those of cdma_replay, which have no name before them.
+                begun = "bad words\n" if name == MODEL else f"{called(name)}: "
+                self.assertTrue(said.startswith(begun), said)
 
     def test_installed_commands_are_entries(self) -> None:
         for module, name in INSTALLED.items():
@@ -364,6 +368,58 @@ class TheProgram(Folder):
             os.unlink(beside)
             with self.assertRaisesRegex(Refused, re.escape(NOT_INSTALLED)):
                 find_program(None)
+
+    def test_the_model_in_its_place(self) -> None:
+        """The word model names the model's command, in a checkout and installed, and the tool remarks on it once."""
+        for given, variable in ((MODEL, ""), (None, MODEL)):
+            remark_on_model.cache_clear()
+            said = io.StringIO()
+            with unittest.mock.patch.dict(os.environ, {"CDMA_REPLAY": variable}), contextlib.redirect_stderr(said):
+                self.assertEqual(find_program(given), os.path.join(ROOT, "tools", "model"))
+                find_program(given)
+            self.assertEqual(said.getvalue(), f"model: runs instead of cdma_replay, {SLOWER}\n")
+        with unittest.mock.patch("sys.argv", [self.at("cdma-listen")]), unittest.mock.patch.dict(
+            os.environ, {"PATH": "/none"}
+        ):
+            with self.assertRaisesRegex(Refused, "no cdma-model, which runs the model"):
+                find_program(MODEL)
+            beside = self.program("cdma-model", "exit 0\n")
+            self.assertEqual(find_program(MODEL), beside)
+
+    def test_the_model_runs_as_the_program(self) -> None:
+        """Its command passes on arguments, input, bytes, texts and statuses; only its help and version are ours."""
+        model = os.path.join(ROOT, "tools", "model")
+        for words, data in (
+            (["find"], example("pilot_in_noise.is95")),
+            (["find"], b"CDMB"),
+            (["make", "--bits", "8"], example("second_of_paging.script")),
+            (["follow", "--help"], b""),
+            ([], b""),
+        ):
+            with self.subTest(words, size=len(data)):
+                ran = subprocess.run([model, *words], input=data, capture_output=True, timeout=SECONDS)
+                wanted = run(words, io.BytesIO(data).read)
+                said = f"{wanted.said}\n" if wanted.said else ""
+                found = (ran.returncode, ran.stdout, ran.stderr.decode())
+                self.assertEqual(found, (wanted.status, wanted.text(), said))
+        self.assertEqual(run_main("model", "--version"), (0, f"model {cdma_tools.__version__}\n", ""))
+        self.assertIn("--program model", run_main("model", "--help")[1])
+
+    def test_tools_run_the_model(self) -> None:
+        """A receiver's test, and a page that the model's lines fill."""
+        environment = unittest.mock.patch.dict(os.environ, {"PATH": "/none", "CDMA_REPLAY": ""})
+        with environment, unittest.mock.patch("cdma_tools.program.BUILT", self.at("none")):
+            remark_on_model.cache_clear()
+            status, wrote, said = run_main("conformance", "--program", "model", "--only", "find_*noise*")
+            self.assertEqual(status, 0, wrote + said)
+            self.assertRegex(wrote, r"[1-9]\d* cases?, 0 differ")
+            self.assertIn(SLOWER, said)
+            page = self.at("page.html")
+            noisy = os.path.join(EXAMPLES, "pilot_in_noise.is95")
+            # A pilot without a sync channel: the status is that of `follow`.
+            self.assertEqual(run_main("report", "--program", "model", "--out", page, noisy)[0], 1)
+        with open(page, encoding="utf-8") as file:
+            self.assertIn("21272219170", file.read())
 
     def test_each_tool_says_the_same(self) -> None:
         environment = {"PATH": "/none", "CDMA_REPLAY": ""}
