@@ -29,4 +29,5 @@
 | `commands` | a module for each command, with its `main` |
 """
 
-__version__ = "0.1.0"
+__version__ = "0.2.0"
+RELEASED = "2026-12-01"  # the day of this version, as CHANGELOG.md has it

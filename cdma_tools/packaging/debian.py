@@ -1,5 +1,7 @@
 """The package of Debian's kind: its files, and how `dpkg-deb` makes it of them."""
 
+import datetime
+import email.utils
 import gzip
 import hashlib
 import os
@@ -7,7 +9,7 @@ import subprocess
 import tempfile
 from collections.abc import Iterable, Iterator
 
-from cdma_tools import __version__
+from cdma_tools import RELEASED, __version__
 from cdma_tools.errors import Refused
 from cdma_tools.packaging.tree import DISSECTOR, DOCUMENTS, EXECUTABLE, MANUALS, NAME, PLAIN, SHARED, ZSH, Entry, put
 
@@ -16,10 +18,9 @@ VENDOR_ZSH = "share/zsh/vendor-completions"  # where zsh looks for those of pack
 PLUGINS = "lib/x86_64-linux-gnu/wireshark/plugins"  # where Wireshark looks for dissectors of packages
 MODULES = "lib/python3/dist-packages"  # where Debian's Python looks for modules of packages
 MAINTAINER = "Rolvenst maintainers <maintainers@users.noreply.rolvenst.example>"
-DATE = "Sun, 29 Nov 2026 12:00:00 +0000"
-SECONDS = (
-    1_795_953_600  # the same date, since 1970: the time of every file, so that the same files make the same package
-)
+NOON = datetime.datetime.fromisoformat(f"{RELEASED}T12:00:00+00:00")
+DATE = email.utils.format_datetime(NOON)
+SECONDS = int(NOON.timestamp())  # the time of every file, so that the same files make the same package
 FILE = f"{NAME}_{__version__}_{ARCHITECTURE}.deb"
 CONTROL = f"""Package: {NAME}
 Version: {__version__}

@@ -7,10 +7,9 @@ import sys
 from collections.abc import Iterator
 from unittest import mock
 
-from cdma_tools import __version__
+from cdma_tools import RELEASED, __version__
 from cdma_tools.arguments import STATUS, Parser
 
-DATE = "2026-11-29"
 HEAD = '.\\" Made of the parser of {name}.\n.TH {title} 1 "{date}" "cdma-replay {version}" "User Commands"\n'
 
 
@@ -88,7 +87,7 @@ def manual_of(name: str, module: str) -> str:
     summary, _, rest = description.partition("\n\n")
     line = re.sub(r"\s+", " ", summary).strip().rstrip(".")
     ended = escaped(re.sub(r"\s+", " ", status).strip())
-    head = HEAD.format(name=name, title=name.upper(), date=DATE, version=__version__)
+    head = HEAD.format(name=name, title=name.upper(), date=RELEASED, version=__version__)
     return (
         f"{head}.SH NAME\n{escaped(name)} \\- {escaped(line[:1].lower() + line[1:])}\n{synopsis(parser)}"
         f".SH DESCRIPTION\n{''.join(paragraphs(rest)).removeprefix('.PP' + chr(10))}{options(parser)}{parts(parser)}"

@@ -34,6 +34,7 @@ PAGES = (
     "docs/PROOFS.md",
     "docs/PROVING.md",
     "docs/RADIO.md",
+    "docs/VERSIONS.md",
     "docs/cdma_replay.1",
 )
 # Words before "else" with which it does not stand for "otherwise" or for a default.
