@@ -17,6 +17,7 @@ NAME = "cdma-replay"
 SHARED = f"share/{NAME}"
 LIST = f"{SHARED}/files"  # of an installation: what was put in place, to be taken away again
 DISSECTOR = f"{SHARED}/is95.lua"  # for Wireshark; at the same place in the checkout
+GRAMMARS = tuple(f"{SHARED}/is95-{name}.tmLanguage.json" for name in ("script", "lines"))  # for editors, likewise
 DOCUMENTS = f"share/doc/{NAME}"
 MANUALS = "share/man/man1"
 ZSH = "share/zsh/site-functions"  # which zsh looks at below /usr/local
@@ -94,13 +95,17 @@ def commands() -> dict[str, str]:
 
 
 def shared_files() -> Iterator[Entry]:
-    """Yields the package, the model, the cases, the examples and the dissector, without what only a checkout runs."""
+    """Yields the package, the model, the cases, the examples, the dissector and the grammars.
+
+    What only a checkout runs is left out.
+    """
     for folder in FOLDERS:
         for place in files_below(folder):
             is_way = folder == "conformance" and os.path.dirname(place) == folder and "." not in place
             if not is_way:
                 yield Entry(f"{SHARED}/{place}", read(os.path.join(TOP, place)), PLAIN)
-    yield Entry(DISSECTOR, read(os.path.join(TOP, DISSECTOR)), PLAIN)
+    for place in (DISSECTOR, *GRAMMARS):
+        yield Entry(place, read(os.path.join(TOP, place)), PLAIN)
 
 
 def documents() -> Iterator[Entry]:
