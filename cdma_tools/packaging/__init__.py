@@ -4,6 +4,7 @@
 |---|---|
 | `tree` | files of an installation, how they are put below a prefix and removed again |
 | `manuals` | a manual page for each command, made from its parser |
-| `completions` | completions for bash and zsh |
+| `completions` | completions of the tools for bash and zsh |
+| `program_completions` | those of cdma_replay, which say what is wrong with its arguments |
 | `debian` | the package: control, copyright, changelog, and how it is made |
 """

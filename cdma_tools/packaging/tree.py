@@ -8,7 +8,7 @@ from collections.abc import Iterable, Iterator
 from typing import NamedTuple
 
 from cdma_tools.errors import Refused
-from cdma_tools.packaging import completions, manuals
+from cdma_tools.packaging import completions, manuals, program_completions
 from cdma_tools.places import PACKAGE, TOP
 from cdma_tools.starting import INSTALLED
 from cdma_tools.writing import write_beside
@@ -20,6 +20,7 @@ DISSECTOR = f"{SHARED}/is95.lua"  # for Wireshark; at the same place in the chec
 GRAMMARS = tuple(f"{SHARED}/is95-{name}.tmLanguage.json" for name in ("script", "lines"))  # for editors, likewise
 DOCUMENTS = f"share/doc/{NAME}"
 MANUALS = "share/man/man1"
+BASH = "share/bash-completion/completions"
 ZSH = "share/zsh/site-functions"  # which zsh looks at below /usr/local
 PLAIN, EXECUTABLE = 0o644, 0o755
 # Folders of the checkout that are laid as they are, without what a run of Python leaves in them.
@@ -120,12 +121,12 @@ def entries(program: str) -> Iterator[Entry]:
     check_program(program)
     yield Entry(f"{MANUALS}/cdma_replay.1", read(os.path.join(TOP, "docs", "cdma_replay.1")), PLAIN)
     yield Entry("bin/cdma_replay", read(program), EXECUTABLE)
+    yield Entry(f"{BASH}/cdma_replay", program_completions.bash_completion().encode(), PLAIN)
+    yield Entry(f"{ZSH}/_cdma_replay", program_completions.zsh_completion().encode(), PLAIN)
     for name, module in commands().items():
         yield Entry(f"bin/{name}", COMMAND.format(module=module, command=name, name=NAME).encode(), EXECUTABLE)
         yield Entry(f"{MANUALS}/{name}.1", manuals.manual_of(name, module).encode(), PLAIN)
-        yield Entry(
-            f"share/bash-completion/completions/{name}", completions.completion_of(name, module).encode(), PLAIN
-        )
+        yield Entry(f"{BASH}/{name}", completions.completion_of(name, module).encode(), PLAIN)
         yield Entry(f"{ZSH}/_{name}", completions.zsh_completion_of(name, module).encode(), PLAIN)
     yield from shared_files()
     yield from documents()

@@ -20,9 +20,11 @@ needs("numpy", "scipy")
 
 import cdma_tools  # noqa: E402
 from cdma_tools.errors import Refused  # noqa: E402
-from cdma_tools.packaging import completions, debian, tree  # noqa: E402
+from cdma_tools.packaging import completions, debian, program_completions, tree  # noqa: E402
 from cdma_tools.places import data_folder  # noqa: E402
+from cdma_tools.program import NAME  # noqa: E402
 from cdma_tools.starting import INSTALLED  # noqa: E402
+from model.words import COMMANDS  # noqa: E402
 
 SECONDS = 300
 # Cases of several commands; all of them are asked where WHOLE_CONFORMANCE is set, which takes some minutes.
@@ -115,6 +117,8 @@ class Installed(unittest.TestCase):
             ran = subprocess.run(["bash", "-c", asked], capture_output=True, text=True, timeout=60)
             self.assertIn("--version", ran.stdout.split(), ran.stderr)
             self.assertTrue(os.path.isfile(os.path.join(prefix, tree.ZSH, f"_{name}")))
+        for place in (os.path.join(tree.BASH, NAME), os.path.join(tree.ZSH, f"_{NAME}")):
+            self.assertTrue(os.path.isfile(os.path.join(prefix, place)))
 
 
 @unittest.skipUnless(shutil.which("zsh"), "no zsh: install the package zsh")
@@ -126,6 +130,8 @@ class OfZsh(unittest.TestCase):
         for name, module in tree.commands().items():
             with open(os.path.join(self.folder, f"_{name}"), "w", encoding="utf-8") as file:
                 file.write(completions.zsh_completion_of(name, module))
+        with open(os.path.join(self.folder, "_cdma_replay"), "w", encoding="utf-8") as file:
+            file.write(program_completions.zsh_completion())
 
     def read(self, terminal: int, pattern: bytes) -> bytes:
         """Reads what a terminal shows up to a pattern's group, and returns that."""
@@ -170,6 +176,60 @@ class OfZsh(unittest.TestCase):
         ):
             with self.subTest(line):
                 self.assertEqual(self.completed(line), told)
+
+    def test_the_program(self) -> None:
+        """A wrong argument isn't completed; the reason is shown below the line."""
+        for line, told in (
+            ("cdma_replay fi", "cdma_replay find"),
+            ("cdma_replay survey --wi", "cdma_replay survey --width"),
+            ("cdma_replay make --bits=1", "cdma_replay make --bits=16"),
+            ("cdma_replay find --esn 1 --sp", "cdma_replay find --esn 1 --sp"),
+            ("cdma_replay fund --sp", "cdma_replay fund --sp"),
+        ):
+            with self.subTest(line):
+                self.assertEqual(self.completed(line).rstrip("= "), told)
+
+
+class OfBash(unittest.TestCase):
+    """What bash completes for the program, and what it says if nothing can be completed."""
+
+    def completed(self, *words: str) -> tuple[list[str], str]:
+        """Returns what the Tab key offers for the last word, and what is said."""
+        script = f"""{program_completions.bash_completion()}
+            COMP_WORDS=("$@") COMP_CWORD=$(($# - 1)) COMP_LINE="$*"
+            _cdma_replay
+            printf '%s\\n' "${{COMPREPLY[@]}}" """
+        ran = subprocess.run(["bash", "-c", script, "bash", NAME, *words], capture_output=True, text=True, timeout=60)
+        return ran.stdout.split(), ran.stderr.strip().split("\n")[0]
+
+    def test_what_is_offered(self) -> None:
+        for words, offered in (
+            (["f"], ["find", "follow"]),
+            (["list", "--"], ["--span", "--workers", "--fingers", "--esn", "--row", "--offset", "--k"]),
+            (["list", "--esn", "00c0ffee", "--row", "=", "10", "--o"], ["--offset"]),
+            (["find", "--span", "64", "--s"], []),
+            (["make", "--bits", ""], ["8", "16"]),
+            (["follow", "--paging", "=", ""], list("1234567")),
+            (["follow", "--fingers", "="], list("123")),
+        ):
+            with self.subTest(words):
+                self.assertEqual(self.completed(*words), (offered, ""))
+
+    def test_what_is_said(self) -> None:
+        for words, said in (
+            (["fund", "--"], "fund is not a command: find follow rate2 list idle survey make trial"),
+            (["find", "--esn", "00c0ffee", "--"], "find has no --esn: --span --workers"),
+            (["find", "--span", ""], "--span: 64 to 32,768"),
+            (["idle", "--key", "="], "--key: eight hex digits"),
+        ):
+            with self.subTest(words):
+                self.assertEqual(self.completed(*words), ([], said))
+
+    def test_each_option_is_offered_where_the_program_takes_it(self) -> None:
+        """The table of the completions is held to the model's, which reads arguments as the program does."""
+        self.assertEqual(self.completed("")[0], list(COMMANDS))
+        for command, options in COMMANDS.items():
+            self.assertEqual(self.completed(command, "--")[0], [f"--{name}" for name in options])
 
 
 @unittest.skipUnless(PROGRAM, NO_PROGRAM)
