@@ -18,9 +18,9 @@ VENDOR_ZSH = "share/zsh/vendor-completions"  # where zsh looks for those of pack
 PLUGINS = "lib/x86_64-linux-gnu/wireshark/plugins"  # where Wireshark looks for dissectors of packages
 MODULES = "lib/python3/dist-packages"  # where Debian's Python looks for modules of packages
 MAINTAINER = "Rolvenst maintainers <maintainers@users.noreply.rolvenst.example>"
-NOON = datetime.datetime.fromisoformat(f"{RELEASED}T12:00:00+00:00")
-DATE = email.utils.format_datetime(NOON)
-SECONDS = int(NOON.timestamp())  # the time of every file, so that the same files make the same package
+MIDNIGHT = datetime.datetime.fromisoformat(f"{RELEASED}T00:00:00+00:00")
+DATE = email.utils.format_datetime(MIDNIGHT)
+SECONDS = int(MIDNIGHT.timestamp())  # the time of every file, so that the same files make the same package
 FILE = f"{NAME}_{__version__}_{ARCHITECTURE}.deb"
 CONTROL = f"""Package: {NAME}
 Version: {__version__}

@@ -11,8 +11,6 @@ from cdma_tools.arguments import version_of
 from cdma_tools.packaging import debian
 from tools.tests.helping import ROOT
 
-NOON = 12 * 3_600
-
 
 def text_of(page: str) -> str:
     """Returns the text of a page."""
@@ -31,9 +29,9 @@ class OneVersion(unittest.TestCase):
         self.assertEqual((numbers, days), (sorted(set(numbers), reverse=True), sorted(days, reverse=True)))
 
     def test_the_package(self) -> None:
-        """Its files have the day's time, at noon in UTC, and its changelog the same day."""
+        """Its files have the day's time, at midnight in UTC, which is never in the future, and its changelog the same day."""
         day = datetime.date.fromisoformat(RELEASED)
-        self.assertEqual(debian.SECONDS, (day - datetime.date(1970, 1, 1)).days * 86_400 + NOON)
+        self.assertEqual(debian.SECONDS, (day - datetime.date(1970, 1, 1)).days * 86_400)
         self.assertEqual(email.utils.parsedate_to_datetime(debian.DATE).timestamp(), debian.SECONDS)
         self.assertTrue(debian.CHANGELOG.startswith(f"cdma-replay ({__version__}) "))
         self.assertIn(f"\nVersion: {__version__}\n", debian.CONTROL)
