@@ -1,9 +1,11 @@
 """Makes a Debian package of the built program, the tools, the model, the cases and the documents.
 
 It takes only the program that `rt` built in this checkout, which it builds only from proved crates. The package is
-cdma-replay_VERSION_amd64.deb in FOLDER. The same files make the same package.
+cdma-replay_VERSION_amd64.deb in FOLDER. The same files make the same package. --tarball writes only the program, its
+manual page and its completions instead, as cdma-replay_VERSION_amd64.tar.gz, and its checksum for `sha256sum --check`.
 
     tools/package
+    tools/package --tarball /tmp
     tools/package /tmp && sudo apt install /tmp/cdma-replay_*.deb
 
 Exit status: 0 made, 1 there is no built program that runs here, or the package can't be made, 2 wrong arguments.
@@ -13,7 +15,7 @@ import os
 
 from cdma_tools.arguments import Parser
 from cdma_tools.overwriting import OutputFolder
-from cdma_tools.packaging import debian, tree
+from cdma_tools.packaging import archive, debian, tree
 from cdma_tools.places import BUILT
 
 
@@ -28,6 +30,9 @@ def parser() -> Parser:
         metavar="FOLDER",
         help="folder for the package (default this one)",
     )
+    arguments.add_argument(
+        "--tarball", action="store_true", help="write an archive of the program and its checksum instead of a package"
+    )
     return arguments
 
 
@@ -37,6 +42,10 @@ def main(arguments: list[str] | None = None) -> int:
     options = words.parse_args(arguments)
     if not os.path.isdir(options.folder):
         words.error(f"no folder {options.folder}")
+    if options.tarball:
+        for path in archive.build(tree.program_files(BUILT), options.folder):
+            print(path)
+        return 0
     path = os.path.join(options.folder, debian.FILE)
     debian.build(tree.entries(BUILT), path)
     print(path)

@@ -6,5 +6,6 @@
 | `manuals` | a manual page for each command, made from its parser |
 | `completions` | completions of the tools for bash and zsh |
 | `program_completions` | those of cdma_replay, which say what is wrong with its arguments |
+| `archive` | the built program as an archive with its checksum |
 | `debian` | the package: control, copyright, changelog, and how it is made |
 """

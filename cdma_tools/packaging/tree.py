@@ -116,13 +116,18 @@ def documents() -> Iterator[Entry]:
             yield Entry(f"{DOCUMENTS}/{place}", read(os.path.join(TOP, place)), PLAIN)
 
 
-def entries(program: str) -> Iterator[Entry]:
-    """All files of an installation."""
+def program_files(program: str) -> Iterator[Entry]:
+    """Yields the program, its manual page and its completions."""
     check_program(program)
     yield Entry(f"{MANUALS}/cdma_replay.1", read(os.path.join(TOP, "docs", "cdma_replay.1")), PLAIN)
     yield Entry("bin/cdma_replay", read(program), EXECUTABLE)
     yield Entry(f"{BASH}/cdma_replay", program_completions.bash_completion().encode(), PLAIN)
     yield Entry(f"{ZSH}/_cdma_replay", program_completions.zsh_completion().encode(), PLAIN)
+
+
+def entries(program: str) -> Iterator[Entry]:
+    """All files of an installation."""
+    yield from program_files(program)
     for name, module in commands().items():
         yield Entry(f"bin/{name}", COMMAND.format(module=module, command=name, name=NAME).encode(), EXECUTABLE)
         yield Entry(f"{MANUALS}/{name}.1", manuals.manual_of(name, module).encode(), PLAIN)

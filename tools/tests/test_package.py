@@ -14,13 +14,13 @@ import time
 import unittest
 import unittest.mock
 
-from tools.tests.helping import NO_PROGRAM, PROGRAM, PYTHON, ROOT, needs, run_tool, temporary_folder
+from tools.tests.helping import NO_PROGRAM, PROGRAM, PYTHON, ROOT, needs, run_inside, run_tool, temporary_folder
 
 needs("numpy", "scipy")
 
 import cdma_tools  # noqa: E402
 from cdma_tools.errors import Refused  # noqa: E402
-from cdma_tools.packaging import completions, debian, program_completions, tree  # noqa: E402
+from cdma_tools.packaging import archive, completions, debian, program_completions, tree  # noqa: E402
 from cdma_tools.places import data_folder  # noqa: E402
 from cdma_tools.program import NAME  # noqa: E402
 from cdma_tools.starting import INSTALLED  # noqa: E402
@@ -326,6 +326,30 @@ class Parts(Installed):
                     importlib.import_module("cdma_tools.commands.package").main([self.folder])
         self.assertEqual(run_tool("package", "--program", program)[0], 2)
         self.assertEqual(run_tool("package", os.path.join(self.folder, "none"))[0], 2)
+
+    def test_a_tarball(self) -> None:
+        """The archive has the program byte by byte, passes its checksum, and is the same each time."""
+        program = os.path.join(self.folder, "program")
+        with open(program, "w", encoding="ascii") as file:
+            file.write(STANDS_FOR)
+        os.chmod(program, 0o755)
+        made = []
+        for name in ("one", "two"):
+            folder = os.path.join(self.folder, name)
+            os.mkdir(folder)
+            with unittest.mock.patch("cdma_tools.commands.package.BUILT", program):
+                self.assertEqual(run_inside("package", "--tarball", folder)[0], 0)
+            self.assertEqual(files_below(folder), [archive.FILE, archive.CHECKSUM])
+            with open(os.path.join(folder, archive.FILE), "rb") as packed:
+                made.append(packed.read())
+        self.assertEqual(*made)
+        ran = subprocess.run(["sha256sum", "--check", archive.CHECKSUM], cwd=folder, capture_output=True, timeout=60)
+        self.assertEqual((ran.returncode, ran.stdout.decode()), (0, f"{archive.FILE}: OK\n"))
+        subprocess.run(["tar", "-xf", archive.FILE], cwd=folder, check=True, timeout=60)
+        unpacked = os.path.join(folder, archive.TITLE)
+        self.assertIn("share/man/man1/cdma_replay.1", files_below(unpacked))
+        ran = subprocess.run([os.path.join(unpacked, "bin", "cdma_replay")], capture_output=True, timeout=60)
+        self.assertEqual((ran.returncode, ran.stderr), (2, b"bad words\n"))
 
     def test_the_copyright_file_says_that_no_licence_is_chosen(self) -> None:
         self.assertIn("No licence has been chosen yet.", debian.COPYRIGHT)

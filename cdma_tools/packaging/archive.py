@@ -1,0 +1,40 @@
+"""The built program as an archive, for users without the kit: the program, its manual page and its completions.
+
+Next to the archive is its SHA-256 checksum, in the form that `sha256sum --check` reads.
+"""
+
+import gzip
+import hashlib
+import io
+import os
+import tarfile
+from collections.abc import Iterable
+
+from cdma_tools import __version__
+from cdma_tools.packaging.debian import ARCHITECTURE, SECONDS
+from cdma_tools.packaging.tree import NAME, PLAIN, Entry, put
+
+TITLE = f"{NAME}_{__version__}_{ARCHITECTURE}"
+FILE = f"{TITLE}.tar.gz"
+CHECKSUM = f"{FILE}.sha256"
+
+
+def archived(files: Iterable[Entry]) -> bytes:
+    """Returns the archive of files; the same files give the same bytes."""
+    packed = io.BytesIO()
+    with tarfile.open(fileobj=packed, mode="w", format=tarfile.USTAR_FORMAT) as archive:
+        for entry in files:
+            member = tarfile.TarInfo(f"{TITLE}/{entry.place}")
+            member.size, member.mode, member.mtime = len(entry.data), entry.mode, SECONDS
+            archive.addfile(member, io.BytesIO(entry.data))
+    return gzip.compress(packed.getvalue(), 9, mtime=0)
+
+
+def build(files: Iterable[Entry], folder: str) -> list[str]:
+    """Writes the archive and its checksum into a folder, each completely or not at all; returns their paths."""
+    data = archived(files)
+    checksum = f"{hashlib.sha256(data).hexdigest()}  {FILE}\n".encode()
+    made = [Entry(FILE, data, PLAIN), Entry(CHECKSUM, checksum, PLAIN)]
+    for entry in made:
+        put(folder, entry)
+    return [os.path.join(folder, entry.place) for entry in made]
