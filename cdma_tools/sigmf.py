@@ -197,6 +197,24 @@ def annotate_all(meta: dict[str, Any], added: list[dict[str, Any]]) -> None:
     notes.sort(key=lambda old: start if isinstance(start := old.get("core:sample_start"), (int, float)) else 0)
 
 
+def begin_capture(meta: dict[str, Any], first: int, lost: int) -> None:
+    """Begins a capture at sample `first`, before which `lost` samples are missing, unless one begins there.
+
+    It has the frequency of the capture before it. core:global_index counts the lost samples too.
+    """
+    captures = meta.setdefault("captures", [])
+    begun = [capture for capture in captures if capture.get("core:sample_start", 0) <= first]
+    before = begun[-1] if begun else {}
+    start = before.get("core:sample_start", 0)
+    if begun and start == first:
+        return
+    index = before.get("core:global_index", start) + first - start + lost
+    added = {"core:sample_start": first, "core:global_index": index}
+    if "core:frequency" in before:
+        added["core:frequency"] = before["core:frequency"]
+    captures.insert(len(begun), added)
+
+
 def write_meta(path: str, meta: dict[str, Any]) -> None:
     """Writes a whole .sigmf-meta, or none."""
     try:

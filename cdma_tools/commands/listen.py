@@ -34,8 +34,9 @@ replaced; a listening that continues after the lines of --out writes packets onl
     tools/listen --type cu8 --rate 2400000 --pcapng - radio.cu8 | wireshark -k -i -
 
 --meta writes notes of SigMF (core:annotations) on what was decoded of a file of samples, each on the samples in which it
-was sent: a sync message on its frames, any other message on the frame in which it ends. It keeps what FILE has already,
-or what the recording's own .sigmf-meta has.
+was sent: a sync message on its frames, any other message on the frame in which it ends. If samples were lost, a capture
+begins after them, whose core:global_index counts them too. It keeps what FILE has already, or what the recording's own
+.sigmf-meta has.
 
 A file of samples is processed in parts of --part seconds, by --workers processes of this machine, or by the workers of
 a --scheduler of dask.distributed, which need the same file and program at the same paths. The output is the same, byte
@@ -282,6 +283,8 @@ def noted(options: argparse.Namespace, source: Stream | Recording) -> Iterator[N
     notes = Notes(lock.rate)
     yield notes
     sigmf.annotate_all(meta, notes.found)
+    for first, lost in notes.losses:
+        sigmf.begin_capture(meta, first, lost)
     sigmf.write_meta(options.meta, meta)
 
 

@@ -29,10 +29,11 @@ class Event:
 
 @dataclass(frozen=True)
 class Remark:
-    """A remark for the user, and the second of the recording to which it applies."""
+    """A remark for the user, the second of the recording to which it applies, and the chips that it reports as lost."""
 
     seconds: float
     text: str
+    lost_chips: int = 0
 
 
 class Listener(Protocol):

@@ -119,5 +119,7 @@ class LineWriter:
         return json.dumps(read, separators=(",", ":"))
 
     def remark(self, remark: Remark) -> None:
-        """Says a remark on standard error."""
+        """Says a remark on standard error, and notes a loss."""
+        if self.notes is not None and remark.lost_chips:
+            self.notes.take_loss(remark)
         said(called("listen"), f"at {remark.seconds:.4f} s: {remark.text}")

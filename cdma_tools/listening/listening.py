@@ -134,11 +134,11 @@ class Listening:
     def take_loss(self, lost: Lost) -> None:
         """Gives zeros to the runs, and reports the loss, unless it is that of a clock while nothing was received."""
         if lost.chips > MOST_ASTRAY:
-            self.say(
-                lost.seconds,
+            text = (
                 f"samples were lost: {lost.chips} chips were replaced by zeros; a loss of {PERIOD} more, or of a"
-                " multiple, would look the same until the next sync message",
+                " multiple, would look the same until the next sync message"
             )
+            self.listener.remark(Remark(lost.seconds, text, lost.chips))
         if self.relay is not None:
             self.relay.feed_zeros(lost.chips)
 

@@ -4,6 +4,7 @@ from bisect import bisect_right
 from collections.abc import Sequence
 from typing import Any
 
+from cdma_tools.listening.events import Remark
 from cdma_tools.listening.listening import Anchor
 from cdma_tools.listening.system_time import frames_of
 from cdma_tools.radio.air import CHIP_RATE, PERIOD
@@ -48,6 +49,7 @@ class Notes:
         self.rate = rate
         self.anchors: Sequence[Anchor] = ()
         self.found: list[dict[str, Any]] = []
+        self.losses: list[tuple[int, int]] = []  # the first sample after each, and the number of lost samples
 
     def take(self, read: dict[str, Any], text: str, chip: int) -> None:
         """Takes a line that was known at a chip, if it has a message or a frame, by the anchors of its part."""
@@ -62,6 +64,10 @@ class Notes:
             "core:comment": comment_of(read, text),
         }
         self.found.append(note)
+
+    def take_loss(self, remark: Remark) -> None:
+        """Takes a loss of samples between two of the recording."""
+        self.losses.append((round(remark.seconds * self.rate), round(remark.lost_chips * self.rate / CHIP_RATE)))
 
     def sample_at(self, chip: int) -> int:
         """Returns the sample of the recording nearest to a chip's begin."""
