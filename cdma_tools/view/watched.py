@@ -2,7 +2,7 @@
 
 import threading
 import time
-from collections.abc import Callable
+from collections.abc import Callable, Iterable
 from typing import Any
 
 from cdma_tools.errors import said
@@ -101,9 +101,9 @@ class WatchedStream(LiveListening):
         self.backlog: Backlog | None = None
         self.kept: tuple[float, float] | None = None  # of the filter, at a carrier
 
-    def take_all(self, backlog: Backlog) -> None:
+    def take_all(self, backlog: Iterable[Item]) -> None:
         """Takes all that arrives. Meanwhile a thread reports the figures, so that a long search shows how it lags."""
-        self.backlog = backlog
+        self.backlog = backlog if isinstance(backlog, Backlog) else None
         is_ended = threading.Event()
         teller = threading.Thread(target=self.tell_until, args=(is_ended,), daemon=True)
         teller.start()
