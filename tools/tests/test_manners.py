@@ -389,13 +389,14 @@ class TheProgram(Folder):
     def test_the_model_runs_as_the_program(self) -> None:
         """Its command passes on arguments, input, bytes, texts and statuses; only its help and version are ours."""
         model = os.path.join(ROOT, "tools", "model")
-        for words, data in (
+        runs: tuple[tuple[list[str], bytes], ...] = (
             (["find"], example("pilot_in_noise.is95")),
             (["find"], b"CDMB"),
             (["make", "--bits", "8"], example("second_of_paging.script")),
             (["follow", "--help"], b""),
             ([], b""),
-        ):
+        )
+        for words, data in runs:
             with self.subTest(words, size=len(data)):
                 ran = subprocess.run([model, *words], input=data, capture_output=True, timeout=SECONDS)
                 wanted = run(words, io.BytesIO(data).read)
