@@ -47,7 +47,6 @@ from cdma_tools.frequencies import FREQUENCY_OPTIONS, frequency_given
 from cdma_tools.overwriting import META, InputFile, OutputFile
 from cdma_tools.program import add_program_option, find_program
 from cdma_tools.radio.air import CHIP_RATE
-from cdma_tools.radio.locking import Held
 from cdma_tools.radio.search_policy import SEARCH_OPTIONS, add_search_options
 from cdma_tools.recordings import sample_count
 from cdma_tools.report import cells, document, gathering, measures, waveform

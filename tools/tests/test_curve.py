@@ -224,7 +224,7 @@ class Counts(Curves):
         self.assertEqual((code, told["failed"], told["cases"][-1]["name"]), (0, 0, "against"))
         self.assertEqual([case["errors"] for case in told["cases"] if case.get("channel") == "frame 9600"], errors)
         self.refused("3 dB is not a point", self.words("--limits", self.keep("far.csv", "point_db,share\n3,1\n")))
-        self.refused("no channel 'x'", self.words("--limits", self.keep("x.csv", "point_db,channel,share\n1,x,1\n")))
+        self.refused("channel 'x' is not counted", self.words("--limits", self.keep("x.csv", "point_db,channel,share\n1,x,1\n")))
 
     def test_another_receiver_stands_beside_ours(self) -> None:
         other = self.program("other")
