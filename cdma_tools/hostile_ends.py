@@ -41,6 +41,7 @@ LINES = (
     "script show it.script",
     "adapt --command /bin/cat -- find",
     "gate_times survey.txt",
+    "model find",
 )
 # What the interpreter reports of an interrupt before the first line of a launcher.
 BEFORE_PYTHON = re.compile(
@@ -73,7 +74,7 @@ class Ended:
         """Returns the fault of the end, empty if there is none."""
         if "Traceback" in self.said or "Warning" in self.said:
             return f"a traceback or a warning: {self.said[-300:]!r}"
-        allowed = statuses | (set(range(11)) if tool == "report" else {0, 1, 2})
+        allowed = statuses | (set(range(11)) if tool in ("report", "model") else {0, 1, 2})
         return "" if self.status in allowed else f"status {self.status}, {self.said[-300:]!r}"
 
 

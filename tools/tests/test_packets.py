@@ -423,7 +423,7 @@ class Written(unittest.TestCase):
         for words, data, status, why in (
             (("--pcapng", "--csv", "pilot"), b"", 2, "not allowed with"),
             (("--pcapng", "--back"), b"", 2, "not allowed with"),
-            (("--pcapng",), b"frame\n", 1, "standard input: line 1: .* at="),
+            (("--pcapng",), b"frame\n", 1, "standard input: line 1: at= is expected"),
             (("--pcapng",), late, 1, "line 1: its time is .* pcapng can't hold"),
         ):
             with self.subTest(words):
