@@ -299,7 +299,7 @@ function connect() {
   socket.onclose = () => {
     const state = place("state");
     const ended = held && held.ended ? `ended: ${held.ended.text}; ` : "";
-    state.textContent = `${ended}the server is away, and is tried again every ${RETRY_AFTER / 1000} s`;
+    state.textContent = `${ended}no connection to the server; trying again every ${RETRY_AFTER / 1000} s`;
     state.className = "bad";
     setTimeout(connect, RETRY_AFTER);
   };

@@ -131,7 +131,7 @@ class ARecording(Watched):
         self.quiet()
         status, said = self.ended(process)
         self.assertEqual((status, said.count("\n")), (0, 1))
-        self.wait_text("state", "the server is away")
+        self.wait_text("state", "no connection to the server")
         self.assertGreater(int(self.text("lines-note").split()[-1].replace(",", "")), 100)
 
     def check_signal(self) -> None:
@@ -228,7 +228,7 @@ class Lines(Watched):
         self.wait_text("state", f"ended: all {len(FOLLOWED)} lines were read")
         self.wait_text("lines", "freqs=283,25")
         self.assertEqual(self.ended(process)[0], 0)
-        self.wait_text("state", "the server is away, and is tried again")
+        self.wait_text("state", "no connection to the server; trying again")
         self.assertEqual(len(self.rows("lines")), len(FOLLOWED))
         other = self.keep("other.jsonl", "\n".join(FOLLOWED[:2]) + "\n")
         self.start(other, "--port", port)
