@@ -68,6 +68,12 @@ def wait_for(condition: Any) -> None:
         time.sleep(0.01)
 
 
+def kill(process: int) -> None:
+    """Ends a process, if it is still there."""
+    with contextlib.suppress(ProcessLookupError):
+        os.kill(process, signal.SIGKILL)
+
+
 def followers_of(pid: int) -> list[int]:
     """Returns the processes that a process has started."""
     with open(f"/proc/{pid}/task/{pid}/children", encoding="ascii") as file:
@@ -132,7 +138,9 @@ class StreamTest(test_listen.OneRecording):
         run = self.start()
         self.send(run, self.begun)
         wait_for(lambda: followers_of(run.pid))
-        os.kill(followers_of(run.pid)[0], signal.SIGSTOP)  # it never ends by itself
+        follower = followers_of(run.pid)[0]
+        self.addCleanup(kill, follower)
+        os.kill(follower, signal.SIGSTOP)  # it never ends by itself
         until = time.monotonic() + SECONDS
         while run.poll() is None and time.monotonic() < until:
             run.send_signal(signal.SIGTERM)  # signals that arrive before the first one is handled count as one
