@@ -2,6 +2,7 @@
 # -*- coding: utf-8 -*-
 
 #
+# SPDX-License-Identifier: GPL-3.0
 #
 # GNU Radio Python Flow Graph
 # Title: A cell on the air

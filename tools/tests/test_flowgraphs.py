@@ -138,9 +138,9 @@ def switched(folder: str, on: Sequence[str], off: Sequence[str]) -> str:
 
 
 def unversioned(place: str) -> list[str]:
-    """The lines of compiled Python, without GNU Radio's version and the licence that grcc writes in every file."""
+    """The lines of compiled Python, without GNU Radio's version."""
     with open(place, encoding="utf-8") as file:
-        return [line for line in file if not line.startswith(("# GNU Radio version", "# SPDX-License-Identifier"))]
+        return [line for line in file if not line.startswith("# GNU Radio version")]
 
 
 @unittest.skipUnless(HAS_GNURADIO, NO_GNURADIO)
