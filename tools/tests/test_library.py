@@ -345,6 +345,7 @@ class Processes(unittest.TestCase):
     """Nothing is left running, however an iterator ends."""
 
     def setUp(self) -> None:
+        self.threads = threading.active_count()  # of tests that ran before in this process
         folder = temporary_folder(self.addCleanup)
         self.note = Path(folder, "process")
         program = Path(folder, "waits")
@@ -366,9 +367,9 @@ class Processes(unittest.TestCase):
         """Checks that a process has ended, and that the threads that fed it end."""
         self.assertRaises(ProcessLookupError, os.kill, process, 0)
         until = time.monotonic() + 10
-        while threading.active_count() > 1 and time.monotonic() < until:
+        while threading.active_count() > self.threads and time.monotonic() < until:
             time.sleep(0.01)
-        self.assertEqual(threading.active_count(), 1)
+        self.assertLessEqual(threading.active_count(), self.threads)
 
     def test_dropped(self) -> None:
         run, events, process = self.begun()
@@ -393,6 +394,7 @@ class Processes(unittest.TestCase):
         self.assert_gone(process)
 
     def test_interrupted(self) -> None:
+        self.addCleanup(signal.signal, signal.SIGINT, signal.signal(signal.SIGINT, signal.default_int_handler))
         before = [signal.getsignal(number) for number in (signal.SIGINT, signal.SIGTERM, signal.SIGHUP)]
         run, events, process = self.begun()
         main = threading.main_thread().ident

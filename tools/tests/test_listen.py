@@ -394,7 +394,7 @@ class ServerTest(unittest.TestCase):
         said = []
         for line in run.stderr:
             said.append(line)
-            if sum("was lost" in line for line in said) == 3:
+            if sum("the connection to" in line for line in said) == 3:
                 break
         run.send_signal(signal.SIGINT)
         run.communicate(timeout=60)
