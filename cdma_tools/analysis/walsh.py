@@ -42,10 +42,16 @@ def moving(values: NDArray[Any], width: int) -> NDArray[Any]:
     return means
 
 
-@functools.lru_cache(maxsize=1)
-def conjugate_code() -> NDArray[numpy.complex64]:
-    """The conjugate of the code's points, over five periods, so that a run from any phase is one slice of it."""
-    return numpy.concatenate([short_code()] * 5).conj()
+@functools.lru_cache(maxsize=4)
+def conjugate_periods(count: int) -> NDArray[numpy.complex64]:
+    """The conjugate of the code's points over some periods."""
+    return numpy.concatenate([short_code()] * count).conj()
+
+
+def conjugate_code(phase: int, count: int) -> NDArray[numpy.complex64]:
+    """The conjugate of the code's points for a number of chips, of which the first has this phase."""
+    begin = phase % PERIOD
+    return conjugate_periods(-(-(begin + count) // PERIOD))[begin : begin + count]
 
 
 def to_whole_symbols(phase: int) -> int:
@@ -56,10 +62,9 @@ def to_whole_symbols(phase: int) -> int:
 def despread(chips: NDArray[numpy.complex64], phase: int) -> NDArray[numpy.complex64]:
     """The rows of chips, (64, blocks), of which the first has this phase, a multiple of 64: y_r = g a_r s_r + noise.
 
-    The number of chips is a multiple of 64, and at most four periods of the code.
+    The number of chips is a multiple of 64.
     """
-    begin = phase % PERIOD
-    turned = (chips * conjugate_code()[begin : begin + len(chips)]).reshape(-1, ROWS)
+    turned = (chips * conjugate_code(phase, len(chips))).reshape(-1, ROWS)
     columns = numpy.ascontiguousarray(turned.T).view(numpy.float32)
     columns *= numpy.float32(1 / (2 * ROWS))
     return walsh_transform(columns).view(numpy.complex64)
@@ -67,6 +72,5 @@ def despread(chips: NDArray[numpy.complex64], phase: int) -> NDArray[numpy.compl
 
 def spread(levels: NDArray[numpy.float32], phase: int) -> NDArray[numpy.complex64]:
     """The chips of rows (64, blocks), of which the first has this phase, a multiple of 64."""
-    begin = phase % PERIOD
     chips = numpy.ascontiguousarray(walsh_transform(levels).T).reshape(-1)
-    return chips * conjugate_code()[begin : begin + len(chips)].conj()
+    return chips * conjugate_code(phase, len(chips)).conj()

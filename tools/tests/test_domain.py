@@ -65,8 +65,8 @@ class Rows(unittest.TestCase):
 
     def test_rows_come_back(self) -> None:
         draws = numpy.random.default_rng(2)
-        for phase in (0, 192, PERIOD - 128):
-            levels = draws.standard_normal((64, 1_500)).astype(numpy.float32)
+        for phase, blocks in ((0, 1_500), (192, 1_500), (PERIOD - 128, 1_500), (PERIOD - 64, 3_000)):
+            levels = draws.standard_normal((64, blocks)).astype(numpy.float32)
             rows = walsh.despread(walsh.spread(levels, phase), phase)
             self.assertLess(float(numpy.abs(rows - levels).max()), 1e-4)
 
