@@ -13,12 +13,14 @@ Exit status: 0 done, 1 no sync message was decoded, 2 wrong arguments, 3 bad sam
 """
 
 import argparse
+import importlib
 import sys
 
 from cdma_tools.arguments import Parser
 from model.__main__ import main as run_model
 
 OURS = ("-h", "--help", "--version")
+importlib.import_module("model.run")  # with numpy, while an interrupt still ends the process at once
 
 
 def parser() -> Parser:
