@@ -38,8 +38,9 @@ class Command:
     status: int = 0
 
     def take(self, line: str) -> None:
-        """Takes a line below the command: it continues an open quotation mark, otherwise it is output."""
-        if self.text.count('"') % 2:
+        """Takes a line below the command: it continues an open quotation mark or a line that ends in a backslash,
+        otherwise it is output."""
+        if self.text.count('"') % 2 or self.text.endswith("\\"):
             self.text += "\n" + line
         else:
             self.shown.append(line)
@@ -79,6 +80,10 @@ def pattern_of(shown: list[str]) -> str:
 
 class Parts(unittest.TestCase):
     """How a page is read."""
+
+    def test_a_command_of_two_lines(self) -> None:
+        found = commands_of("    $ one \\\n        two\n    its output\n")
+        self.assertEqual([(it.text, it.shown) for it in found], [("one \\\n    two", ["its output"])])
 
     def test_commands_and_marks(self) -> None:
         page = (
