@@ -25,7 +25,6 @@ MOST_BITS = 8 * 148  # a capsule has at most 148 octets (7.7.1, 7.7.2, 7.7.3)
 RATES = (9_600, 4_800, 2_400, 1_200)  # of rate set 1, in bits a second (7.1.3.5)
 RATES2 = (14_400, 7_200, 3_600, 1_800)  # of rate set 2
 GROUPS = 16  # power control groups of a frame (7.1.3.1.7)
-NUMBER = re.compile(r"0|-?[1-9][0-9]*")
 UTC_TEXT = re.compile(r"\d{4}-\d\d-\d\dT\d\d:\d\d:\d\d\.\d{6}Z", re.ASCII)
 BITS = re.compile(r"(0|[1-9][0-9]{0,3}):((?:[0-9a-f]{2})*)")
 
@@ -101,9 +100,13 @@ def within(value: int, least: int, most: int) -> int:
 
 def read_number(text: str) -> int:
     """A decimal number without leading zeros."""
-    if not NUMBER.fullmatch(text) or len(text) > 20:
+    try:
+        value = int(text) if len(text) <= 20 else None
+    except ValueError:
+        value = None
+    if value is None or str(value) != text:
         raise NoLine(f"{text[:30]!r} is not a number")
-    return int(text)
+    return value
 
 
 def number(most: int, least: int = 0, text: str = "") -> Form:
@@ -173,7 +176,7 @@ def commands() -> Form:
     """Power control bits, one digit each."""
 
     def read(given: str) -> list[int]:
-        if len(given) != GROUPS or set(given) - {"0", "1"}:
+        if len(given) != GROUPS or given.strip("01"):
             raise NoLine(f"{given[:30]!r} isn't {GROUPS} digits 0 or 1")
         return [int(digit) for digit in given]
 
@@ -401,6 +404,36 @@ ORIGIN = "origin"
 ORIGIN_SHAPE = Shape(ORIGIN, (Field("utc", UTC, "the time in UTC from which the lines after it count"),))
 BY_WORDS = {(shape.line, shape.word): shape for shape in (*SHAPES, ORIGIN_SHAPE)}
 FIRST = {shape.line: shape for shape in reversed((*SHAPES, ORIGIN_SHAPE))}
+SECOND_PLACES = {shape.line: 1 + len(shape.head) for shape in SHAPES if shape.word}  # the second word's, in a line
+
+
+class Columns(NamedTuple):
+    """A pattern of a kind of line, with a name and a reader for each of its groups."""
+
+    pattern: re.Pattern[str]
+    names: tuple[str, ...]
+    readers: tuple[Callable[[str], Any], ...]
+
+
+def columns_of(shape: Shape) -> Columns:
+    """Returns the columns of a kind of line: its first word, its fields, and its second word in its place."""
+
+    def pattern(part: Field | Group) -> str:
+        if isinstance(part, Group):
+            return f"(?:{''.join(map(pattern, part.fields))})?"
+        return " ([^ ]*)" if part is BARE else f" {part.name}=([^ ]*)"
+
+    second = [f" ({shape.word})"] if shape.word else []
+    patterns = [f"({shape.line})", *map(pattern, shape.head), *second, *map(pattern, shape.body)]
+    fields, heads = list(shape.fields()), len(shape.head)
+    names, readers = [field.name for field in fields], [field.form.read for field in fields]
+    if shape.word:
+        names.insert(heads, shape.key)
+        readers.insert(heads, str)
+    return Columns(re.compile("".join(patterns)), ("line", *names), (str, *readers))
+
+
+COLUMNS = {words: columns_of(shape) for words, shape in BY_WORDS.items()}
 
 
 class Tokens:
@@ -481,11 +514,27 @@ class BrokenTokens(Tokens):
         return super().take_shape(first)
 
 
+def kind_words(text: str) -> tuple[str, str | None]:
+    """Returns the first word of a line, and the word that gives its kind, None if there is none."""
+    first = text.partition(" ")[0]
+    place = SECOND_PLACES.get(first)
+    words = text.split(" ", place + 1) if place else []
+    return first, words[place] if place and place < len(words) else None
+
+
 def read_line(text: str) -> dict[str, Any]:
     """Returns the object of a line, which has no line feed; raises `NoLine` if it is not a line of the program.
 
     The object's keys are in the order of the line.
     """
+    columns = COLUMNS.get(kind_words(text))
+    match = columns.pattern.fullmatch(text) if columns else None
+    if columns and match:
+        fields = zip(columns.names, columns.readers, match.groups())
+        try:
+            return {name: read(value) for name, read, value in fields if value is not None}
+        except NoLine:
+            pass  # the field is named below
     first, *words = text.split(" ")
     return read_tokens(first, Tokens(words))
 

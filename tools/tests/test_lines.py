@@ -6,7 +6,7 @@ import random
 import re
 import tempfile
 import unittest
-from collections.abc import Sequence
+from collections.abc import Callable, Sequence
 from typing import Any
 
 from cdma_tools.lines import (
@@ -21,7 +21,9 @@ from cdma_tools.lines import (
     Group,
     NoLine,
     Shape,
+    Tokens,
     read_line,
+    read_tokens,
     spell_line,
     table_rows,
 )
@@ -175,6 +177,24 @@ class Turning(unittest.TestCase):
                 taken += 1
                 self.assertEqual(spell_line(json.loads(json.dumps(read))), damaged)
         self.assertGreater(taken, 100)
+
+    def test_by_pattern_and_by_words(self) -> None:
+        """A line read at once is what its words are one by one, with names in the same order; so is a refusal."""
+
+        def by_words(line: str) -> dict[str, Any]:
+            first, *words = line.split(" ")
+            return read_tokens(first, Tokens(words))
+
+        def read(reader: Callable[[str], dict[str, Any]], line: str) -> list[tuple[str, Any]] | str:
+            try:
+                return list(reader(line).items())
+            except NoLine as why:
+                return str(why)
+
+        draws = random.Random(21)
+        for line in draws.sample(LINES, 300):
+            for text in (line, *(self.damaged(line, draws) for _ in range(10))):
+                self.assertEqual(read(read_line, text), read(by_words, text))
 
     @staticmethod
     def damaged(line: str, draws: random.Random) -> str:
