@@ -108,12 +108,12 @@ def chips_of(samples: Samples, name: str = "chips") -> Chips:
     return restored(array, getattr(samples, "checks", 0))
 
 
-def file_pieces(chips: Chips) -> Iterator[bytes]:
+def file_pieces(chips: Chips) -> Iterator[bytes | memoryview]:
     """Yields the bytes of the sample file of chips."""
     version = VERSIONS[chips.dtype]
     yield header(version, chips.checks, len(chips))
     for first in range(0, len(chips), PIECE):
-        yield numpy.asarray(chips[first : first + PIECE]).astype(PART[version]).tobytes()
+        yield numpy.asarray(chips[first : first + PIECE]).astype(PART[version]).data.cast("B")
 
 
 def read_samples(file: IO[bytes]) -> Chips:

@@ -3,27 +3,50 @@
 import dataclasses
 import html
 from collections.abc import Callable, Iterable
-from typing import Any, ClassVar, TypeVar
+from typing import TYPE_CHECKING, Any, ClassVar, TypeVar
 
 from cdma.errors import Error
-from cdma_tools.lines import TIME_NAME, read_line, spell_line
+from cdma_tools.lines import TIME_NAME, NoLine, kind_words, read_line, spell_line
+from cdma_tools.program import NAME
 
 MOST_SHOWN = 20  # rows of a table in a notebook
 
 
+class Unread:
+    """A place for the line of an event, whose fields are read when the first of them is asked for."""
+
+    __slots__ = ("_line",)
+    _line: str
+
+
 @dataclasses.dataclass(frozen=True, slots=True)
-class Event:
+class Event(Unread):
     """Anything that the program writes in one line; `str(event)` is that line.
 
     `time_utc` is the time of its `at` in UTC, such as 2026-11-29T18:43:11.123456Z. Only events of `cdma.listen` have
     it, from the first message with a time on.
+
+    An event that comes from a run keeps its line, and reads all fields when one of them is asked for the first time:
+    that raises `cdma.Error` if the line is none of the program's.
     """
 
     first: ClassVar[str]
     time_utc: str | None = dataclasses.field(default=None, kw_only=True, repr=False, compare=False)
 
+    if not TYPE_CHECKING:  # type checkers know the fields
+
+        def __getattr__(self, name: str) -> Any:
+            """Reads the fields of the line, since one of them isn't there yet."""
+            if name not in NAMES.get(type(self), ()) or not has_line(self):
+                raise AttributeError(f"{type(self).__name__!r} object has no attribute {name!r}")
+            set_fields(self)
+            return getattr(self, name)
+
     def to_dict(self) -> dict[str, Any]:
         """Returns the JSON object of the line, as `tools/lines` writes it."""
+        if has_line(self):
+            read = fields_of(self._line)
+            return read if self.time_utc is None else {**read, TIME_NAME: self.time_utc}
         found = {"line": self.first}
         for field in dataclasses.fields(self):
             value = getattr(self, field.name)
@@ -37,12 +60,15 @@ class Event:
 
     def __str__(self) -> str:
         """Returns the line, without a line feed."""
-        return spell_line(self.to_dict())
+        return self._line if has_line(self) else spell_line(self.to_dict())
 
     @property
     def kind(self) -> str:
         """The kind of the event, as `tools/lines --csv` names it: `sync`, `paging-system`, `frame`, `raw-sync`."""
-        second = getattr(self, "message", None) or getattr(self, "channel", None)
+        if has_line(self):
+            second = kind_words(self._line)[1]
+        else:
+            second = getattr(self, "message", None) or getattr(self, "channel", None)
         return f"{self.first}-{second}" if second else self.first
 
 
@@ -101,6 +127,10 @@ class Page(Event):
     message: str
     fields: dict[str, Any]
 
+    def __hash__(self) -> int:
+        """Returns a hash of the other fields, since `fields` has none."""
+        return hash((self.at, self.message))
+
 
 @dataclasses.dataclass(frozen=True, slots=True)
 class Frame(Event):
@@ -134,6 +164,10 @@ class TrafficMessage(Event):
     message: str
     fields: dict[str, Any]
 
+    def __hash__(self) -> int:
+        """Returns a hash of the other fields, since `fields` has none."""
+        return hash((self.at, self.message))
+
 
 @dataclasses.dataclass(frozen=True, slots=True)
 class PilotSets(Event):
@@ -164,7 +198,17 @@ class RawMessage(Event):
 EVENTS: tuple[type[Event], ...] = (Pilot, Rank, Sync, Page, Frame, TrafficMessage, PilotSets, RawMessage)
 KINDS = {kind.first: kind for kind in EVENTS}
 NAMES = {kind: frozenset(field.name for field in dataclasses.fields(kind)) for kind in EVENTS}
-FLAGS = ("good", "report")  # fields that are true or false
+ABSENT = {kind: frozenset({"freq"} if kind is Sync else ()) for kind in EVENTS}  # fields that a line may lack
+# How an event has the values of a line's object that it has in another form.
+HELD: dict[str, Callable[[Any], Any]] = {
+    "good": bool,
+    "report": bool,
+    "commands": tuple,
+    "candidate": tuple,
+    "active": lambda records: tuple(map(tuple, records)),
+}
+new_object, set_field = object.__new__, object.__setattr__  # as events are frozen
+set_line, set_time = vars(Unread)["_line"].__set__, vars(Event)["time_utc"].__set__
 RowType = TypeVar("RowType")
 
 
@@ -175,22 +219,48 @@ def plain(value: Any) -> Any:
     return int(value) if isinstance(value, bool) else value
 
 
-def held(name: str, value: Any) -> Any:
-    """Returns a value of a line's object as an event has it."""
-    if isinstance(value, list):
-        return tuple(held(name, part) for part in value)
-    return bool(value) if name in FLAGS else value
+def has_line(event: Event) -> bool:
+    """Whether an event comes from a run, so that it keeps its line."""
+    try:
+        return event._line is not None
+    except AttributeError:
+        return False
+
+
+def fields_of(line: str) -> dict[str, Any]:
+    """Returns the JSON object of a line; raises Error if it is none of the program's."""
+    try:
+        return read_line(line)
+    except NoLine as why:
+        raise Error(f"not a line of {NAME}: {why}: {line:.60}") from None
+
+
+def set_fields(event: Event) -> None:
+    """Reads the line of an event, and sets its fields."""
+    names = NAMES[type(event)]
+    others: dict[str, Any] = {}
+    read = fields_of(event._line)
+    del read["line"]
+    for name, value in read.items():
+        if name not in names:
+            others[name] = value
+        else:
+            set_field(event, name, HELD[name](value) if name in HELD else value)
+    if "fields" in names:
+        set_field(event, "fields", others)
+    for name in ABSENT[type(event)] - read.keys():
+        set_field(event, name, None)
 
 
 def event_of(line: str, time_utc: str | None = None) -> Event:
-    """Returns the event of a line of the program, without its line feed."""
-    read = read_line(line)
-    kind = KINDS[read.pop("line")]
-    names = NAMES[kind]
-    values = {name: held(name, value) for name, value in read.items() if name in names}
-    if "fields" in names:
-        values["fields"] = {name: value for name, value in read.items() if name not in names}
-    return kind(**values, time_utc=time_utc)
+    """Returns the event of a line of the program, without its line feed; its fields are read later."""
+    kind = KINDS.get(line.partition(" ")[0])
+    if kind is None:
+        raise Error(f"not a line of {NAME}: {line!r:.60}")
+    event: Event = new_object(kind)
+    set_line(event, line)
+    set_time(event, time_utc)
+    return event
 
 
 class Table(list[RowType]):

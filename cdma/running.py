@@ -2,6 +2,7 @@
 
 import contextlib
 import fcntl
+import os
 import subprocess
 import tempfile
 import threading
@@ -10,13 +11,15 @@ from collections.abc import Iterable, Iterator
 from typing import IO
 
 from cdma.errors import as_errors, error_of
+from cdma.keeping import BLOCK, text_lines
 from cdma.programs import chosen
 
 PIPE_BYTES = 1 << 20  # of the pipe to the program, so that few switches between the two are needed
 MOST_SAID = 10_000  # bytes of standard error that are read
+Piece = bytes | memoryview
 
 
-def feed(pipe: IO[bytes], pieces: Iterable[bytes]) -> None:
+def feed(pipe: IO[bytes], pieces: Iterable[Piece]) -> None:
     """Writes pieces into a pipe and closes it; what is not read is lost."""
     with contextlib.suppress(BrokenPipeError), pipe:
         for piece in pieces:
@@ -35,11 +38,12 @@ def end(process: subprocess.Popen[bytes], said: IO[bytes]) -> None:
 class Running:
     """A run of the program with some arguments; it ends at the latest when this object is dropped."""
 
-    def __init__(self, words: list[str], source: IO[bytes] | Iterable[bytes]) -> None:
+    def __init__(self, words: list[str], source: IO[bytes] | Iterable[Piece]) -> None:
         """Starts the run on an open file, or on the bytes that `source` yields; raises Error if that fails."""
         program = chosen()
         self.name = program.name
         self.is_ended = False  # by `stop`, not by itself
+        self._rest = b""  # of what was read: the beginning of a line
         self._said = tempfile.TemporaryFile()
         is_file = hasattr(source, "fileno")
         with as_errors():
@@ -63,11 +67,23 @@ class Running:
         assert self._process.stdout is not None
         return self._process.stdout
 
+    def read(self) -> bytes:
+        """Waits for lines, and returns those that have come, none at the end.
+
+        A line that the program left incomplete is dropped.
+        """
+        while data := os.read(self.output.fileno(), BLOCK):
+            lines, end, rest = data.rpartition(b"\n")
+            if end:
+                lines, self._rest = self._rest + lines + end, rest
+                return lines
+            self._rest += data
+        return b""
+
     def lines(self) -> Iterator[str]:
-        """Yields the lines that the program writes, as they come; the last one may be incomplete if it was ended."""
-        for line in self.output:
-            if line.endswith(b"\n"):
-                yield line[:-1].decode("ascii", "replace")
+        """Yields the lines that the program writes, as they come."""
+        while lines := self.read():
+            yield from text_lines(lines)
 
     def finish(self, *good: int) -> int:
         """Waits for the end, and returns the status; raises the run's error if it isn't a good one."""
@@ -86,7 +102,7 @@ class Running:
         self._process.wait()
 
 
-def lines_of(words: list[str], source: IO[bytes] | Iterable[bytes]) -> list[str]:
+def lines_of(words: list[str], source: IO[bytes] | Iterable[Piece]) -> list[str]:
     """Returns the lines of a run that has to succeed."""
     running = Running(words, source)
     try:

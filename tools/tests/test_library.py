@@ -2,6 +2,8 @@
 
 import ast
 import contextlib
+import copy
+import dataclasses
 import doctest
 import gc
 import importlib
@@ -15,6 +17,7 @@ import subprocess
 import tempfile
 import threading
 import time
+import tracemalloc
 import unittest
 import unittest.mock
 from collections.abc import Callable, Iterator
@@ -29,6 +32,7 @@ import numpy  # noqa: E402
 
 import cdma  # noqa: E402
 import cdma.programs  # noqa: E402
+from cdma.events import event_of  # noqa: E402
 
 HEAD = 400_000  # samples in which the first sync message ends
 # A program that stands for cdma_replay: it notes its process, writes a line, and then waits to be ended.
@@ -421,6 +425,110 @@ class Processes(unittest.TestCase):
         ran = subprocess.run([PYTHON, "-B", "-c", code], cwd=ROOT, capture_output=True, text=True, timeout=60)
         self.assertEqual((ran.stdout, ran.stderr), ("pilot phase=64 energy=1\n", ""))
         self.assert_gone(int(self.note.read_text()))
+
+
+def many_lines() -> list[str]:
+    """Returns as many lines as a busy cell has in some minutes, of each kind of event of a run."""
+    kinds = [
+        "pilot phase=64 energy=167772160000",
+        "sync at={at} prev=3 min=1 sid=1 nid=2 pn=511 lc=102a1d2e508 time=7 lp=13 ltm=0 daylt=0 prat=0 rest=3:00",
+        "sync at={at} prev=3 min=1 sid=1 nid=2 pn=511 lc=102a1d2e508 time=7 lp=13 ltm=0 daylt=0 prat=0 freq=7 rest=0:",
+        "paging at={at} channels pn=5 seq=3 freqs=1,2 rest=0:",
+        "frame at={at} rate=1200 good=1 bits=16:a5a5 commands=0101010101010101",
+        "traffic at={at} ack=1 seq=2 req=0 enc=1 neighbors inc=2 pilots=1,2 rest=3:00",
+        "sets at={at} time=1007 active=511/8/0,3/4/1 candidate=5,6 report=1",
+        "raw at={at} traffic 34:04ff8046c0",
+    ]
+    return [kind.format(at=at) for at in range(5_000) for kind in kinds]
+
+
+class Long(unittest.TestCase):
+    """A run with many events: a program that stands for cdma_replay writes the lines of a file."""
+
+    lines: list[str]
+    program: Path
+
+    @classmethod
+    def setUpClass(cls) -> None:
+        cls.lines = many_lines()
+        folder = Path(temporary_folder(cls.addClassCleanup))
+        cls.program, written = folder / "writes", folder / "lines"
+        written.write_text("\n".join(cls.lines) + "\n")
+        cls.program.write_text(f"#!/bin/sh\nexec cat {written}\n")
+        cls.program.chmod(0o755)
+
+    def setUp(self) -> None:
+        cdma.use_program(self.program)
+        self.addCleanup(choose)
+
+    def run_of(self) -> cdma.Run:
+        """Returns a run whose program writes the lines."""
+        return cdma.follow(numpy.zeros((64, 2), numpy.int16), span=64)
+
+    def test_again_and_again(self) -> None:
+        """Each iteration has all events, also one that begins while another is under way."""
+        run = self.run_of()
+        first = iter(run)
+        begun = [str(next(first)) for _ in range(3)]
+        self.assertEqual([str(event) for event in run], self.lines)
+        self.assertEqual(begun + [str(event) for event in first], self.lines)
+        self.assertEqual(run.counts(), dict.fromkeys(run.counts(), 5_000) | {"sync": 10_000})
+        self.assertEqual([str(event) for event in run.table("frame")], self.lines[4::8])
+
+    def test_memory_is_flat(self) -> None:
+        """The most memory that Python allocates at once is far below the size of the lines, 3 MB."""
+        self.assertGreater(sum(map(len, self.lines)), 2_500_000)
+        for _ in self.run_of():
+            break  # what is allocated once
+        run = self.run_of()
+        tracemalloc.start()
+        self.addCleanup(tracemalloc.stop)
+        count = sum(isinstance(event, cdma.Frame) and event.good for event in run)
+        self.assertEqual(count, 5_000)
+        self.assertLess(tracemalloc.get_traced_memory()[1], 800_000)
+
+    def test_time(self) -> None:
+        """An event whose fields aren't read costs at most 5 µs of processor time, in the best of three runs."""
+        spent = []
+        for _ in range(3):
+            begin = time.process_time()
+            count = sum(1 for _ in self.run_of())
+            spent.append(time.process_time() - begin)
+        self.assertLess(min(spent), 5e-6 * count)
+
+    def test_no_line_of_the_program(self) -> None:
+        """A wrong first word ends the run, a wrong field is said of when fields are read."""
+        self.program.with_name("other").write_text("#!/bin/sh\necho pilot phase=32768 energy=1\necho spam\n")
+        self.program.with_name("other").chmod(0o755)
+        cdma.use_program(self.program.with_name("other"))
+        run = self.run_of()
+        events = iter(run)
+        pilot = next(events)
+        self.assertEqual(str(pilot), "pilot phase=32768 energy=1")
+        with self.assertRaisesRegex(cdma.Error, r"phase: 32768 is out of range \(0 to 32767\)"):
+            repr(pilot)
+        with self.assertRaisesRegex(cdma.Error, "not a line of cdma_replay: 'spam'"):
+            next(events)
+
+
+class Events(unittest.TestCase):
+    """Events whose fields are read late are as those that are made of their fields."""
+
+    def test_the_same(self) -> None:
+        for line in many_lines()[:8]:
+            late = event_of(line, "2026-11-29T18:43:11.123456Z")
+            names = [field.name for field in dataclasses.fields(late)]
+            made = type(late)(**{name: getattr(event_of(line), name) for name in names})
+            with self.subTest(line):
+                self.assertEqual(str(made), line)
+                for other in (event_of(line), copy.copy(late), pickle.loads(pickle.dumps(late)), made):
+                    self.assertEqual((other, hash(other), repr(other)), (late, hash(late), repr(late)))
+                    self.assertEqual((str(other), other.kind), (line, late.kind))
+                    self.assertEqual(other.to_dict() | {"time_utc": 0}, late.to_dict() | {"time_utc": 0})
+                self.assertEqual(list(late.to_dict().items())[-1], ("time_utc", late.time_utc))
+                self.assertNotEqual(dataclasses.replace(late, **{names[1]: 1}), late)
+                self.assertRaises(dataclasses.FrozenInstanceError, setattr, late, names[1], 1)
+                self.assertRaises(AttributeError, getattr, late, "spam")
 
 
 class Choice(unittest.TestCase):
