@@ -9,10 +9,10 @@ from numpy.typing import ArrayLike, NDArray
 
 from cdma.errors import FileError, ParameterError, as_errors
 from cdma.parameters import number_within
+from cdma_model.files import PART, BadFile, read_header
 from cdma_tools.heard_run import CHIP_RATE
 from cdma_tools.sample_header import HEADER, MOST_CHIPS, header
 from cdma_tools.writing import write_beside
-from model.files import PART, BadFile, read_header
 
 PIECE = 1 << 18  # samples that are converted at once
 VERSIONS = {numpy.dtype(numpy.int16): 1, numpy.dtype(numpy.int8): 2}

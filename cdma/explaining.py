@@ -12,6 +12,9 @@ from cdma.chips import Source, chips_of, load
 from cdma.errors import Error, FileError, ParameterError, as_errors
 from cdma.events import Table
 from cdma.parameters import HexNumber, Number, hex_text, number_within
+from cdma_model.files import Capture
+from cdma_model.handset import Assigned
+from cdma_model.script import read_script as read_cell
 from cdma_tools.commands.explain import ROWS
 from cdma_tools.explaining.frame_steps import (
     NoFrame,
@@ -27,9 +30,6 @@ from cdma_tools.margins import Margin, margins, search_margin
 from cdma_tools.scripting.arguments import number_of
 from cdma_tools.scripting.values import Wrong
 from cdma_tools.scripts import read_script
-from model.files import Capture
-from model.handset import Assigned
-from model.script import read_script as read_cell
 
 CHANNELS = ("sync", "paging", "traffic")
 HEX_DIGITS = "eight hex digits"

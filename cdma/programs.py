@@ -8,7 +8,7 @@ import tempfile
 from collections.abc import Iterator
 from dataclasses import dataclass
 
-import model
+import cdma_model
 from cdma.errors import NoProgramError, as_errors
 from cdma_tools.errors import Refused
 from cdma_tools.program import NAME, VARIABLE, checked_program, find_program
@@ -45,8 +45,8 @@ def use_model() -> None:
 
     >>> cdma.use_model()
     """
-    folder = os.path.dirname(os.path.dirname(os.path.abspath(str(model.__file__))))
-    _chosen[:] = [Program("the model", (sys.executable, "-B", "-P", "-m", "model"), folder)]
+    folder = os.path.dirname(os.path.dirname(os.path.abspath(str(cdma_model.__file__))))
+    _chosen[:] = [Program("the model", (sys.executable, "-B", "-P", "-m", "cdma_model"), folder)]
 
 
 def use_program(path: str | os.PathLike[str] | None = None) -> None:

@@ -1,8 +1,8 @@
 """Whole sample files, read for the model."""
 
+from cdma_model.files import BadFile, Capture, read_capture
 from cdma_tools.errors import Refused
 from cdma_tools.sample_header import MOST_CHIPS, Header
-from model.files import BadFile, Capture, read_capture
 
 MOST_BYTES = max(Header(version, 0, count).file_bytes for version, count in MOST_CHIPS.items())
 """The bytes of the longest sample file."""

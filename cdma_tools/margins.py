@@ -20,10 +20,10 @@ import dataclasses
 import math
 from collections.abc import Collection
 
+from cdma_model.noise import search_roots
+from cdma_model.script import Cell
 from cdma_tools.errors import Refused
 from cdma_tools.scripts import PILOT_ROW, SYNC_ROW, Script
-from model.noise import search_roots
-from model.script import Cell
 
 
 @dataclasses.dataclass(frozen=True)

@@ -12,15 +12,15 @@ the mark on, if the mark that the file sets is the cell's.
 import dataclasses
 from collections.abc import Iterator
 
+from cdma_model.cell import FRAME, SLOT, Channel, channels
+from cdma_model.codes import state_after
+from cdma_model.files import Capture
+from cdma_model.frames import DATA_FORM, SYNC_FORM, soft_values
+from cdma_model.handset import Mark, hear_sync, reference_fingers
+from cdma_model.noise import own_phase
+from cdma_model.script import SYNC_ROW, Cell
+from cdma_model.search import Found, search
 from cdma_tools.errors import Refused
-from model.cell import FRAME, SLOT, Channel, channels
-from model.codes import state_after
-from model.files import Capture
-from model.frames import DATA_FORM, SYNC_FORM, soft_values
-from model.handset import Mark, hear_sync, reference_fingers
-from model.noise import own_phase
-from model.script import SYNC_ROW, Cell
-from model.search import Found, search
 
 FRAMES_OF_SUPERFRAME = SLOT // FRAME
 """Frames of a paging or traffic channel in a superframe."""

@@ -12,8 +12,8 @@ import socketserver
 import sys
 
 sys.path.insert(0, os.path.dirname(os.path.dirname(os.path.abspath(__file__))))
+from cdma_model.run import run
 from cdma_tools.lines import read_line
-from model.run import run
 
 
 class Receiver(socketserver.StreamRequestHandler):

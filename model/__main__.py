@@ -1,38 +1,8 @@
-"""The model's command line: `python3 -m model COMMAND ..`, with the arguments, texts and statuses of `cdma_replay`.
+"""Runs the model in a checkout: `python3 -m model COMMAND ..` is `python3 -m cdma_model COMMAND ..`."""
 
-    python3 -m model make < SCRIPT > FILE
-    python3 -m model follow --esn 0000abcd --row 10 < FILE
-
-Ctrl-C ends it with one line and status 130, also while numpy is imported.
-"""
-
-import os
 import sys
 
-INTERRUPTED = 130
-
-
-def main(words: list[str]) -> int:
-    """Runs a command on standard input, and returns its exit status."""
-    from model.run import WRITE_FAULT, run
-
-    outcome = run(words, sys.stdin.buffer.read)
-    try:
-        for piece in outcome.written:
-            sys.stdout.buffer.write(piece)
-        sys.stdout.buffer.flush()
-    except OSError:
-        os.dup2(os.open(os.devnull, os.O_WRONLY), sys.stdout.fileno())  # what is left in the buffer goes there
-        outcome = WRITE_FAULT
-    if outcome.said:
-        print(outcome.said, file=sys.stderr)
-    return outcome.status
-
+from cdma_model.__main__ import start
 
 if __name__ == "__main__":
-    try:
-        status = main(sys.argv[1:])
-    except KeyboardInterrupt:
-        os.write(2, b"model: broken off\n")
-        os._exit(INTERRUPTED)  # what was written stays as it is
-    sys.exit(status)
+    sys.exit(start())

@@ -2,8 +2,8 @@
 
 A run is a case as in conformance/, drawn from a number: run k uses the seed plus k. It has cells with random channels,
 other paths, a second cell, noise, a file that is cut or too long, a script with a fault, or arguments of any command.
-The text, the status and the line on standard error that the program writes are compared with those of `model/`. A case
-in which they differ is kept as FOLDER/seed_N.case.
+The text, the status and the line on standard error that the program writes are compared with those of `cdma_model/`. A
+case in which they differ is kept as FOLDER/seed_N.case.
 
     tools/agree --seed 1 --count 100 crates/cdma_replay/out/cdma_replay
     tools/agree --seed 4711 --count 1 cdma_replay        the run of a reported number

@@ -6,7 +6,7 @@ scripts by `MAKER make`; samples of several scripts are added up, and noise is a
 PROGRAM unless --maker names another. With --maker a receiver that makes no samples can be tried, and the cases about
 samples and trials are left out.
 
-The expected results come from model/, the link in plain Python, which was written only from docs/LINK.md and
+The expected results come from cdma_model/, the link in plain Python, which was written only from docs/LINK.md and
 docs/FORMATS.md. A receiver with other arguments is tried through a script that translates them. conformance/README.md
 has the form of a case.
 

@@ -1,7 +1,7 @@
 """Makes each case again with the model, and reports the differences from the case.
 
-The samples, the text and the status are those of `model/`, the link in plain Python, so a difference means that the
-case or the model was changed by hand. Cases of more than eight million samples take long, and are left out without
+The samples, the text and the status are those of `cdma_model/`, the link in plain Python, so a difference means that
+the case or the model was changed by hand. Cases of more than eight million samples take long, and are left out without
 --all. `conformance/write` brings a case up to date.
 
     conformance/check

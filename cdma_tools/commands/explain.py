@@ -1,4 +1,4 @@
-"""Shows one frame of a sample file step by step, from the samples to its bits, by the model of `model/`.
+"""Shows one frame of a sample file step by step, from the samples to its bits, by the model of `cdma_model/`.
 
     tools/explain second.is95 --sync
     tools/explain second.is95 --paging 1 --frame 3
@@ -26,6 +26,8 @@ from __future__ import annotations
 import argparse
 import re
 
+from cdma_model.files import Capture
+from cdma_model.handset import Assigned
 from cdma_tools.arguments import Parser, whole_within
 from cdma_tools.captures import read_whole
 from cdma_tools.errors import Refused
@@ -41,8 +43,6 @@ from cdma_tools.explaining.frame_steps import (
 from cdma_tools.explaining.frame_text import text_of
 from cdma_tools.overwriting import STANDARD, InputFile
 from cdma_tools.plots import NEEDED, picture_of
-from model.files import Capture
-from model.handset import Assigned
 
 ROWS = set(range(1, 64)) - {32}
 """The Walsh rows that a traffic channel may have."""

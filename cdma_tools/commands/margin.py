@@ -49,6 +49,9 @@ import json
 import sys
 from collections.abc import Sequence
 
+from cdma_model.handset import Mark
+from cdma_model.script import BadScript, Cell
+from cdma_model.script import read_script as read_cell
 from cdma_tools.arguments import Parser, Within, whole_within
 from cdma_tools.captures import read_whole
 from cdma_tools.errors import Refused, WrongArguments
@@ -56,9 +59,6 @@ from cdma_tools.margins import Margin, margins, name_of, rows_sent, search_margi
 from cdma_tools.overwriting import InputFile
 from cdma_tools.scripts import SYNC_ROW, Script, read_script
 from cdma_tools.signs import Signs, signs
-from model.handset import Mark
-from model.script import BadScript, Cell
-from model.script import read_script as read_cell
 
 MOST_BYTES = 1_048_576
 FIRST_PAGING = 1

@@ -16,11 +16,11 @@ import argparse
 import importlib
 import sys
 
+from cdma_model.__main__ import main as run_model
 from cdma_tools.arguments import Parser
-from model.__main__ import main as run_model
 
 OURS = ("-h", "--help", "--version")
-importlib.import_module("model.run")  # with numpy, while an interrupt still ends the process at once
+importlib.import_module("cdma_model.run")  # with numpy, while an interrupt still ends the process at once
 
 
 def parser() -> Parser:

@@ -10,14 +10,14 @@ import os
 from collections.abc import Sequence
 from typing import NamedTuple
 
+from cdma_model.air import Noise, TooLoud, received
+from cdma_model.files import header_bytes, read_capture, sample_bytes
+from cdma_model.noise import margins, rows_heard, search_roots, weaker
+from cdma_model.run import WRITE_FAULT, run
+from cdma_model.script import BadScript, Cell, read_script
+from cdma_model.words import read_words
 from cdma_tools.conformance import cases
 from cdma_tools.errors import Refused
-from model.air import Noise, TooLoud, received
-from model.files import header_bytes, read_capture, sample_bytes
-from model.noise import margins, rows_heard, search_roots, weaker
-from model.run import WRITE_FAULT, run
-from model.script import BadScript, Cell, read_script
-from model.words import read_words
 
 HELD_IN_MEMORY = 8_000_000
 """The most samples of a file that a check takes without being told to take long ones: some seconds and 0.5 GiB."""

@@ -19,6 +19,9 @@ from typing import Any
 import numpy
 from numpy.typing import NDArray
 
+from cdma_model.bits import bits_of_text
+from cdma_model.files import BadFile, Capture, read_capture
+from cdma_model.handset import Assigned
 from cdma_tools.conformance.cases import Answer, Case, claimed
 from cdma_tools.explaining.frame_steps import (
     NoFrame,
@@ -30,9 +33,6 @@ from cdma_tools.explaining.frame_steps import (
     sync_steps,
     traffic_steps,
 )
-from model.bits import bits_of_text
-from model.files import BadFile, Capture, read_capture
-from model.handset import Assigned
 
 FIRST_WORD = b"step "
 LINE = re.compile(r"step (sync|paging|traffic) frame=([0-9]{1,6})((?: [a-z]+=[0-9a-f:,-]+)+)")

@@ -11,11 +11,11 @@ import re
 import shlex
 from dataclasses import dataclass, field
 
-from model.bits import Bits, spelled, text_of_bits
-from model.cell import AHEAD, FRAME, SLOT
-from model.coding import MESSAGE_16, RATE_SET_1, RATE_SET_2, Rate
-from model.messages import IN_TRAFFIC_FIELDS, PRIMARY_BITS, SEARCH_FIELDS, SYSTEM_FIELDS, capsule_of
-from model.slots import slot_of
+from cdma_model.bits import Bits, spelled, text_of_bits
+from cdma_model.cell import AHEAD, FRAME, SLOT
+from cdma_model.coding import MESSAGE_16, RATE_SET_1, RATE_SET_2, Rate
+from cdma_model.messages import IN_TRAFFIC_FIELDS, PRIMARY_BITS, SEARCH_FIELDS, SYSTEM_FIELDS, capsule_of
+from cdma_model.slots import slot_of
 
 SENDING = 3
 """Superframes of a sending of the shortest sync message; longer ones aren't sent here where more is heard."""

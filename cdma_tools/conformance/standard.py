@@ -63,9 +63,9 @@ def frame_part(part: str, sent: set[tuple[str, str]]) -> str:
 @functools.lru_cache(maxsize=4_096)
 def is_distinct(speed: int, text: str) -> bool:
     """Whether each codeword of another rate differs from a frame's in more symbols than power control bits replace."""
-    from model.bits import bits_of_text
-    from model.coding import RATE_SET_1, code_symbols, frame_bits
-    from model.frames import best_at
+    from cdma_model.bits import bits_of_text
+    from cdma_model.coding import RATE_SET_1, code_symbols, frame_bits
+    from cdma_model.frames import best_at
 
     rates = {rate.speed: rate for rate in RATE_SET_1}
     bits = bits_of_text(text)

@@ -9,12 +9,22 @@ from typing import Any
 import numpy as np
 from numpy.typing import NDArray
 
-from model.bits import Bits, number
-from model.coding import MESSAGE_16, MESSAGE_30, RATE_SET_1, RATE_SET_2, TAIL, Rate, code_symbols, is_right, quality
-from model.files import Capture
-from model.frames import DATA_FORM, Finger, Form, Stream
-from model.frames import commands as power_commands
-from model.frames import (
+from cdma_model.bits import Bits, number
+from cdma_model.coding import (
+    MESSAGE_16,
+    MESSAGE_30,
+    RATE_SET_1,
+    RATE_SET_2,
+    TAIL,
+    Rate,
+    code_symbols,
+    is_right,
+    quality,
+)
+from cdma_model.files import Capture
+from cdma_model.frames import DATA_FORM, Finger, Form, Stream
+from cdma_model.frames import commands as power_commands
+from cdma_model.frames import (
     decoded_spans,
     end_of,
     finger_sums,
@@ -25,7 +35,7 @@ from model.frames import (
     traffic_frame,
     without,
 )
-from model.handset import (
+from cdma_model.handset import (
     Assigned,
     Mark,
     frame_clock,
@@ -37,8 +47,8 @@ from model.handset import (
     reference_fingers,
     sync_stream,
 )
-from model.lists import first_codewords
-from model.messages import (
+from cdma_model.lists import first_codewords
+from cdma_model.messages import (
     FREQUENCY,
     HANDOFF_FIELDS,
     HEAD_FIELDS,
@@ -57,7 +67,7 @@ from model.messages import (
     take_piece,
     traffic_message,
 )
-from model.search import Found, search
+from cdma_model.search import Found, search
 
 
 class NoFrame(Exception):

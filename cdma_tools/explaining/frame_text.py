@@ -6,8 +6,8 @@ from typing import Any
 import numpy as np
 from numpy.typing import NDArray
 
+from cdma_model.bits import text_of_bits
 from cdma_tools.explaining.frame_steps import Path, Steps
-from model.bits import text_of_bits
 
 WIDTH = 79
 COLUMNS = 64

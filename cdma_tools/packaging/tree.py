@@ -24,7 +24,7 @@ BASH = "share/bash-completion/completions"
 ZSH = "share/zsh/site-functions"  # which zsh looks at below /usr/local
 PLAIN, EXECUTABLE = 0o644, 0o755
 # Folders of the checkout that are laid as they are, without what a run of Python leaves in them.
-FOLDERS = ("cdma", "cdma_tools", "model", "conformance", "examples")
+FOLDERS = ("cdma", "cdma_tools", "cdma_model", "conformance", "examples")
 # Pages outside docs/ to which those that are installed lead, each at its place in the checkout.
 PAGES = ("README.md", "CONTRIBUTING.md", "CHANGELOG.md", "conformance/README.md")
 # An installed command: it finds the package next to it, whatever the prefix, and leaves no files.

@@ -7,8 +7,8 @@ import dataclasses
 import numpy
 from numpy.typing import NDArray
 
+from cdma_model.coding import TAIL, code_symbols
 from cdma_tools.radio.air import CHIP_RATE, PERIOD, pulse_spectrum, short_code
-from model.coding import TAIL, code_symbols
 
 BITS = 192
 GREATEST_SOFT = 2_047

@@ -32,7 +32,7 @@ cdma.use_model()  # leave this line out if the program cdma_replay is built"""
 # The code of each step.
 CODE = {
     1: """\
-from model.codes import I_LAGS, Q_LAGS, pilot_chips
+from cdma_model.codes import I_LAGS, Q_LAGS, pilot_chips
 
 for lags in (I_LAGS, Q_LAGS):
     print(lags, *pilot_chips(lags)[:16])""",
@@ -46,7 +46,7 @@ cell""",
 print(cdma.find(chips))
 axes = cdma.plot.correlation(chips)""",
     4: """\
-from model.codes import WALSH
+from cdma_model.codes import WALSH
 
 print(WALSH[10] @ WALSH[10], WALSH[10] @ WALSH[1], WALSH[10] @ WALSH[32], WALSH[10] @ WALSH[0])""",
     5: """\
@@ -54,7 +54,7 @@ steps = cdma.explain(chips, channel="sync")
 print("\\n".join(str(steps).splitlines()[:7]))
 axes = cdma.plot.constellation(chips)""",
     6: """\
-from model.coding import code_symbols
+from cdma_model.coding import code_symbols
 
 print("as sent:       ", *(int(soft < 0) for soft in steps.soft_values[:40]), sep="")
 print("encoder's order:", *(int(soft < 0) for soft in steps.code_symbols[:40]), sep="")

@@ -1,4 +1,4 @@
-"""The steps in which a frame of the last chips was decoded, as `explain` shows them, by the model of `model/`.
+"""The steps in which a frame of the last chips was decoded, as `explain` shows them, by the model of `cdma_model/`.
 
 The search and the mark of a handset are not made again: the chips' numbers give the code's phase, and a decoded
 sync message gives the system time and the state of the long code.
@@ -9,6 +9,9 @@ from typing import Any
 
 import numpy
 
+from cdma_model.files import Capture
+from cdma_model.handset import Assigned, Mark
+from cdma_model.search import Found
 from cdma_tools.explaining.frame_steps import NoFrame, Steps, paging_steps, sync_steps, traffic_steps
 from cdma_tools.explaining.frame_text import text_of
 from cdma_tools.listening.events import Event
@@ -16,9 +19,6 @@ from cdma_tools.listening.notes import FRAME
 from cdma_tools.listening.system_time import SUPERFRAME, fields_of, time_told
 from cdma_tools.radio.air import PERIOD
 from cdma_tools.view.chip_store import ChipStore, Extent
-from model.files import Capture
-from model.handset import Assigned, Mark
-from model.search import Found
 
 # Chips before a frame in which its messages may begin, and those after it that decode it.
 BEFORE, AFTER = 10 * FRAME, 2 * FRAME

@@ -36,7 +36,7 @@ def skipped_lines(found: list[Outcome]) -> list[str]:
 def compiled(folder: str) -> None:
     """Compiles the modules into a folder where each Python of the run finds them, so that none compiles them again."""
     with patch.object(sys, "pycache_prefix", folder):
-        for name in ("cdma", "cdma_tools", "model", "tools"):
+        for name in ("cdma", "cdma_tools", "cdma_model", "tools"):
             compileall.compile_dir(os.path.join(TOP, name), quiet=2)
 
 

@@ -16,7 +16,7 @@ from dataclasses import dataclass
 import numpy
 from numpy.typing import NDArray
 
-from model.codes import state_after
+from cdma_model.codes import state_after
 from tools.tests.helping import HEADER
 
 CHIP_RATE = 1_228_800

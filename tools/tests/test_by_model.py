@@ -12,10 +12,10 @@ from tools.tests.helping import (
 
 needs("numpy")
 
+from cdma_model.run import run  # noqa: E402
 from cdma_tools.commands import status_of  # noqa: E402
 from cdma_tools.conformance import by_model, cases, random_case  # noqa: E402
 from cdma_tools.conformance.by_model import Draft, input_of, items_of  # noqa: E402
-from model.run import run  # noqa: E402
 
 WRITE, CHECK = "conformance_write", "conformance_check"
 DRAFT = """purpose: a pilot that turns the other way

@@ -44,6 +44,13 @@ def untyped(node: Function) -> list[str]:
     return found + ([] if node.returns else ["what it answers"])
 
 
+def imported(module: ast.Module) -> set[str]:
+    """Returns the packages from which a module imports, by the first part of their names."""
+    found = [name.name for node in ast.walk(module) if isinstance(node, ast.Import) for name in node.names]
+    found += [node.module for node in ast.walk(module) if isinstance(node, ast.ImportFrom) and node.module]
+    return {name.partition(".")[0] for name in found}
+
+
 class Code(unittest.TestCase):
     """What every module of the package must fulfil; functions of the tests need types too."""
 
@@ -66,11 +73,12 @@ class Code(unittest.TestCase):
                         self.assertTrue(ast.get_docstring(node))
 
     def test_the_model_shares_no_code_with_the_tools(self) -> None:
-        for place, module in modules("model"):
-            for node in ast.walk(module):
-                names = [name.name for name in node.names] if isinstance(node, ast.Import) else []
-                names += [node.module or ""] if isinstance(node, ast.ImportFrom) else []
-                self.assertFalse([name for name in names if name.split(".")[0] in ("cdma", "cdma_tools", "tools")], place)
+        for place, module in modules("cdma_model"):
+            self.assertFalse(imported(module) & {"cdma", "cdma_tools", "tools"}, place)
+
+    def test_what_is_installed_imports_no_package_of_only_a_checkout(self) -> None:
+        for place, module in [*modules("cdma"), *modules("cdma_model"), *modules("cdma_tools"), *modules("examples")]:
+            self.assertFalse(imported(module) & {"model", "tools"}, place)
 
     def test_no_tool_changes_where_python_looks_for_modules(self) -> None:
         """No module of the package changes the search path, so no class is loaded twice."""
@@ -85,14 +93,14 @@ class Code(unittest.TestCase):
 
     @unittest.skipUnless(importlib.util.find_spec("mypy"), "no mypy: install the package mypy")
     def test_mypy(self) -> None:
-        parts = ["cdma", "cdma_tools", "model", "tools/tests"]
+        parts = ["cdma", "cdma_tools", "cdma_model", "model", "tools/tests"]
         words = [PYTHON, "-m", "mypy", "--cache-dir", os.devnull, *parts]  # strict, by pyproject.toml; nothing is kept
         ran = subprocess.run(words, capture_output=True, text=True, cwd=ROOT, timeout=600)
         self.assertEqual(ran.returncode, 0, ran.stdout[-4_000:])
 
     @unittest.skipUnless(importlib.util.find_spec("pyflakes"), "no pyflakes: install the package python3-pyflakes")
     def test_pyflakes(self) -> None:
-        words = [PYTHON, "-m", "pyflakes", "cdma", "cdma_tools", "model", "tools/tests"]
+        words = [PYTHON, "-m", "pyflakes", "cdma", "cdma_tools", "cdma_model", "model", "tools/tests"]
         ran = subprocess.run(words, capture_output=True, text=True, cwd=ROOT, timeout=600)
         self.assertEqual((ran.returncode, ran.stdout), (0, ""))
 

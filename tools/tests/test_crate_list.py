@@ -102,7 +102,7 @@ class Architecture(unittest.TestCase):
         modules: list[str] = re.findall(r"(?m)^\| \d+ \| `[^`]+` \| `[^`]+` \|.*\| (?:`(\w+)` )?\|$", self.text)
         self.assertEqual(len(modules), 24)
         for module in {it for it in modules if it}:
-            self.assertTrue(os.path.exists(os.path.join(ROOT, "model", f"{module}.py")), module)
+            self.assertTrue(os.path.exists(os.path.join(ROOT, "cdma_model", f"{module}.py")), module)
 
 
 class ReadingOrder(unittest.TestCase):

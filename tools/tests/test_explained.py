@@ -14,9 +14,9 @@ needs("numpy")
 import numpy  # noqa: E402
 from numpy.typing import NDArray  # noqa: E402
 
+from cdma_model.bits import text_of_bits  # noqa: E402
 from cdma_tools.conformance import by_model, cases, explained  # noqa: E402
 from cdma_tools.explaining.frame_steps import Steps  # noqa: E402
-from model.bits import text_of_bits  # noqa: E402
 from tools.tests.radio_helping import run_main  # noqa: E402
 
 NAMES = ("heard", "scrambling", "softs", "symbols", "word", "quality")

@@ -6,6 +6,7 @@ import re
 import subprocess
 import unittest
 
+from cdma_tools.packaging import tree
 from cdma_tools.program import NOT_INSTALLED
 from tools.tests.helping import ROOT, run_tool, temporary_folder
 
@@ -41,6 +42,8 @@ class Installs(unittest.TestCase):
             page = os.path.join(self.prefix, "share", "man", "man1", "cdma_replay.1")
             program = os.path.join(self.prefix, "bin", "cdma_replay")
             self.assertEqual(sorted(wrote.decode().splitlines()), self.files())
+            packages = {place.split("/")[2] for place in tree.listed(self.prefix) if place.endswith("/__init__.py")}
+            self.assertEqual(packages, {"cdma", "cdma_model", "cdma_tools"})
             self.assertEqual(self.read(program), STANDS_FOR)
             self.assertEqual(self.read(page), self.read(ROOT, "docs", "cdma_replay.1"))
             self.assertEqual([os.stat(path).st_mode & 0o777 for path in (page, program)], [0o644, 0o755])

@@ -15,7 +15,7 @@ needs("numpy")
 import numpy as np  # noqa: E402
 from numpy.typing import NDArray  # noqa: E402
 
-from model.codes import PERIOD, POINTS, points  # noqa: E402
+from cdma_model.codes import PERIOD, POINTS, points  # noqa: E402
 
 TESTS = os.path.join(ROOT, "crates", "receiver_tests", "src", "search_tests.rt")
 MOST = 2_048

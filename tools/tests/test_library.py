@@ -551,10 +551,10 @@ class Choice(unittest.TestCase):
                 cdma.find(Path(EXAMPLES, "pilot_in_noise.is95"))
 
     def test_the_model_in_any_folder(self) -> None:
-        """A folder `model` of the user's is not taken for the model."""
+        """A folder `cdma_model` of the user's is not taken for the model."""
         folder = temporary_folder(self.addCleanup)
-        os.mkdir(os.path.join(folder, "model"))
-        Path(folder, "model", "__main__.py").write_text("raise SystemExit('the wrong one')")
+        os.mkdir(os.path.join(folder, "cdma_model"))
+        Path(folder, "cdma_model", "__main__.py").write_text("raise SystemExit('the wrong one')")
         cdma.use_model()
         with contextlib.chdir(folder):
             self.assertEqual(cdma.find(Path(EXAMPLES, "pilot_in_noise.is95")).phase, 12_345)

@@ -23,6 +23,7 @@ from tools.tests.helping import EXAMPLES, PYTHON, ROOT, example, is_gone, needs,
 needs("numpy", "scipy", "matplotlib")
 
 import cdma_tools  # noqa: E402
+from cdma_model.run import run  # noqa: E402
 from cdma_tools import entries  # noqa: E402
 from cdma_tools.arguments import joined  # noqa: E402
 from cdma_tools.commands import channel  # noqa: E402
@@ -32,7 +33,6 @@ from cdma_tools.program import MODEL, NOT_FOUND, NOT_INSTALLED, SLOWER, find_pro
 from cdma_tools.repository import launchers  # noqa: E402
 from cdma_tools.starting import COMMANDS, IN_CHECKOUT, INSTALLED, called, named_by  # noqa: E402
 from cdma_tools.writing import write_beside  # noqa: E402
-from model.run import run  # noqa: E402
 from tools.tests.radio_helping import run_main  # noqa: E402
 
 WAYS = [f"tools/{name}" for name in sorted(os.listdir(os.path.join(ROOT, "tools"))) if name != "tests"]

@@ -16,6 +16,14 @@ needs("numpy")
 import numpy as np  # noqa: E402
 from numpy.typing import NDArray  # noqa: E402
 
+from cdma_model.air import Noise, received  # noqa: E402
+from cdma_model.cell import samples  # noqa: E402
+from cdma_model.codes import POINTS  # noqa: E402
+from cdma_model.files import header_bytes, sample_bytes  # noqa: E402
+from cdma_model.noise import Roots, bears, own_phase, search_roots  # noqa: E402
+from cdma_model.noise import margin as margin_by_model  # noqa: E402
+from cdma_model.run import run  # noqa: E402
+from cdma_model.script import Cell, read_script  # noqa: E402
 from cdma_tools.commands import margin as command  # noqa: E402
 from cdma_tools.conformance import cases  # noqa: E402
 from cdma_tools.conformance.random_case import drawn_scene  # noqa: E402
@@ -24,14 +32,6 @@ from cdma_tools.errors import Refused  # noqa: E402
 from cdma_tools.margins import margin_of, margins, search_margin  # noqa: E402
 from cdma_tools.scripts import Script  # noqa: E402
 from cdma_tools.scripts import read_script as read_by_tools  # noqa: E402
-from model.air import Noise, received  # noqa: E402
-from model.cell import samples  # noqa: E402
-from model.codes import POINTS  # noqa: E402
-from model.files import header_bytes, sample_bytes  # noqa: E402
-from model.noise import Roots, bears, own_phase, search_roots  # noqa: E402
-from model.noise import margin as margin_by_model  # noqa: E402
-from model.run import run  # noqa: E402
-from model.script import Cell, read_script  # noqa: E402
 
 SECOND = "second_of_paging.script"
 CALL = "call.script"

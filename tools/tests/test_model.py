@@ -1,4 +1,4 @@
-"""The model of model/, against values that were worked out elsewhere, and against enumeration where possible."""
+"""The model of cdma_model/, against values that were worked out elsewhere, and against enumeration where possible."""
 
 import io
 import itertools
@@ -15,10 +15,10 @@ needs("numpy")
 import numpy as np  # noqa: E402
 from numpy.typing import NDArray  # noqa: E402
 
-from model import codes, coding, frames, lists, messages, script, search, sets, slots  # noqa: E402
-from model.air import draws  # noqa: E402
-from model.bits import Bits, bits_of_text, number, spelled, text_of_bits  # noqa: E402
-from model.run import Outcome, run  # noqa: E402
+from cdma_model import codes, coding, frames, lists, messages, script, search, sets, slots  # noqa: E402
+from cdma_model.air import draws  # noqa: E402
+from cdma_model.bits import Bits, bits_of_text, number, spelled, text_of_bits  # noqa: E402
+from cdma_model.run import Outcome, run  # noqa: E402
 
 DIGITS = [bit for octet in b"123456789" for bit in spelled(8, octet)]
 ENCODED = [int(digit) for digit in "111011110110001011"]
@@ -313,7 +313,7 @@ class Runs(unittest.TestCase):
         self.assertEqual((ran.returncode, ran.stdout, ran.stderr), (3, b"", b"bad file: short at 0\n"))
 
     def test_no_more_lines_than_can_be_read(self) -> None:
-        folder = os.path.join(ROOT, "model")
+        folder = os.path.join(ROOT, "cdma_model")
         count = 0
         for name in os.listdir(folder):
             if name.endswith(".py"):

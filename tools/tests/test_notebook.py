@@ -51,7 +51,7 @@ class Notebook(unittest.TestCase):
     @unittest.skipIf(NEEDED, f"no {', '.join(NEEDED)}: install python3-nbconvert and python3-ipykernel")
     def test_run(self) -> None:
         folder = Path(temporary_folder(self.addCleanup))
-        for name in ("cdma", "cdma_tools", "model", "examples"):
+        for name in ("cdma", "cdma_tools", "cdma_model", "examples"):
             (folder / name).symlink_to(os.path.join(ROOT, name))
         (folder / "docs").mkdir()
         words = ["-m", "nbconvert", "--to", "notebook", "--execute", "--output-dir", str(folder / "docs")]

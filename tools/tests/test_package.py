@@ -19,12 +19,12 @@ from tools.tests.helping import NO_PROGRAM, PROGRAM, PYTHON, ROOT, needs, run_in
 needs("numpy", "scipy")
 
 import cdma_tools  # noqa: E402
+from cdma_model.words import COMMANDS  # noqa: E402
 from cdma_tools.errors import Refused  # noqa: E402
 from cdma_tools.packaging import archive, completions, debian, program_completions, tree  # noqa: E402
 from cdma_tools.places import data_folder  # noqa: E402
 from cdma_tools.program import NAME  # noqa: E402
 from cdma_tools.starting import INSTALLED  # noqa: E402
-from model.words import COMMANDS  # noqa: E402
 
 SECONDS = 300
 # Cases of several commands; all of them are asked where WHOLE_CONFORMANCE is set, which takes some minutes.
@@ -408,6 +408,7 @@ class Parts(Installed):
         told = subprocess.run(words, capture_output=True, text=True, env=run, cwd=self.work, timeout=60)
         self.assertEqual(told.stdout, f"12345 {os.path.join(where, 'cdma', '__init__.py')}\n", told.stderr)
         self.assertTrue(os.path.exists(os.path.join(where, "cdma", "py.typed")))
+        self.assertEqual({name for name in os.listdir(where) if "." not in name}, {"cdma", "cdma_model", "cdma_tools"})
         script = os.path.join(prefix, next(path for path in scripts if path.endswith("/cdma-conformance")))
         told = subprocess.run([script, "--list"], capture_output=True, text=True, env=run, cwd=self.work, timeout=60)
         self.assertGreater(told.stdout.count("\n"), 300, told.stderr)

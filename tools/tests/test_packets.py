@@ -18,6 +18,10 @@ from tools.tests.helping import ROOT, TOOLS, needs, run_inside, temporary_folder
 
 needs("numpy")
 
+from cdma_model.bits import Bits, bits_of_text  # noqa: E402
+from cdma_model.coding import MESSAGE_16, MESSAGE_30  # noqa: E402
+from cdma_model.lines import paging_line, sync_line, traffic_line  # noqa: E402
+from cdma_model.messages import body_of, paging_message, sync_message, traffic_message  # noqa: E402
 from cdma_tools.lines import BY_WORDS, read_line  # noqa: E402
 from cdma_tools.wireshark import dissector  # noqa: E402
 from cdma_tools.wireshark.layouts import message_digits  # noqa: E402
@@ -30,10 +34,6 @@ from cdma_tools.wireshark.pcapng import (  # noqa: E402
     packet_block,
     section_header,
 )
-from model.bits import Bits, bits_of_text  # noqa: E402
-from model.coding import MESSAGE_16, MESSAGE_30  # noqa: E402
-from model.lines import paging_line, sync_line, traffic_line  # noqa: E402
-from model.messages import body_of, paging_message, sync_message, traffic_message  # noqa: E402
 from tools.tests.test_lines import CASES, LINES  # noqa: E402
 
 DISSECTOR = os.path.join(ROOT, "share", "cdma-replay", "is95.lua")

@@ -19,7 +19,7 @@ from tools.tests.helping import NO_PROGRAM, PROGRAM, PYTHON, ROOT, needs, tempor
 needs("numpy", "scipy", "matplotlib", "plotly", "tqdm", "distributed", "markupsafe")
 
 PAGES = ("README.md", "docs/GUIDE.md", "docs/RADIO.md", "docs/CURVES.md", "docs/FORMATS.md")
-LINKED = ("cdma_tools", "conformance", "docs", "examples", "model", "share", "tools")
+LINKED = ("cdma_model", "cdma_tools", "conformance", "docs", "examples", "model", "share", "tools")
 IS_WHOLE = os.environ.get("ROLVENST_PAGES") == "all"
 MARK = re.compile(r"<!-- (not run|by hand|status): (.+) -->")
 LEFT_OUT = ".. and "

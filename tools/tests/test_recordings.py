@@ -12,8 +12,8 @@ needs("numpy", "scipy")
 
 import numpy  # noqa: E402
 
+from cdma_model.run import run  # noqa: E402
 from cdma_tools.radio import bench, bench_cases, bench_cells  # noqa: E402
-from model.run import run  # noqa: E402
 from tools.tests.radio_helping import run_main  # noqa: E402
 
 RUNNER = "conformance_recordings"

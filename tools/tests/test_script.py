@@ -10,11 +10,11 @@ import re
 import subprocess
 import unittest
 
+from cdma_model.script import BadScript, read_script
+from cdma_model.words import BadWords, read_words
 from cdma_tools.commands import status_of
 from cdma_tools.scripting.arguments import faults as argument_faults
 from cdma_tools.scripting.checking import check, verdict
-from model.script import BadScript, read_script
-from model.words import BadWords, read_words
 from tools.tests import test_refused_scripts as refused
 from tools.tests import test_refused_words as refused_words
 from tools.tests.helping import EXAMPLES, NO_PROGRAM, PROGRAM, temporary_folder

@@ -31,7 +31,7 @@ from tools.tests.prose import (
 needs("numpy", "scipy", "matplotlib", "plotly", "tqdm", "distributed", "markupsafe")
 
 # Folders whose docstrings and errors are checked, and this file, which has the old sentences.
-FOLDERS = ("cdma", "cdma_tools", "conformance", "examples", "model", "tools/tests")
+FOLDERS = ("cdma", "cdma_tools", "conformance", "examples", "cdma_model", "model", "tools/tests")
 THIS_FILE = os.path.relpath(__file__, ROOT)
 # Sentences in which a pattern is right. A test fails for an exception that is not needed.
 ALLOWED: tuple[Allowed, ...] = ()

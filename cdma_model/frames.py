@@ -5,10 +5,10 @@ from typing import Any, Callable, Iterator, NamedTuple
 import numpy as np
 from numpy.typing import NDArray
 
-from model.bits import Bits
-from model.codes import WALSH, despread
-from model.coding import Rate, best_codewords, gathered, is_right
-from model.files import Capture
+from cdma_model.bits import Bits
+from cdma_model.codes import WALSH, despread
+from cdma_model.coding import Rate, best_codewords, gathered, is_right
+from cdma_model.files import Capture
 
 
 class Form(NamedTuple):

@@ -6,11 +6,11 @@ from typing import Any, Callable, Iterator, NamedTuple
 import numpy as np
 from numpy.typing import NDArray
 
-from model.bits import Bits, number
-from model.codes import WALSH, paging_mask, points, scrambling_bits, state_after, state_before, traffic_mask
-from model.coding import PAGING_ORDERS, SYNC_ORDER, code_symbols, frame_bits
-from model.messages import capsule_of, sync_body
-from model.script import BODY_BITS, PILOT_ROW, SYNC_ROW, Cell, Paging, Traffic
+from cdma_model.bits import Bits, number
+from cdma_model.codes import WALSH, paging_mask, points, scrambling_bits, state_after, state_before, traffic_mask
+from cdma_model.coding import PAGING_ORDERS, SYNC_ORDER, code_symbols, frame_bits
+from cdma_model.messages import capsule_of, sync_body
+from cdma_model.script import BODY_BITS, PILOT_ROW, SYNC_ROW, Cell, Paging, Traffic
 
 SLOT = 98_304
 """Chips of 80 ms: a superframe of the sync channel, and the unit of the system time."""

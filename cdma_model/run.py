@@ -4,17 +4,17 @@ from typing import Callable, Iterable, Iterator, NamedTuple
 
 import numpy as np
 
-from model.cell import samples
-from model.coding import RATE_SET_2
-from model.files import BadFile, Capture, header_bytes, read_capture, sample_bytes
-from model.frames import traffic_frame
-from model.handset import Assigned, follow, hear_sync, reference_frames, told
-from model.lines import pilot_line, survey_line, trial_line
-from model.lists import listed_frame
-from model.script import TRIAL_ROW, BadScript, read_script, trial_script
-from model.search import search, survey
-from model.slots import slot_lines
-from model.words import DEFAULTS, BadWords, Options, read_words
+from cdma_model.cell import samples
+from cdma_model.coding import RATE_SET_2
+from cdma_model.files import BadFile, Capture, header_bytes, read_capture, sample_bytes
+from cdma_model.frames import traffic_frame
+from cdma_model.handset import Assigned, follow, hear_sync, reference_frames, told
+from cdma_model.lines import pilot_line, survey_line, trial_line
+from cdma_model.lists import listed_frame
+from cdma_model.script import TRIAL_ROW, BadScript, read_script, trial_script
+from cdma_model.search import search, survey
+from cdma_model.slots import slot_lines
+from cdma_model.words import DEFAULTS, BadWords, Options, read_words
 
 DONE, NO_SYNC, BAD_WORDS, BAD_FILE, BAD_SCRIPT = 0, 1, 2, 3, 8
 SPAN = DEFAULTS["span"]

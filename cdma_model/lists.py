@@ -5,9 +5,9 @@ from typing import Any
 import numpy as np
 from numpy.typing import NDArray
 
-from model.bits import Bits
-from model.coding import BRANCH_SIGNS, NEVER, RATE_SET_1, REVERSED, Rate
-from model.frames import Decoded, chosen, rate_softs, without
+from cdma_model.bits import Bits
+from cdma_model.coding import BRANCH_SIGNS, NEVER, RATE_SET_1, REVERSED, Rate
+from cdma_model.frames import Decoded, chosen, rate_softs, without
 
 
 def first_codewords(count: int, softs: NDArray[Any], zero_ends: bool) -> list[tuple[int, Bits]]:

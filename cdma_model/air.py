@@ -5,9 +5,9 @@ from typing import Any, NamedTuple
 import numpy as np
 from numpy.typing import NDArray
 
-from model.cell import samples
-from model.noise import against, rounded
-from model.script import Cell
+from cdma_model.cell import samples
+from cdma_model.noise import against, rounded
+from cdma_model.script import Cell
 
 MULTIPLIER, INCREMENT = 1_664_525, 1_013_904_223
 """The draws of noise: a state of 32 bits times the one, plus the other."""

@@ -5,7 +5,7 @@ from typing import Any, NamedTuple
 import numpy as np
 from numpy.typing import NDArray
 
-from model.bits import Bits, number, parity, spelled
+from cdma_model.bits import Bits, number, parity, spelled
 
 # ---- the convolutional code (7.1.3.1.3.1): bit k of a mask is the power k of D
 

@@ -5,7 +5,7 @@ from typing import Any
 import numpy as np
 from numpy.typing import NDArray
 
-from model.bits import Bits, number, parity, spelled
+from cdma_model.bits import Bits, number, parity, spelled
 
 PERIOD = 32_768
 """Chips in a period of the pilot's codes: 2^15, with the inserted 0."""

@@ -2,12 +2,12 @@
 
 from typing import Iterator
 
-from model.cell import FRAME, SLOT
-from model.files import Capture
-from model.frames import decoded_spans
-from model.handset import PAGING_FRAME_BITS, Mark, paging_messages, paging_stream
-from model.lines import paging_line, slot_line
-from model.search import Found
+from cdma_model.cell import FRAME, SLOT
+from cdma_model.files import Capture
+from cdma_model.frames import decoded_spans
+from cdma_model.handset import PAGING_FRAME_BITS, Mark, paging_messages, paging_stream
+from cdma_model.lines import paging_line, slot_line
+from cdma_model.search import Found
 
 FRAMES = SLOT // FRAME
 """Frames of a paging channel in a slot: four."""

@@ -4,9 +4,9 @@ import re
 from dataclasses import dataclass, field
 from typing import Any, Callable
 
-from model.bits import Bits, bits_of_text, text_of_bits
-from model.coding import MESSAGE_30, RATE_SET_1, RATE_SET_2, Rate
-from model.messages import (
+from cdma_model.bits import Bits, bits_of_text, text_of_bits
+from cdma_model.coding import MESSAGE_30, RATE_SET_1, RATE_SET_2, Rate
+from cdma_model.messages import (
     LEAST_OCTETS,
     LENGTH,
     MOST_OCTETS,

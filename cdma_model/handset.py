@@ -5,12 +5,12 @@ from typing import Any, Callable, Iterator, NamedTuple
 import numpy as np
 from numpy.typing import NDArray
 
-from model.bits import Bits
-from model.cell import AHEAD, FRAME, GROUP, OFFSET_STEP, SLOT, SUPERFRAME_BITS, power_places
-from model.codes import PERIOD, paging_mask, scrambling_bits, state_after, traffic_mask
-from model.coding import MESSAGE_16, PAGING_ORDERS, RATE_SET_1, SYNC_ORDER
-from model.files import Capture
-from model.frames import (
+from cdma_model.bits import Bits
+from cdma_model.cell import AHEAD, FRAME, GROUP, OFFSET_STEP, SLOT, SUPERFRAME_BITS, power_places
+from cdma_model.codes import PERIOD, paging_mask, scrambling_bits, state_after, traffic_mask
+from cdma_model.coding import MESSAGE_16, PAGING_ORDERS, RATE_SET_1, SYNC_ORDER
+from cdma_model.files import Capture
+from cdma_model.frames import (
     DATA_FORM,
     SYNC_FORM,
     Decoded,
@@ -23,8 +23,8 @@ from model.frames import (
     stream_frames,
     traffic_frame,
 )
-from model.lines import frame_line, paging_line, raw_line, sets_line, sync_line, traffic_line
-from model.messages import (
+from cdma_model.lines import frame_line, paging_line, raw_line, sets_line, sync_line, traffic_line
+from cdma_model.messages import (
     Message,
     body_of,
     paging_message,
@@ -34,9 +34,9 @@ from model.messages import (
     take_piece,
     traffic_message,
 )
-from model.script import SYNC_ROW
-from model.search import MEASURED, Found, power, strength
-from model.sets import Active, Sets, hand_off, hear, move
+from cdma_model.script import SYNC_ROW
+from cdma_model.search import MEASURED, Found, power, strength
+from cdma_model.sets import Active, Sets, hand_off, hear, move
 
 PAGING_FRAME_BITS = {0: 192, 1: 96}
 """Bits of a paging frame, by PRAT."""

@@ -7,11 +7,11 @@ from typing import Any, NamedTuple
 import numpy as np
 from numpy.typing import NDArray
 
-from model.cell import OFFSET_STEP, samples
-from model.codes import PERIOD
-from model.script import PILOT_ROW, SYNC_ROW, Cell
-from model.search import energies
-from model.words import read_words
+from cdma_model.cell import OFFSET_STEP, samples
+from cdma_model.codes import PERIOD
+from cdma_model.script import PILOT_ROW, SYNC_ROW, Cell
+from cdma_model.search import energies
+from cdma_model.words import read_words
 
 
 UNITS = ((1, 0), (0, 1), (-1, 0), (0, -1))

@@ -3,7 +3,7 @@
 from dataclasses import dataclass, field
 from typing import Iterable
 
-from model.messages import Message
+from cdma_model.messages import Message
 
 DROP_MILLISECONDS = (100, 1_000, 2_000, 4_000, 6_000, 9_000, 13_000, 19_000, 27_000, 39_000, 55_000, 79_000, 112_000,
                      159_000, 225_000, 319_000)  # fmt: skip

@@ -2,8 +2,8 @@
 
 from typing import Any, TypeVar
 
-from model.bits import Bits, number, spelled
-from model.coding import MESSAGE_30, Check, check_bits
+from cdma_model.bits import Bits, number, spelled
+from cdma_model.coding import MESSAGE_30, Check, check_bits
 
 Record = TypeVar("Record")
 Message = dict[str, Any]

@@ -5,7 +5,7 @@ from typing import Any, NamedTuple
 import numpy as np
 from numpy.typing import NDArray
 
-from model.codes import PERIOD, POINTS, points
+from cdma_model.codes import PERIOD, POINTS, points
 
 NEAR = 32
 """How many chips round the best phase the other paths are looked for."""

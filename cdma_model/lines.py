@@ -2,9 +2,9 @@
 
 from typing import Any, Iterable
 
-from model.bits import Bits, text_of_bits
-from model.frames import Decoded
-from model.messages import HANDOFF_FIELDS, HEAD_FIELDS, IN_TRAFFIC_FIELDS, SYNC_FIELDS, SYSTEM_FIELDS, Message
+from cdma_model.bits import Bits, text_of_bits
+from cdma_model.frames import Decoded
+from cdma_model.messages import HANDOFF_FIELDS, HEAD_FIELDS, IN_TRAFFIC_FIELDS, SYNC_FIELDS, SYSTEM_FIELDS, Message
 
 
 def fields(message: dict[str, Any], names: Iterable[str]) -> str:
