@@ -98,8 +98,9 @@ def page_in(folder: str) -> bool:
 
 def remarks_in(folder: str, source: str) -> list[str]:
     """The remarks on a source that a page has."""
+    name = re.escape("standard input" if source == "-" else source)
     with open(os.path.join(folder, "page.html"), encoding="utf-8") as file:
-        return re.findall(f"{re.escape(source)}: the stream ended[^<]*", file.read())
+        return re.findall(f"{name}: the stream ended[^<]*", file.read())
 
 
 TOOLS = (
