@@ -20,7 +20,7 @@ SENDING, HEARING = ("base_modulator",), ("pilot_survey", "tuned_listener")
 # The columns of the picture, from the left.
 SIDES = ("base station", "both", "handset", "program, laws", "tests")
 # The head of the table of crates in docs/ARCHITECTURE.md; the purposes in it are written by hand.
-HEAD = "| Crate | Side | Layer | Purpose | Depends on |\n|---|---|---|---|---|\n"
+HEAD = "| Crate | Purpose | Depends on |\n|---|---|---|\n"
 
 
 class NoList(Exception):
@@ -111,11 +111,9 @@ def picture(below: Mapping[str, Sequence[str]]) -> str:
 def table(purposes: Mapping[str, str], below: Mapping[str, Sequence[str]]) -> str:
     """Returns the table of crates, sorted by side, by layer and then as in crates.txt."""
     layers = {name: len(chain) for name, chain in chains(below).items()}
-    sides = {name: side_of(below, name) for name in below}
     rows = [
-        f"| `{name}` | {sides[name]} | {layers[name]} | {purposes.get(name, '')} | "
-        f"{', '.join(f'`{it}`' for it in right_below(below, name))} |\n"
-        for name in sorted(below, key=lambda it: (SIDES.index(sides[it]), layers[it]))
+        f"| `{name}` | {purposes.get(name, '')} | {', '.join(f'`{it}`' for it in right_below(below, name))} |\n"
+        for name in sorted(below, key=lambda it: (SIDES.index(side_of(below, it)), layers[it]))
     ]
     return HEAD + "".join(rows)
 
@@ -129,7 +127,7 @@ def with_crates(text: str, below: Mapping[str, Sequence[str]]) -> str:
         raise NoList("docs/ARCHITECTURE.md has no table of crates")
     old = re.match(r"(?:\|.*\n)*", after)
     rows = old[0] if old else ""
-    purposes = dict(re.findall(r"(?m)^\| `(\w+)` \|[^|]*\|[^|]*\| (.*?) \|[^|]*\|$", rows))
+    purposes = dict(re.findall(r"(?m)^\| `(\w+)` \| (.*?) \|[^|]*\|$", rows))
     return before + table(purposes, below) + after[len(rows) :]
 
 

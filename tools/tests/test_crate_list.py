@@ -76,22 +76,21 @@ class Architecture(unittest.TestCase):
     def test_the_table_has_each_crate_once(self) -> None:
         table = re.search(r"(?m)^\| Crate \|.*\n(\|.*\n)+", self.text)
         assert table is not None
-        rows = re.findall(r"(?m)^\| `(\w+)` \|([^|]*)\|([^|]*)\| ([^|]*) \|", table[0])
-        self.assertEqual(sorted(name for name, _, _, _ in rows), sorted(self.below))
-        for name, _, _, purpose in rows:
+        rows = re.findall(r"(?m)^\| `(\w+)` \| ([^|]*) \|", table[0])
+        self.assertEqual(sorted(name for name, _ in rows), sorted(self.below))
+        for name, purpose in rows:
             with self.subTest(name):
                 self.assertTrue(purpose, "write what it is for into docs/ARCHITECTURE.md")
 
     def test_rows_are_sorted_and_purposes_stay(self) -> None:
-        head = "| Crate | Side | Layer | Purpose | Depends on |\n|---|---|---|---|---|\n"
-        old = "| `tuned_listener` | x | 0 | hears \\| waits | `gone` |\n"
-        old += "| `gone` | x | 1 | went | |\n| `cell` | | | a cell | |\n"
+        head = "| Crate | Purpose | Depends on |\n|---|---|---|\n"
+        old = "| `tuned_listener` | hears \\| waits | `gone` |\n| `gone` | went | |\n| `cell` | a cell | |\n"
         other = "\n| `find` | of | memory |\n"
         wanted = "".join(f"    {line}\n" for line in PICTURE.splitlines()) + "\n" + head
         made = with_crates("    old\n\n" + head + old + other, BELOW)
-        self.assertTrue(made.startswith(wanted + "| `cell` | base station | 3 | a cell | `codes` |\n"), made)
-        self.assertTrue(made.endswith("| `core_tests` | tests | 2 |  | `core` |\n" + other), made)
-        self.assertIn("| `tuned_listener` | handset | 3 | hears \\| waits | `codes` |\n", made)
+        self.assertTrue(made.startswith(wanted + "| `cell` | a cell | `codes` |\n"), made)
+        self.assertTrue(made.endswith("| `core_tests` |  | `core` |\n" + other), made)
+        self.assertIn("| `tuned_listener` | hears \\| waits | `codes` |\n", made)
         self.assertNotIn("gone", made)
 
     def test_the_line_counts_are_those_of_the_tree(self) -> None:
