@@ -116,8 +116,7 @@ def rules_of(case: Case, status: int, lines: Iterable[str]) -> list[str]:
 
 def table_rows() -> Iterable[str]:
     """Yields the rows of the table of all rules in docs/LINK.md."""
-    yield "| Name in cases | Rule | Source | Sections | Own part |"
-    yield "|---|---|---|---|---|"
+    yield "| Name in cases | Rule | Source | Own part |"
+    yield "|---|---|---|---|"
     for rule in RULES:
-        sections = "" if rule.mark == "own" else rule.mark
-        yield f"| `{rule.name}` | {rule.heading} | {rule.source.value} | {sections} | {rule.own} |"
+        yield f"| `{rule.name}` | {rule.heading} | {rule.source.value} | {rule.own} |"
