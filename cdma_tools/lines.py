@@ -14,6 +14,7 @@ by a program that reads JSON into a table. A field that may be left out is absen
 `read_line` accepts exactly what `spell_line` writes, byte by byte, and refuses any other text.
 """
 
+import itertools
 import re
 from datetime import datetime
 from typing import Any, Callable, Iterator, NamedTuple
@@ -623,10 +624,21 @@ def spell_line(given: dict[str, Any]) -> str:
 
 
 def table_rows() -> Iterator[str]:
-    """Yields the list of all fields in docs/FORMATS.md: each kind of line, and below it a row for each field."""
+    """Yields the list of all fields in docs/FORMATS.md: each kind of line, and below it a row for each field.
+
+    The fields that all kinds of a line share come once, below the line's first word.
+    """
     names = max(len(field.name) for shape in SHAPES for field in shape.fields())
     forms = max(len(field.form.text) for shape in SHAPES for field in shape.fields())
-    for shape in SHAPES:
-        yield f"{shape.line} {shape.word or ''}".rstrip()
-        for field in shape.fields():
-            yield f"  {field.name:{names}}  {field.form.text:{forms}}  {field.meaning}"
+
+    def row(field: Field) -> str:
+        return f"  {field.name:{names}}  {field.form.text:{forms}}  {field.meaning}"
+
+    for line, shapes in itertools.groupby(SHAPES, key=lambda shape: shape.line):
+        kinds = list(shapes)
+        yield line
+        yield from map(row, kinds[0].head)
+        for kind in kinds:
+            if kind.word is not None:
+                yield f"{line} {kind.word}"
+            yield from map(row, list(kind.fields())[len(kind.head) :])
