@@ -2,7 +2,6 @@ pub mod Common
 pub mod Firsts
 pub mod Merges
 pub mod Walks
-pub mod Made
 pub mod Steps
 pub mod Rooms
 pub mod Places
@@ -16,15 +15,3 @@ pub mod Agreements
 pub mod Standing
 pub mod Found
 pub mod Tracings
-pub mod Turns
-pub mod LaneChoices
-pub mod LaneTurns
-pub mod LaneRounds
-pub mod LaneMerges
-pub mod LaneSums
-pub mod LanePuts
-pub mod LanePicks
-pub mod LaneBlocks
-pub mod LaneGains
-pub mod LanePairs
-pub mod ColumnLayouts

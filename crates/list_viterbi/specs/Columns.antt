@@ -68,3 +68,8 @@ entry_at columns f = record {
   };
   score = f.score;
 }
+
+-- the scores of the first codewords into all states, of so many at most for each
+pub record ColumnValue : Type 0 where
+  pub k : ℕ
+  pub scores : List (List ℤ)

@@ -3,5 +3,3 @@ pub mod Laws
 pub mod Merging
 pub mod Picks
 pub mod Columns
-pub mod Turns
-pub mod Heads

@@ -7,7 +7,6 @@ ghost use Rattle.list_viterbi.specs.Picks.{HasPicks, picks_into};
 ghost use Rattle.list_viterbi.specs.Columns.{starts_at, start_scores, first_finds};
 
 use crate::finds::{Finds, first_ends};
-use crate::lanes::{has_four, ranks_of, scores_of, step_four};
 use crate::picking::{Choices, step};
 use crate::scores::Scores;
 use chip_core::OutOfMemory;
@@ -15,36 +14,27 @@ use std::alloc::Global;
 use std::marker::Model;
 use viterbi::Ends;
 
-/// The scores of the first codewords into each state, of at most `k` for each: by their states or,
-/// if there are four of each state, by their places.
+/// The scores of the first codewords into each state, of at most `k` for each.
 ///
 /// Contracts see the largest number of codewords, and the scores of each state.
 #[derive(Drop)]
 pub struct Column {
     k: u8,
-    /// Whether the scores stand by their places.
-    is_by_place: bool,
     states: Vec<Scores>,
     /// The scores after one bit more.
     next_states: Vec<Scores>,
-    ranks: Vec<i64>,
-    next_ranks: Vec<i64>,
 }
 
 impl Model for Column {
-    ghost use Rattle.std.specs.Prelude.{◌≡◌, true, vec_len, if◌then◌else◌, ◌≤◌};
-    ghost use Rattle.list_viterbi.specs.Heads.{column_of, ColumnValue};
+    ghost use Rattle.std.specs.Prelude.{◌≡◌, ◌≤◌, vec_len};
+    ghost use Rattle.list_viterbi.specs.Columns.{ColumnValue};
 
     ghost Value = { ColumnValue };
 
-    ghost view = { λ r. record {
-      k = r.k;
-      scores = if r.is_by_place then column_of r.ranks.items else r.states.items;
-    } };
+    ghost view = { λ r. record { k = r.k; scores = r.states.items } };
 
     ghost invariant = { λ r. (vec_len r.states ≡ 256) × (vec_len r.next_states ≡ 256)
-        × (vec_len r.ranks ≡ 1024) × (vec_len r.next_ranks ≡ 1024) × (r.k ≤ 16)
-        × (r.is_by_place ≡ true → r.k ≡ 4) };
+        × (r.k ≤ 16) };
 }
 
 /// A column of states without codewords.
@@ -94,15 +84,10 @@ impl Column {
     pub fn new(alloc: Global) -> Result<Column, OutOfMemory> {
         let states = empty_column(alloc)?;
         let next_states = empty_column(alloc)?;
-        let ranks = vec![in alloc; 0i64; 1024]?;
-        let next_ranks = vec![in alloc; 0i64; 1024]?;
         Ok(Column {
             k: 0,
-            is_by_place: false,
             states,
             next_states,
-            ranks,
-            next_ranks,
         })
     }
 
@@ -114,20 +99,7 @@ impl Column {
             get_or self.new.scores t [] ≡ start_scores ends t }
     {
         self.k = k;
-        self.is_by_place = false;
         start_column(&mut self.states, ends);
-    }
-
-    /// Lays the scores out by their places where there are four of each state.
-    fn lay_out(&mut self)
-        ensures k { self.new.k ≡ self.old.k }
-        ensures scores { (t : ℕ) → t < 256 →
-            get_or self.new.scores t [] ≡ get_or self.old.scores t [] }
-    {
-        if self.k == 4 && !self.is_by_place && has_four(&self.states) {
-            ranks_of(&self.states, &mut self.ranks);
-            self.is_by_place = true;
-        }
     }
 
     /// The scores and the choices of the first codewords into all states, one bit further, by the
@@ -142,11 +114,6 @@ impl Column {
             HasPicks (get_or self.new.scores t []) (get_or choices.new t 0)
             (picks_into self.old.scores first second self.old.k t) }
     {
-        if self.is_by_place {
-            step_four(&self.ranks, first, second, &mut self.next_ranks, choices);
-            std::mem::swap(&mut self.ranks, &mut self.next_ranks);
-            return;
-        }
         step(
             &self.states,
             first,
@@ -156,17 +123,12 @@ impl Column {
             choices,
         );
         std::mem::swap(&mut self.states, &mut self.next_states);
-        self.lay_out();
     }
 
     /// The first codewords of the states in which a codeword may end.
-    pub fn first_ends(&mut self, ends: Ends) -> Finds
-        ensures { result ≡ first_finds self.old.scores self.old.k (end_count ends) }
+    pub fn first_ends(&self, ends: Ends) -> Finds
+        ensures { result ≡ first_finds self.now.scores self.now.k (end_count ends) }
     {
-        if self.is_by_place {
-            scores_of(&self.ranks, &mut self.states);
-            return first_ends(&self.states, ends, self.k);
-        }
         first_ends(&self.states, ends, self.k)
     }
 }

@@ -14,8 +14,7 @@ use std::marker::Model;
 use viterbi::{Ends, MOST_BITS};
 
 /// Finds the first codewords for a list of soft values, in memory that `new` takes: two columns of
-/// scores by states, two by places, and a column of choices for each of 576 bits, less than 700
-/// KiB.
+/// scores and a column of choices for each of 576 bits, less than 650 KiB.
 ///
 /// Contracts see the largest number of bits of a codeword.
 #[derive(Drop)]

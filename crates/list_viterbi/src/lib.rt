@@ -16,7 +16,6 @@ mod column;
 mod decoder;
 mod finds;
 mod gains;
-mod lanes;
 pub mod laws;
 mod picking;
 mod ranked;
