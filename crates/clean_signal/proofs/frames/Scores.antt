@@ -3,10 +3,10 @@ use Rattle.clean_signal.proofs.Common.{HasSign, HaveSigns, zeros_score, ◌≡�
 use Rattle.clean_signal.proofs.Common.{List, ◌++◌, length, get_or, take, drop, replicate, refl, sym, ap, subst, ◌∙◌, arith, inl, ℤ, ◌<ℤ◌}
 use Rattle.clean_signal.proofs.Common.{pos, flat_map, mul-le-mul_right, div-eq_of_eq-mul_left, by_lt_z, ints, ext_get_or, length-replicate}
 use Rattle.clean_signal.proofs.Common.{length-take-le, drop-replicate, take-replicate, take_all, places, code_symbols, length-code_symbols}
-use Rattle.clean_signal.proofs.Common.{distinct, Shape, place, sent, shape_of, size, repeats_of, Kind, Rate, R9600, R4800, R2400, R1200}
-use Rattle.clean_signal.proofs.Common.{FrameKind, Paging, length-sent, get_or-sent, repeats_some, size_some, place_lt, address-place, Free}
-use Rattle.clean_signal.proofs.Common.{IsAllowed, IsBestCodeword, Codeword, best_codeword, score_of, codewords_same, zero_codeword_best}
-use Rattle.clean_signal.proofs.Common.{by_definition, Channel, channel_for, gathered_span, own_bits, score, sending, sent_symbols, own_is}
+use Rattle.clean_signal.proofs.Common.{distinct, Shape, place, sent, shape_of, size, repeats_of, Kind, Rate, R9600, FrameKind, Paging}
+use Rattle.clean_signal.proofs.Common.{length-sent, get_or-sent, repeats_some, size_some, place_lt, address-place, Free, IsAllowed}
+use Rattle.clean_signal.proofs.Common.{IsBestCodeword, Codeword, best_codeword, score_of, codewords_same, zero_codeword_best, by_definition}
+use Rattle.clean_signal.proofs.Common.{Channel, channel_for, gathered_span, own_bits, score, sending, sent_symbols, own_is}
 use Rattle.clean_signal.proofs.Common.{best_codeword-same, length-gathered_span, within, flat_map-zero, flat_map-next, length-frames, inr}
 use Rattle.clean_signal.proofs.Common.{take-frames, score_is, flat_map_ext_places, IsWholeChannel, length-drop, AllZip-long, cases_lt}
 use Rattle.clean_signal.proofs.Common.{signs_agree_alone, drop_at, drop-append-le, take-append-le, state_after, continued, state_after-none}
@@ -47,16 +47,12 @@ length-before bits_of n zero enough each = refl
 length-before bits_of n (suc k) enough each =
     length-drop (length (bits_of k) - 8) (bits_of k) ∙ omega (arith, enough, each k)
 
-next_before : (bits_of : ℕ → List Bool) (k : ℕ) →
-    drop (length (bits_of k) - 8) (bits_of k) ≡ bits_before bits_of (suc k)
-unfolding bits_before
-next_before bits_of k = refl
-
 -- after the frames of a span the encoder is where the next frame begins
 state_after_span : (bits_of : ℕ → List Bool) (n first frames : ℕ) → 8 ≤ n →
     ((j : ℕ) → length (bits_of j) ≡ n) →
     state_after (bits_before bits_of first) (span_codeword bits_of first frames).bits ≡
     bits_before bits_of (first + frames)
+unfolding bits_before
 state_after_span bits_of n first zero enough each =
     let none : first ≡ first + 0 = omega arith in
     ap (state_after (bits_before bits_of first)) (flat_map-zero (λ j. bits_of (first + j)))
@@ -72,7 +68,6 @@ state_after_span bits_of n first (suc m) enough each =
     ap (state_after start) (flat_map-next (λ j. bits_of (first + j)) m)
     ∙ state_after-append start front here
     ∙ last_eight (state_after start front) here eight (omega (arith, enough, each (first + m)))
-    ∙ next_before bits_of (first + m)
     ∙ ap (bits_before bits_of) next
 
 -- the code symbols of the frames of a span are those of one codeword
@@ -332,9 +327,7 @@ whole_frames (Paging rate) = record {
   where
     paging_fills : (rate : Rate) → 2 * (192 / repeats_of rate) * repeats_of rate ≡ 384
     paging_fills R9600 = refl
-    paging_fills R4800 = refl
-    paging_fills R2400 = refl
-    paging_fills R1200 = refl
+    paging_fills rate = refl
 
     paging_enough : (rate : Rate) → 8 ≤ 192 / repeats_of rate
     paging_enough R9600 = omega arith
@@ -343,11 +336,7 @@ whole_frames (Paging rate) = record {
 kind_of : (c : Channel) (symbols : ℕ) (whole : IsWholeChannel c symbols) →
     c ≡ channel whole.kind c.bits c.repeats
 kind_of c symbols whole =
-    let shaped : Shape → Channel = λ s. record {
-      shape = s;
-      bits = c.bits;
-      repeats = c.repeats;
-    } in
+    let shaped : Shape → Channel = λ s. record { shape = s; bits = c.bits; repeats = c.repeats } in
     ap shaped whole.shape
 
 pub shown_codeword_alone : (c : Channel) (symbols n : ℕ) (best w : Codeword) (softs : List ℤ) →

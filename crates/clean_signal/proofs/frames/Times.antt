@@ -20,10 +20,6 @@ ends_within : (u n count : ℕ) →
     nat_le (u + n) count
 ends_within u n count = grind (arith, ints)
 
-within_of_one : (count u phase row : ℕ) (form : Form) →
-    is_within count (reference_finger phase row ∷ []) form u ≡ nat_le (u + frame_chips form) count
-within_of_one count u phase row form = ends_within u (frame_chips form) count
-
 -- ---- a stream with one finger, on the reference path
 
 pub record IsAlone (s : StreamOf Channel) : Type 0 where
@@ -47,7 +43,7 @@ pub inside_is : (count : ℕ) (s : StreamOf Channel) (k : ℕ) → IsAlone s →
     is_in_file count s k ≡ nat_le (ends_at s k) count
 inside_is count s k alone =
     ap (λ (fs : List Finger). is_within count fs s.form (frame_start s k)) alone.fingers ∙
-    within_of_one count (frame_start s k) alone.phase alone.row s.form
+    ends_within (frame_start s k) (frame_chips s.form) count
 
 pub inside_alone : (count : ℕ) (s : StreamOf Channel) (k : ℕ) → IsAlone s → ends_at s k ≤ count →
     is_in_file count s k ≡ true

@@ -11,20 +11,12 @@ use Rattle.clean_signal.proofs.signal.Rows.{level_at-none}
 -- ---- each of the channels
 
 pilot_aligned : (plan : CellPlan) → IsAligned (pilot_carrier plan)
-pilot_aligned plan = record {
-  row = omega arith;
-  first = refl;
-  frame = refl;
-  symbol = refl;
-}
+pilot_aligned plan =
+    record { row = omega arith; first = refl; frame = refl; symbol = refl }
 
 sync_aligned : (plan : CellPlan) (sync : SyncPlan) → IsAligned (sync_carrier plan sync)
-sync_aligned plan sync = record {
-  row = omega arith;
-  first = omega arith;
-  frame = refl;
-  symbol = refl;
-}
+sync_aligned plan sync =
+    record { row = omega arith; first = omega arith; frame = refl; symbol = refl }
 
 times_one : (z : ℤ) → z ≡ z *ℤ pos 1
 times_one z = omega (arith, ints)
@@ -39,22 +31,14 @@ pilot_level plan chip =
 -- the frames of a paging channel begin with the cell's chips, and its row is its number
 paging_aligned : (plan : CellPlan) (p : PagingPlan) → p.number ≤ 7 →
     IsAligned (paging_carrier plan p)
-paging_aligned plan p last = record {
-  row = omega (arith, last);
-  first = refl;
-  frame = refl;
-  symbol = refl;
-}
+paging_aligned plan p last =
+    record { row = omega (arith, last); first = refl; frame = refl; symbol = refl }
 
 -- the frames of a traffic channel begin where periods of the rows do
 traffic_aligned : (plan : CellPlan) (t : TrafficPlan) → t.row ≤ 63 →
     IsAligned (traffic_carrier plan t)
-traffic_aligned plan t last = record {
-  row = omega (arith, last);
-  first = omega arith;
-  frame = refl;
-  symbol = refl;
-}
+traffic_aligned plan t last =
+    record { row = omega (arith, last); first = omega arith; frame = refl; symbol = refl }
 
 -- ---- lists of channels
 
@@ -208,17 +192,13 @@ plan_apart width plan lawful =
 
 -- ---- which of them are sent
 
-has_sync : (plan : CellPlan) (sync : SyncPlan) →
-    Contains (pilot_carrier plan ∷ others plan (Some sync)) (sync_carrier plan sync)
-has_sync plan sync = (1, omega arith, refl)
-
 pub sync_sent : (plan : CellPlan) (sync : SyncPlan) → plan.sync ≡ Some sync →
     Contains (carriers plan) (sync_carrier plan sync)
 unfolding carriers
 sync_sent plan sync is =
     subst
     (λ (s : Option SyncPlan). Contains (pilot_carrier plan ∷ others plan s)
-    (sync_carrier plan sync)) (sym is) (has_sync plan sync)
+    (sync_carrier plan sync)) (sym is) (1, omega arith, refl)
 
 -- a paging channel of a plan is sent
 pub paging_sent : (plan : CellPlan) (p : PagingPlan) → Contains plan.paging p →
