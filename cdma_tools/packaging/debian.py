@@ -28,7 +28,7 @@ Architecture: {ARCHITECTURE}
 Maintainer: {MAINTAINER}
 Installed-Size: {{kilobytes}}
 Depends: libc6, python3 (>= 3.11), python3-numpy, python3-scipy
-Recommends: python3-matplotlib, python3-plotly, python3-markupsafe, python3-tqdm, python3-distributed, python3-tornado
+Recommends: python3-matplotlib, python3-plotly, python3-jinja2, python3-tqdm, python3-distributed, python3-tornado
 Section: hamradio
 Priority: optional
 Description: proved reference of the IS-95 CDMA forward link, and tools

@@ -4,7 +4,6 @@ import math
 import os
 from typing import NamedTuple
 
-from markupsafe import Markup
 from plotly import graph_objects
 
 from cdma_tools.analysis.cell_table import CellFacts, HeardAlone, facts_of
@@ -14,17 +13,7 @@ from cdma_tools.heard_run import FOLLOWED
 from cdma_tools.progress import bar
 from cdma_tools.radio.locking import Held, Locked, Options, write_held
 from cdma_tools.recordings import Recording
-from cdma_tools.report.document import (
-    Addition,
-    Table,
-    element,
-    fields_section,
-    joined,
-    last_of,
-    section,
-    seconds_at,
-    table_of,
-)
+from cdma_tools.report.document import Addition, Section, Table, fields_section, last_of, seconds_at
 from cdma_tools.report.figures import BLUE, GREY, HIDDEN_TEXT, INK, Plot, styled
 from cdma_tools.report.gathering import Ran, run_program
 from cdma_tools.sample_file import HEADER
@@ -98,8 +87,8 @@ def number_text(value: float | int | None, form: str = "") -> str:
     return "not heard" if value is None else format(value, form)
 
 
-def table_of_facts(cells: list[HeardCell]) -> Markup:
-    """The table of cells."""
+def facts_section(cells: list[HeardCell]) -> Section:
+    """Returns the table of cells."""
     heads = (
         "Cell", "#PN", "#Ec/Io, dB", "#Delay, chips", "#µs", "#m", "#Carrier, Hz", "#Sync", "#Paging", "#SID", "#NID",
         "#BASE_ID",
@@ -120,10 +109,10 @@ def table_of_facts(cells: list[HeardCell]) -> Markup:
         f"Ec/Io is of all that was received, the other cells with it, over {seconds:.3f} s; delays and carriers are"
         " against the first cell's, delays on top of the offsets."
     )
-    return joined([element("p", note, class_="note"), table_of(Table(heads, rows))])
+    return Section("Cells", "cells", note, table=Table(heads, rows))
 
 
-def cell_table(cell: HeardCell) -> Markup:
+def cell_table(cell: HeardCell) -> Table:
     """Returns what is known of a cell's signal."""
     locked = cell.locked
     paths = ", ".join(f"{way.delay:.2f} chips {way.level:.1f} dB" for way in locked.paths)
@@ -139,12 +128,12 @@ def cell_table(cell: HeardCell) -> Markup:
             f"{len(cell.follow.reads('sync'))} of the sync channel, {len(cell.follow.reads('paging'))} of paging",
         ),
     ]
-    return table_of(Table((), rows))
+    return Table((), rows)
 
 
-def cell_section(cell: HeardCell) -> Markup:
+def cell_section(cell: HeardCell) -> Section:
     """A cell's section, with its sync message and its System Parameters."""
-    parts = [cell_table(cell)]
+    parts = []
     for heading, line, word in (("Sync message", "sync", None), ("System Parameters", "paging", "system")):
         if found := last_of(cell.follow, line, word):
             shape, last, all_of = found
@@ -152,16 +141,16 @@ def cell_section(cell: HeardCell) -> Markup:
             parts.append(
                 fields_section(f"{heading} of cell {cell.rank}", f"cell-{cell.rank}-{word or line}", shape, last, note)
             )
-    return section(f"Cell {cell.rank}", *parts, name=f"cell-{cell.rank}")
+    return Section(f"Cell {cell.rank}", f"cell-{cell.rank}", table=cell_table(cell), parts=tuple(parts))
 
 
-def neighbor_table(cells: list[HeardCell]) -> Markup:
-    """Who names whom."""
+def names_section(cells: list[HeardCell]) -> Section:
+    """Returns the table of which cells name each other as neighbors."""
     rows: list[tuple[str, ...]] = []
     for cell in cells:
         named_by = ", ".join(other.name for other in cells if cell.pn is not None and cell.pn in other.neighbors)
         rows.append((cell.name, ", ".join(map(str, cell.neighbors)) or "no list was decoded", named_by or "none"))
-    return table_of(Table(("Cell", "Names", "Is named by"), rows))
+    return Section("Who names whom", "named", table=Table(("Cell", "Names", "Is named by"), rows))
 
 
 Places = dict[int, tuple[float, float]]
@@ -211,14 +200,13 @@ def map_plot(cells: list[HeardCell]) -> Plot | None:
 
 def addition_of(cells: list[HeardCell]) -> Addition:
     """Returns what the page gets: a section for each cell, the neighbors that each names, and the map."""
-    table = section("Cells", table_of_facts(cells), name="cells")
-    heading = section("Who names whom", neighbor_table(cells), name="named")
     links = [("cells", "Cells"), ("named", "Neighbors of all")]
     links += [(f"cell-{cell.rank}", f"Cell {cell.rank}") for cell in cells]
     plot, facts = map_plot(cells), [cell.facts for cell in cells]
-    return Addition(links, joined([table, heading, *map(cell_section, cells)]), [plot] if plot else [], facts)
+    parts = [facts_section(cells), names_section(cells), *map(cell_section, cells)]
+    return Addition(links, parts, [plot] if plot else [], facts)
 
 
 def addition_why(why: Refused) -> Addition:
     """Returns what the page gets if no cell can be subtracted: the reason."""
-    return Addition([("named", "Neighbors of all")], section("Cells", element("p", str(why)), name="named"), [])
+    return Addition([("named", "Neighbors of all")], [Section("Cells", "named", fault=str(why))])

@@ -409,6 +409,8 @@ class Parts(Installed):
         self.assertEqual(told.stdout, f"12345 {os.path.join(where, 'cdma', '__init__.py')}\n", told.stderr)
         self.assertTrue(os.path.exists(os.path.join(where, "cdma", "py.typed")))
         self.assertEqual({name for name in os.listdir(where) if "." not in name}, {"cdma", "cdma_model", "cdma_tools"})
+        for place in (place for name in ("cdma", "cdma_model", "cdma_tools") for place in tree.files_below(name)):
+            self.assertTrue(os.path.exists(os.path.join(where, place)), place)
         script = os.path.join(prefix, next(path for path in scripts if path.endswith("/cdma-conformance")))
         told = subprocess.run([script, "--list"], capture_output=True, text=True, env=run, cwd=self.work, timeout=60)
         self.assertGreater(told.stdout.count("\n"), 300, told.stderr)

@@ -16,7 +16,7 @@ from dataclasses import dataclass, field
 from tools.tests import prose
 from tools.tests.helping import NO_PROGRAM, PROGRAM, PYTHON, ROOT, needs, temporary_folder
 
-needs("numpy", "scipy", "matplotlib", "plotly", "tqdm", "distributed", "markupsafe")
+needs("numpy", "scipy", "matplotlib", "plotly", "tqdm", "distributed", "jinja2")
 
 PAGES = ("README.md", "docs/GUIDE.md", "docs/RADIO.md", "docs/CURVES.md", "docs/FORMATS.md")
 LINKED = ("cdma_model", "cdma_tools", "conformance", "docs", "examples", "model", "share", "tools")

@@ -26,16 +26,18 @@ from tools.tests.helping import (
     temporary_folder,
 )
 
-needs("numpy", "plotly")
+needs("numpy", "plotly", "jinja2")
 
 import numpy  # noqa: E402
+from jinja2 import UndefinedError  # noqa: E402
+from markupsafe import Markup  # noqa: E402
 from numpy.typing import NDArray  # noqa: E402
 
 from cdma_tools.commands import import_capture, status_of  # noqa: E402
 from cdma_tools.correlation import codes, energy_at  # noqa: E402
 from cdma_tools.errors import Refused  # noqa: E402
 from cdma_tools.lines import SHAPES, read_line, spell_line  # noqa: E402
-from cdma_tools.report import gathering, meaning, measures  # noqa: E402
+from cdma_tools.report import gathering, meaning, measures, rendering  # noqa: E402
 from tools.tests.report_fixture import FOLLOWED, PHASE, PILOT, SPAN, SYNC, Fake, file_of, sent_symbols, signal  # noqa: E402
 
 REPORT = loaded("report")
@@ -330,6 +332,14 @@ class Hostile(Folder):
     def test_escapes(self) -> None:
         self.assertEqual(gathering.escaped(b"a\\b\x00<\xff"), "a\\x5cb\\x00<\\xff")
 
+    def test_a_template_escapes_all_that_it_shows(self) -> None:
+        filled = rendering.templates().from_string("<p title='{{ text }}'>{{ text }}{{ number }}{{ markup }}</p>")
+        page = filled.render(text="<b>'\"&\n", number=3, markup=Markup("<br>"))
+        shown = "&lt;b&gt;&#x27;&quot;&amp;\\n"
+        self.assertEqual(page, f"<p title='{shown}'>{shown}3<br></p>")
+        with self.assertRaises(UndefinedError):
+            filled.render(text="")
+
 
 class BadInput(Folder):
     def test_no_pilot_and_no_sync_message(self) -> None:
@@ -478,6 +488,14 @@ class Recordings(Folder):
         self.assertIn(MARKUP, hostile.texts["td"])
         for told in (b"[]", b"{", b'{"global": 3, "captures": 4}', b'{"captures": {"a": 1}}', b"\xff", b"[" * 100_000):
             self.page(status=10, file=self.keep("strange.sigmf-meta", told))
+
+    def test_the_markup_stays_as_it_is(self) -> None:
+        """Apart from its scripts and its style, the page is a kept one that no template made, byte by byte."""
+        page = self.page(file=self.meta(**{MARKUP: MARKUP + "".join(map(chr, range(256)))}))
+        page = re.sub(r"(<(style|script)\b[^>]*>).*?(</\2>)", r"\1\3", page, flags=re.DOTALL)
+        page = re.sub(r"sha256-[\w+/=]+", "sha256-", page)
+        with open(os.path.join(ROOT, "tools", "tests", "report_page.html"), encoding="utf-8") as kept:
+            self.assertEqual(page, kept.read())
 
     def test_wrong_arguments_of_the_import(self) -> None:
         """The import's own command line judges them, and there is no page."""

@@ -28,7 +28,7 @@ from tools.tests.prose import (
     sentences_in,
 )
 
-needs("numpy", "scipy", "matplotlib", "plotly", "tqdm", "distributed", "markupsafe")
+needs("numpy", "scipy", "matplotlib", "plotly", "tqdm", "distributed", "jinja2")
 
 # Folders whose docstrings and errors are checked, and this file, which has the old sentences.
 FOLDERS = ("cdma", "cdma_tools", "conformance", "examples", "cdma_model", "model", "tools/tests")
