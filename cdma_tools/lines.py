@@ -20,6 +20,8 @@ from datetime import datetime
 from typing import Any, Callable, Iterator, NamedTuple
 
 TIME_NAME = "time_utc"  # under which the objects of a listening have the time of their `at`, besides the line's fields
+# The names that they have besides if several channels are followed at once.
+PLACE_NAMES = ("cell", "carrier", "channel")
 MOST_COUNT = 2**64 - 1  # what the program counts in is 64 bits wide
 MOST_EXACT = 2**53  # below it a floating-point number represents each whole number
 MOST_BITS = 8 * 148  # a capsule has at most 148 octets (7.7.1, 7.7.2, 7.7.3)
@@ -609,11 +611,12 @@ def spell_part(part: Field | Group, given: dict[str, Any]) -> str:
 def spell_line(given: dict[str, Any]) -> str:
     """Returns the line of an object, without a line feed; raises `NoLine` if it is the object of none.
 
-    Its keys may be in any order. One whose value is None counts as absent, as tables write it; so does the time that a
-    listening adds.
+    Its keys may be in any order. One whose value is None counts as absent, as tables write it; so do the time and the
+    place that a listening adds.
     """
     given = {name: value for name, value in given.items() if value is not None and name != TIME_NAME}
     shape = shape_of(given)
+    given = {name: value for name, value in given.items() if name not in PLACE_NAMES or name == shape.key and shape.word}
     known = {"line"} | {field.name for field in shape.fields()} | ({shape.key} if shape.word else set())
     if unknown := [name for name in given if name not in known]:
         raise NoLine(f"a line of {shape.line} has no field {unknown[0][:30]!r}")

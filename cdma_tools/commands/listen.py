@@ -38,6 +38,15 @@ was sent: a sync message on its frames, any other message on the frame in which 
 begins after them, whose core:global_index counts them too. It keeps what FILE has already, or what the recording's own
 .sigmf-meta has.
 
+Several channels of the cell can be followed at once, over the same chips: paging channels with --paging 1,2, or all
+that have a message with --paging all, and traffic channels with --traffic. Paging channel 1 always counts; each other
+one is tried, and counts if a message passes its check within a minute. With --out-dir each channel has a file, as
+cell1-paging2.txt, with the lines of a listening to it on its own, those of sync messages too; a traffic channel has
+those of a paging channel as well. Without it all lines go to standard output. Objects of --json have `cell`, `carrier`
+and `channel`.
+
+    tools/listen day.sigmf-meta --paging all --traffic 00c0ffee:12:2 --traffic 00c0fff0:13:0 --json --out-dir day
+
 A file of samples is processed in parts of --part seconds, by --workers processes of this machine, or by the workers of
 a --scheduler of dask.distributed, which need the same file and program at the same paths. The output is the same, byte
 for byte, for any number of workers.
@@ -54,20 +63,33 @@ Exit status: 0 a pilot was found, 1 none was, or the samples can't be read or th
 import argparse
 import contextlib
 import os
-import re
-from collections.abc import Iterator
+from collections.abc import Iterator, Sequence
+from dataclasses import replace
 from fractions import Fraction
 
 from cdma_tools import sigmf
 from cdma_tools.arguments import Parser, Within, number_within, rational, whole_within, wrong
 from cdma_tools.errors import Refused, WrongArguments
+from cdma_tools.listening.channel_options import (
+    SERIAL,
+    SYNC_ROW,
+    LinesFolder,
+    Traffic,
+    add_channel_options,
+    channels_fault,
+    is_several,
+    paging_of,
+    traffic_channels,
+)
+from cdma_tools.listening.channels import ChannelOutputs, Trial, Wanted, sent_channels, wanted_channels
 from cdma_tools.listening.follow_run import Handset
 from cdma_tools.listening.line_writer import LineWriter, Write
-from cdma_tools.listening.live import hear_stream
+from cdma_tools.listening.live import LiveListening, hear_stream, heard_all
 from cdma_tools.listening.output import Output, open_output
 from cdma_tools.listening.notes import Notes
 from cdma_tools.listening.parts import PART, Recording
-from cdma_tools.listening.sharing import hear_recording
+from cdma_tools.listening.relays import Followed
+from cdma_tools.listening.sharing import Channel, hear_recording
 from cdma_tools.listening.stream_lock import LockOptions
 from cdma_tools.overwriting import META, STANDARD, InputFile, OutputFile, UpdatedFile
 from cdma_tools.program import add_program_option, find_program
@@ -83,8 +105,7 @@ from cdma_tools.wireshark.stream import PacketStream
 MOST_RATE, MOST_SHIFT, MOST_WORKERS = 100_000_000, 50_000_000, 64
 LEAST_PART, MOST_PART = 10, 1_000_000
 JSON_LINES = ".jsonl"
-SERIAL = re.compile(r"[0-9a-f]{8}")
-SYNC_ROW, MOST_EVENTS = 32, 4_294_967_295
+MOST_EVENTS = 4_294_967_295
 
 
 def serial_of(text: str) -> str:
@@ -101,10 +122,11 @@ def add_handset(words: argparse.ArgumentParser) -> None:
     for name, least, most, default, what in (
         ("row", 1, 63, None, "Walsh row of its traffic channel, not 32"),
         ("offset", 0, 15, None, "FRAME_OFFSET of that channel (default 0)"),
-        ("paging", 1, 7, 1, "paging channel to decode (default 1)"),
         ("fingers", 1, 3, 1, "number of paths to follow (default 1)"),
     ):
         handset.add_argument(f"--{name}", type=whole_within(least, most), default=default, metavar="N", help=what)
+    paging = "paging channel to decode, 1 to 7; several as 1,2; or all that have messages (default 1)"
+    handset.add_argument("--paging", type=paging_of, metavar="N", help=paging)
     for name, what in (
         ("pilots", "events of the pilot and its sets, over the whole recording (default all)"),
         ("messages", "messages (default all)"),
@@ -141,6 +163,8 @@ def parser() -> Parser:
     words.add_argument("--json", action="store_true", help="write objects, with their time in UTC")
     out = "add the lines to a file, and continue after those already there"
     words.add_argument("--out", type=OutputFile, metavar="FILE", help=out)
+    folder = "add the lines of each channel to a file of this folder, as --out does: .txt, or .jsonl with --json"
+    words.add_argument("--out-dir", type=LinesFolder, metavar="FOLDER", help=folder)
     append = "with a stream: add to a file that has lines of another one, after a line with the new origin"
     words.add_argument("--append", action="store_true", help=append)
     packets = (
@@ -151,6 +175,7 @@ def parser() -> Parser:
     words.add_argument("--meta", type=UpdatedFile, metavar="FILE", help=notes)
     add_radio_options(words)
     add_handset(words)
+    add_channel_options(words)
     add_lock(words)
     shared = words.add_argument_group("files of samples")
     lasts = f"seconds of a part (default {PART:.0f})"
@@ -174,16 +199,41 @@ def check_handset(words: argparse.ArgumentParser, options: argparse.Namespace) -
         words.error("--esn and --row need each other")
     if options.offset is not None and options.row is None:
         words.error("--offset needs --esn and --row")
-    if options.row in (SYNC_ROW, options.paging):
+    if fault := channels_fault(options):
+        words.error(fault)
+    if options.row in (SYNC_ROW, paging_number(options)):
         words.error(f"--row {options.row} is the row of the sync channel or of the paging channel")
+
+
+def has_channels(options: argparse.Namespace) -> bool:
+    """Whether channels are listened to by their names: several of them, or one into a folder."""
+    return is_several(options) or options.out_dir is not None
+
+
+def paging_number(options: argparse.Namespace) -> int:
+    """Returns the paging channel of the handset, or of the first one."""
+    return options.paging[0] if options.paging else 1
+
+
+def check_channels(words: argparse.ArgumentParser, options: argparse.Namespace) -> None:
+    """Ends with status 2 if arguments of an output don't go with several channels."""
+    if not has_channels(options):
+        return
+    if given := [name for name in ("out", "pcapng", "meta") if getattr(options, name) is not None]:
+        words.error(f"--{given[0]} goes with one channel; several have --out-dir")
+    if options.raw and options.json:
+        words.error("--raw has a channel of its own in an object: give it without --json")
+    if options.out_dir is not None and os.path.exists(options.out_dir) and not os.path.isdir(options.out_dir):
+        words.error(f"{options.out_dir} is not a folder")
 
 
 def check(words: argparse.ArgumentParser, options: argparse.Namespace) -> None:
     """Ends with status 2 if arguments don't go together."""
     check_source(words, options)
     check_handset(words, options)
-    if options.append and options.out is None:
-        words.error("--append needs --out")
+    check_channels(words, options)
+    if options.append and options.out is None and options.out_dir is None:
+        words.error("--append needs --out or --out-dir")
     if options.meta is not None and not options.meta.endswith(META):
         words.error(f"--meta names a {META}")
     if options.meta is not None and options.capture is not None:
@@ -214,7 +264,7 @@ def handset_of(options: argparse.Namespace) -> Handset:
     return Handset(
         program=find_program(options.program),
         fingers=options.fingers,
-        paging=options.paging,
+        paging=paging_number(options),
         esn=options.esn,
         row=options.row,
         offset=options.offset or 0,
@@ -247,16 +297,14 @@ def source_of(options: argparse.Namespace) -> Stream | Recording:
     return Recording(absolute(path), sample_count(path, kind), lock_options(options, kind, rate))
 
 
-def check_output(options: argparse.Namespace, is_recording: bool, output: Output) -> None:
+def check_output(options: argparse.Namespace, is_recording: bool, output: Output, path: str | None) -> None:
     """Refuses an output with lines that can't be gone on with."""
     if is_recording and options.append:
         raise WrongArguments("--append goes with a stream; listening to a file of samples continues without it")
     if is_recording and output.already.has_origin:
-        raise Refused(f"{options.out}: it has lines of streams, so those of a file of samples can't be added")
+        raise Refused(f"{path}: it has lines of streams, so those of a file of samples can't be added")
     if not is_recording and output.already.lines and not options.append:
-        raise Refused(
-            f"{options.out}: it has lines: give --append to add those of another stream, or name another file"
-        )
+        raise Refused(f"{path}: it has lines: give --append to add those of another stream, or name another file")
 
 
 @contextlib.contextmanager
@@ -266,7 +314,7 @@ def opened_packets(options: argparse.Namespace) -> Iterator[PacketStream | None]
         yield None
         return
     with contextlib.closing(Capture(options.pcapng)) as capture:
-        yield PacketStream(capture.write, options.paging, options.row or 0)
+        yield PacketStream(capture.write, paging_number(options), options.row or 0)
 
 
 @contextlib.contextmanager
@@ -295,24 +343,77 @@ def lines_to(options: argparse.Namespace, output: Output) -> Write:
 
 
 def listen(options: argparse.Namespace) -> int:
-    """Listens, and returns the exit status."""
+    """Listens, and returns the exit status; refuses a source without a pilot."""
+    is_heard = hear_channels(options) if has_channels(options) else hear_one(options)
+    if not is_heard:
+        policy = policy_of(options)
+        raise Refused(f"no pilot stands out anywhere {policy.searched(options.shift)}{policy.advice}")
+    return 0
+
+
+def channels_wanted(options: argparse.Namespace) -> list[Wanted]:
+    """Returns the channels that the options name."""
+    base = handset_of(options)
+    if options.esn is not None:
+        return [Wanted(replace(base, name=Traffic(options.esn, options.row, options.offset or 0).name))]
+    return wanted_channels(base, options.paging, traffic_channels(options))
+
+
+def hear_channels(options: argparse.Namespace) -> bool:
+    """Listens to the channels that the options name, and returns whether a pilot was found."""
+    wanted, source = channels_wanted(options), source_of(options)
+    with ChannelOutputs(options.out_dir, options.json) as outputs:
+        if isinstance(source, Recording):
+            handsets = sent_channels(source, wanted)
+            channels = [Channel(one, channel_writer(options, outputs, Wanted(one), True)) for one in handsets]
+            return hear_recording(source, channels, options.part, options.workers, options.scheduler)
+        return hear_live_channels(options, source, wanted, outputs)
+
+
+def hear_live_channels(
+    options: argparse.Namespace, stream: Stream, wanted: Sequence[Wanted], outputs: ChannelOutputs
+) -> bool:
+    """Listens to channels of a stream, and returns whether a pilot was found."""
+    writers = [channel_writer(options, outputs, one, False) for one in wanted]
+    others = [
+        Trial(writer).followed(one.handset) if one.is_tried else Followed(one.handset, writer)
+        for one, writer in zip(wanted[1:], writers[1:])
+    ]
+    lock = lock_options(options, stream.kind, stream.rate, is_live=True)
+    live = LiveListening(lock, wanted[0].handset, writers[0], writers[0].is_appended, others, writers[1:])
+    return heard_all(live, stream, outputs)
+
+
+def channel_writer(
+    options: argparse.Namespace, outputs: ChannelOutputs, wanted: Wanted, is_recording: bool
+) -> LineWriter:
+    """Returns what writes the lines of a channel; refuses a file with lines that can't be gone on with."""
+    name = wanted.handset.name
+    output = outputs.of(f"cell1-{name}", wanted.is_tried)
+    check_output(options, is_recording, output, outputs.path(f"cell1-{name}"))
+    writer = LineWriter(output.write, options.json, counts_of(options), output.already if is_recording else None)
+    writer.is_appended = output.already.lines > 0
+    writer.place = {"cell": 1, "carrier": options.shift, "channel": name}
+    return writer
+
+
+def hear_one(options: argparse.Namespace) -> bool:
+    """Listens by one handset, and returns whether a pilot was found."""
     source, handset, counts = source_of(options), handset_of(options), counts_of(options)
     is_json = options.json or (options.out or "").endswith(JSON_LINES)
     with contextlib.closing(open_output(options.out, is_json)) as output:
-        check_output(options, isinstance(source, Recording), output)
+        check_output(options, isinstance(source, Recording), output, options.out)
         with opened_packets(options) as packets, noted(options, source) as notes:
             already = output.already if isinstance(source, Recording) else None
             writer = LineWriter(lines_to(options, output), is_json, counts, already)
             writer.packets, writer.notes = packets, notes
             if isinstance(source, Recording):
-                is_heard = hear_recording(source, handset, writer, options.part, options.workers, options.scheduler)
+                channels = [Channel(handset, writer)]
+                is_heard = hear_recording(source, channels, options.part, options.workers, options.scheduler)
             else:
                 lock = lock_options(options, source.kind, source.rate, is_live=True)
                 is_heard = hear_stream(source, lock, handset, writer, output, output.already.lines > 0)
-    if not is_heard:
-        policy = policy_of(options)
-        raise Refused(f"no pilot stands out anywhere {policy.searched(options.shift)}{policy.advice}")
-    return 0
+    return is_heard
 
 
 def main(arguments: list[str] | None = None) -> int:

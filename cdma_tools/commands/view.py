@@ -62,6 +62,7 @@ def parser() -> Parser:
     pages.add_argument("--speed", type=number_within(*SPEEDS), default=1.0, metavar="N", help=paced)
     add_radio_options(words)
     listen.add_handset(words)
+    words.set_defaults(traffic=None, traffic_file=None)
     listen.add_lock(words)
     return words
 
@@ -71,6 +72,8 @@ def check(words: argparse.ArgumentParser, options: argparse.Namespace) -> None:
     if shows_lines(options):
         return
     listen.check_source(words, options)
+    if options.paging is not None and len(options.paging) != 1:
+        words.error("--paging names one channel here")
     listen.check_handset(words, options)
     find_program(options.program)
     listen.check_there(options)
@@ -95,6 +98,6 @@ def main(arguments: list[str] | None = None) -> int:
     print(door.url, flush=True)
     if not options.no_browser:
         open_browser(door.url)
-    handset = Handset(options.paging, options.esn, options.offset or 0, listen.flags_of(options))
+    handset = Handset(listen.paging_number(options), options.esn, options.offset or 0, listen.flags_of(options))
     hub = Hub(os.path.basename(options.source), store, handset, options.row)
     return serve(hub, listener, sockets, door, options.exit)

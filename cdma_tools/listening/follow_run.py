@@ -1,8 +1,11 @@
 """One run of the program's `follow`, fed with chips as they come."""
 
 import contextlib
+import fcntl
+import os
 import queue
 import re
+import select
 import signal
 import subprocess
 import tempfile
@@ -24,6 +27,10 @@ MOST = MOST_CHIPS[VERSION]
 # samples arrived than the header says, which holds for every stream.
 READ_ALL = (0, 1, 3)
 LARGEST_COUNT = 4_294_967_295
+# Bytes of a run's pipe: 0.2 s of chips, so that the lock works on the next ones while the runs take these.
+PIPE_BYTES = 1 << 20
+# Seconds after which a run is killed that takes no chips, or doesn't end: the other runs of the lock wait for it.
+MOST_STUCK = 60.0
 # Signals that a run ignores: the process that feeds it decides when it ends, also if the whole group gets them.
 UNHEARD = {*INTERRUPTS, signal.SIGHUP}
 # The line with the code phase at a run's first chip, by the pilot that it found.
@@ -42,18 +49,22 @@ class Handset:
     offset: int = 0
     is_raw: bool = False  # whether messages are also reported as received
     flags: int = 0
+    rate_set: int = 1  # of the traffic channel
+    name: str = ""  # in remarks, if others are followed too
 
     def on_row(self, row: int | None) -> "Handset":
         """The same handset with its traffic channel on another row."""
         return replace(self, row=row)
 
     def command(self) -> list[str]:
-        """The command that follows it."""
-        arguments = [self.program, "follow", "--workers", "1"]
-        arguments += ["--fingers", str(self.fingers), "--paging", str(self.paging)]
+        """The command that follows it, or decodes only its frames of rate set 2."""
+        shared, traffic = ["--workers", "1", "--fingers", str(self.fingers)], list[str]()
         if self.esn is not None and self.row is not None:
-            arguments += ["--esn", self.esn, "--row", str(self.row), "--offset", str(self.offset)]
-        return arguments + (["--raw", str(LARGEST_COUNT)] if self.is_raw else [])
+            traffic = ["--esn", self.esn, "--row", str(self.row), "--offset", str(self.offset)]
+        if self.rate_set == 2:
+            return [self.program, "rate2", *shared, *traffic]
+        raw = ["--raw", str(LARGEST_COUNT)] if self.is_raw else []
+        return [self.program, "follow", *shared, "--paging", str(self.paging), *traffic, *raw]
 
 
 @dataclass(frozen=True)
@@ -107,6 +118,7 @@ class FollowRun:
         self.lines: queue.SimpleQueue[bytes | None] = queue.SimpleQueue()
         self.reader = threading.Thread(target=self.read, daemon=True)
         self.reader.start()
+        self.pipe = self.opened_pipe()
         try:
             self.write(header(VERSION, handset.flags, MOST))
         except Refused:
@@ -121,12 +133,25 @@ class FollowRun:
                 self.lines.put(line)
         self.lines.put(None)
 
-    def write(self, data: bytes) -> None:
-        """Gives bytes to the process; raises RunEnded if it has ended."""
+    def opened_pipe(self) -> int:
+        """Returns the descriptor of the process's input, which takes as much as it has room for and never blocks."""
         assert self.process.stdin is not None
+        pipe = self.process.stdin.fileno()
+        with contextlib.suppress(OSError):  # a user may have no more room for pipes: then this one stays small
+            fcntl.fcntl(pipe, fcntl.F_SETPIPE_SZ, PIPE_BYTES)
+        os.set_blocking(pipe, False)
+        return pipe
+
+    def write(self, data: bytes) -> None:
+        """Gives bytes to the process; raises RunEnded if it has ended, and kills it if it takes none for long."""
+        rest, room = memoryview(data), select.poll()
+        room.register(self.pipe, select.POLLOUT)
         try:
-            self.process.stdin.write(data)
-            self.process.stdin.flush()
+            while rest:
+                with contextlib.suppress(BlockingIOError):
+                    rest = rest[os.write(self.pipe, rest) :]
+                if rest and not room.poll(1_000 * MOST_STUCK):
+                    self.process.kill()
         except BrokenPipeError:
             raise self.ended() from None
 
@@ -187,13 +212,20 @@ class FollowRun:
     def close(self) -> None:
         """Gives it no more chips, and takes all lines that are left; raises RunEnded if it failed."""
         assert self.process.stdin is not None
-        with contextlib.suppress(BrokenPipeError):
-            self.process.stdin.close()
-        while self.take(self.lines.get()):
-            pass
+        self.process.stdin.close()
+        self.take_last()
         if self.process.wait() not in READ_ALL:
             raise self.ended()
         self.release()
+
+    def take_last(self) -> None:
+        """Takes the lines up to the end, which a process must reach that gets no more chips; kills one that doesn't."""
+        try:
+            while self.take(self.lines.get(timeout=MOST_STUCK)):
+                pass
+        except queue.Empty:
+            self.process.kill()
+            self.take_rest()
 
     def take_rest(self) -> None:
         """Takes all lines that a process that has ended has left."""

@@ -19,7 +19,7 @@ from cdma_tools.wireshark.stream import PacketStream
 TAPS = {
     "pilots": ("pilot", "sets"),
     "messages": ("sync", "paging", "traffic"),
-    "frames": ("frame",),
+    "frames": ("frame", "frame2"),
     "raw": ("raw",),
 }
 TAP_OF = {kind: tap for tap, kinds in TAPS.items() for kind in kinds}
@@ -77,6 +77,8 @@ class LineWriter:
         self.counts = Counter(self.already.counts)
         self.origin = 0
         self.began = ""  # the time from which lines count, if a line must give it
+        self.is_appended = False  # whether lines of another stream come before
+        self.place: dict[str, Any] = {}  # cell, carrier and channel, which each object has if several are followed
         self.written = 0  # lines
         self.time: SystemTime | None = None
         self.packets: PacketStream | None = None  # which gets each line's packet too
@@ -116,7 +118,7 @@ class LineWriter:
         read = object_of(text)
         if self.time is not None and event is not None and "at" in read:
             read[TIME_NAME] = self.time.utc(event.chip)
-        return json.dumps(read, separators=(",", ":"))
+        return json.dumps(read | self.place, separators=(",", ":"))
 
     def remark(self, remark: Remark) -> None:
         """Says a remark on standard error, and notes a loss."""

@@ -6,7 +6,7 @@ from dataclasses import dataclass
 from cdma_tools.listening.events import Listener, Remark
 from cdma_tools.listening.follow_run import Handset
 from cdma_tools.listening.pieces import Break, Chips, Lost, Piece, Unheard
-from cdma_tools.listening.relay import Relay
+from cdma_tools.listening.relays import Followed, Relays
 from cdma_tools.listening.seams import OVERLAP
 from cdma_tools.listening.stream_lock import LockOptions, StreamLock
 from cdma_tools.radio.air import CHIP_RATE, PERIOD
@@ -67,12 +67,15 @@ class Listening:
         overlap: int = OVERLAP,
         seams: Sequence[int] = (),
         keeps_anchors: bool = False,
+        others: Sequence[Followed] = (),
     ) -> None:
         """Nothing has come yet. Runs begin `since` seconds after the stream's start, and seams are wanted at chips
-        counted from there. With `keeps_anchors` an anchor is kept for each second, as a part of a recording needs."""
-        self.lock, self.handset, self.listener = StreamLock(options), handset, listener
+        counted from there. With `keeps_anchors` an anchor is kept for each second, as a part of a recording needs.
+        `others` follow further channels over the same chips; `listener` also takes the remarks on these."""
+        self.lock, self.listener = StreamLock(options), listener
+        self.followed = (Followed(handset, listener), *others)
         self.since, self.overlap, self.seams = since, overlap, seams
-        self.relay: Relay | None = None
+        self.relays: Relays | None = None
         self.keeps_anchors, self.anchors = keeps_anchors, list[Anchor]()
         self.silence = Silence(options.is_live)
         self.is_heard = False  # whether a pilot was
@@ -86,8 +89,8 @@ class Listening:
         """Takes some bytes of the stream, and passes on the events in them."""
         for piece in self.lock.feed(data):
             self.take(piece)
-        if self.relay is not None:
-            self.relay.poll()
+        if self.relays is not None:
+            self.relays.poll()
 
     def skip(self, samples: int) -> None:
         """Notes that `samples` samples of the stream won't come."""
@@ -98,8 +101,8 @@ class Listening:
         """Passes on what is left at the end of the stream."""
         for piece in self.lock.finish():
             self.take(piece)
-        if self.relay is not None:
-            self.relay.finish()
+        if self.relays is not None:
+            self.relays.finish()
         if self.lock.cut:
             self.say(self.lock.seconds, f"{self.lock.cut} I and Q values were clipped, by bursts")
         if self.lock.ring.damaged:
@@ -107,8 +110,8 @@ class Listening:
 
     def kill(self) -> None:
         """Ends all that is running."""
-        if self.relay is not None:
-            self.relay.kill()
+        if self.relays is not None:
+            self.relays.kill()
 
     def say(self, seconds: float, text: str) -> None:
         """Makes a remark."""
@@ -128,8 +131,8 @@ class Listening:
             self.take_loss(piece)
         elif isinstance(piece, Break):
             self.say(piece.seconds, "the pilot was lost, and is received again from here on: a new run begins")
-            if self.relay is not None:
-                self.relay.break_off()
+            if self.relays is not None:
+                self.relays.break_off()
 
     def take_loss(self, lost: Lost) -> None:
         """Gives zeros to the runs, and reports the loss, unless it is that of a clock while nothing was received."""
@@ -139,8 +142,8 @@ class Listening:
                 " multiple, would look the same until the next sync message"
             )
             self.listener.remark(Remark(lost.seconds, text, lost.chips))
-        if self.relay is not None:
-            self.relay.feed_zeros(lost.chips)
+        if self.relays is not None:
+            self.relays.feed_zeros(lost.chips)
 
     def take_chips(self, chips: Chips) -> None:
         """Gives chips to the runs, and keeps an anchor of them now and then."""
@@ -148,10 +151,9 @@ class Listening:
             time, chip = self.lock.instant()
             if not self.anchors or time - self.anchors[-1].time >= ANCHORS * CHIP_RATE:
                 self.anchors.append(Anchor(time, chip))
-        if self.relay is None:
+        if self.relays is None:
             if chips.first - self.origin < self.since * CHIP_RATE:
                 return
-            self.listener.begin(self.origin)
             seams = [self.origin + seam for seam in self.seams]
-            self.relay = Relay(self.handset, self.listener, self.origin, self.overlap, seams)
-        self.relay.feed(chips)
+            self.relays = Relays(self.followed, self.origin, self.overlap, seams)
+        self.relays.feed(chips)

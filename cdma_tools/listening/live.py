@@ -1,6 +1,6 @@
 """Listening to a live stream: to its end, or until an interrupt ends it in order."""
 
-from collections.abc import Iterable
+from collections.abc import Iterable, Sequence
 from datetime import datetime, timezone
 
 from cdma_tools.errors import Refused, said
@@ -8,7 +8,8 @@ from cdma_tools.interrupts import each_hang_up, first_interrupt
 from cdma_tools.listening.follow_run import Handset
 from cdma_tools.listening.line_writer import LineWriter
 from cdma_tools.listening.listening import Listening
-from cdma_tools.listening.output import Output
+from cdma_tools.listening.output import Reopened
+from cdma_tools.listening.relays import Followed
 from cdma_tools.listening.stream_lock import LockOptions
 from cdma_tools.sources.backlog import Item, Skipped
 from cdma_tools.sources.live import Stream
@@ -18,13 +19,26 @@ from cdma_tools.starting import called
 class LiveListening:
     """A listening to a stream, and what came and was lost of it."""
 
-    def __init__(self, lock: LockOptions, handset: Handset, writer: LineWriter, is_appended: bool) -> None:
-        """Begins with nothing; `is_appended` says that lines of another stream come before those of this one."""
-        self.listening, self.writer, self.is_appended = Listening(lock, handset, writer), writer, is_appended
+    def __init__(
+        self,
+        lock: LockOptions,
+        handset: Handset,
+        writer: LineWriter,
+        is_appended: bool,
+        others: Sequence[Followed] = (),
+        writers: Sequence[LineWriter] = (),
+    ) -> None:
+        """Begins with nothing; `is_appended` says that lines of another stream come before those of this one.
+
+        `others` follow further channels, whose lines `writers` write.
+        """
+        self.listening, self.writers = Listening(lock, handset, writer, others=others), (writer, *writers)
+        writer.is_appended = is_appended
+        self.has_begun = False
         self.lost = 0  # samples
         self.is_stopped = False  # by an interrupt
 
-    def hear(self, stream: Stream, output: Output) -> None:
+    def hear(self, stream: Stream, output: Reopened) -> None:
         """Listens up to the stream's end. An interrupt ends it after what has come; a second one breaks it off."""
         try:
             with stream.opened() as backlog, each_hang_up(output.reopen):
@@ -58,9 +72,7 @@ class LiveListening:
         """Takes what comes."""
         listening = self.listening
         if isinstance(item, bytes):
-            if self.is_appended:
-                self.writer.began = datetime.now(timezone.utc).strftime("%Y-%m-%dT%H:%M:%S.%fZ")
-                self.is_appended = False
+            self.begin()
             listening.feed(item)
         elif isinstance(item, Skipped):
             self.lost += item.samples
@@ -69,17 +81,35 @@ class LiveListening:
         else:
             listening.say(listening.lock.seconds, item.text)
 
+    def begin(self) -> None:
+        """Notes the time of the first samples, for lines that are added to those of another stream."""
+        if self.has_begun:
+            return
+        self.has_begun = True
+        for writer in self.writers:
+            if writer.is_appended:
+                writer.began = datetime.now(timezone.utc).strftime("%Y-%m-%dT%H:%M:%S.%fZ")
+
+    @property
+    def written(self) -> int:
+        """Returns the number of lines that were written."""
+        return sum(writer.written for writer in self.writers)
+
     def summary(self) -> str:
         """Returns a summary in words."""
-        seconds, lines = self.listening.lock.seconds, self.writer.written
+        seconds, lines = self.listening.lock.seconds, self.written
         return f"stopped after {seconds:,.1f} s: {lines:,} lines were written, {self.lost:,} samples were lost"
 
 
 def hear_stream(
-    stream: Stream, lock: LockOptions, handset: Handset, writer: LineWriter, output: Output, is_appended: bool = False
+    stream: Stream, lock: LockOptions, handset: Handset, writer: LineWriter, output: Reopened, is_appended: bool = False
 ) -> bool:
     """Listens to a stream up to its end, or to an interrupt; returns whether a pilot was found."""
-    live = LiveListening(lock, handset, writer, is_appended)
+    return heard_all(LiveListening(lock, handset, writer, is_appended), stream, output)
+
+
+def heard_all(live: LiveListening, stream: Stream, output: Reopened) -> bool:
+    """Listens to a stream up to its end, or to an interrupt; returns whether a pilot was found."""
     live.hear(stream, output)
     if live.is_stopped or live.lost:
         said(called("listen"), live.summary())

@@ -27,16 +27,20 @@ CHECKED = 1_000
 PIECE = 1 << 16
 
 
-class Output(Protocol):
+class Reopened(Protocol):
+    """What may be moved away while lines are added to it."""
+
+    def reopen(self) -> None:
+        """Opens it again by its name before the next lines, if it is a file; a signal may call this."""
+
+
+class Output(Reopened, Protocol):
     """A destination of lines."""
 
     already: Already  # what was there before
 
     def write(self, data: bytes) -> None:
         """Adds whole lines."""
-
-    def reopen(self) -> None:
-        """Opens it again by its name before the next lines, if it is a file; a signal may call this."""
 
     def close(self) -> None:
         """Adds no more."""

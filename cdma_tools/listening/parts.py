@@ -11,12 +11,13 @@ row; if it turns out to be another one at the part's beginning, the part is proc
 
 import math
 from bisect import bisect_right
-from collections.abc import Callable, Iterator
+from collections.abc import Callable, Iterator, Sequence
 from dataclasses import dataclass, replace
 
 from cdma_tools.listening.events import Collected, Event, Remark
 from cdma_tools.listening.follow_run import Handset, sets_of
 from cdma_tools.listening.listening import Anchor, Listening
+from cdma_tools.listening.relays import Followed
 from cdma_tools.listening.seams import OVERLAP, off_grid
 from cdma_tools.listening.stream_lock import LockOptions
 from cdma_tools.listening.system_time import SystemTime, time_told
@@ -95,14 +96,18 @@ def part_at(parts: list[Part], at: int) -> int:
 
 
 def hear_part(
-    recording: Recording, handset: Handset, part: Part, look: Callable[[], None] = lambda: None
-) -> PartHeard:
-    """Listens to a part; `look` is called now and then, and may raise to break it off."""
+    recording: Recording, handsets: Sequence[Handset], part: Part, look: Callable[[], None] = lambda: None
+) -> list[PartHeard]:
+    """Returns what each handset receives in a part, all over the same chips; remarks on these are the first one's.
+
+    `look` is called now and then, and may raise to break it off.
+    """
     lock, size = recording.lock, TYPES[recording.lock.kind].size
     first, last = round(part.locked_from * lock.rate), round(part.locked_to * lock.rate)
-    heard = Collected()
+    heard = [Collected() for _ in handsets]
     since = part.heard_from - first / lock.rate if part.number else 0.0
-    listening = Listening(lock, handset, heard, since, keeps_anchors=True)
+    others = [Followed(handset, one) for handset, one in zip(handsets[1:], heard[1:])]
+    listening = Listening(lock, handsets[0], heard[0], since, keeps_anchors=True, others=others)
     block = size * int(BLOCK_SECONDS * lock.rate)
     try:
         for data in blocks_of_file(recording.path, size * first, size * (last - first), block):
@@ -112,10 +117,17 @@ def hear_part(
     finally:
         listening.kill()
     begin = first / lock.rate
-    remarks = [replace(remark, seconds=remark.seconds + begin) for remark in heard.remarks]
     anchors = [replace(anchor, time=anchor.time + begin * CHIP_RATE) for anchor in listening.anchors]
     origin = listening.origin - round(begin * CHIP_RATE)
-    return PartHeard(heard.events, remarks, anchors, origin, handset.row, listening.is_heard)
+    return [
+        PartHeard(one.events, later_by(begin, one.remarks), anchors, origin, handset.row, listening.is_heard)
+        for handset, one in zip(handsets, heard)
+    ]
+
+
+def later_by(seconds: float, remarks: list[Remark]) -> list[Remark]:
+    """Returns remarks with their seconds counted from an earlier time."""
+    return [replace(remark, seconds=remark.seconds + seconds) for remark in remarks]
 
 
 def chip_at(anchors: list[Anchor], time: float) -> float:

@@ -12,11 +12,13 @@ from cdma_tools.listening.beginning import START, Beginning, is_there
 from cdma_tools.listening.events import Event, Listener, Remark
 from cdma_tools.listening.follow_run import FollowRun, Handset, RunEnded, Sets
 from cdma_tools.listening.pieces import Chips
+from cdma_tools.listening.rate_two_run import RateTwoRun
 from cdma_tools.listening.seams import AFTER, FRAME, GRID, LEAST_OVERLAP, OVERLAP, KeptChips, end_of, off_grid
 from cdma_tools.listening.system_time import SystemTime, time_told
 from cdma_tools.program import NAME
 from cdma_tools.radio.air import CHIP_RATE, PERIOD
 
+Run = FollowRun | RateTwoRun
 # Chips that are kept besides the overlap, so that a run can still be restarted once its seam has passed.
 MORE_KEPT = 16 * PERIOD
 # Zeros after the stream's end, which flush the last frames. Lines of these kinds then count if they were known up to a
@@ -48,8 +50,8 @@ class Relay:
         self.kept = KeptChips(self.overlap + MORE_KEPT)
         self.end = 0  # the chip after the last one
         self.beginning: Beginning | None = None  # of the run that has to begin
-        self.current: FollowRun | None = None
-        self.next: FollowRun | None = None
+        self.current: Run | None = None
+        self.next: Run | None = None
         self.taken: int | None = None  # the seam at which the current run took over, None for the stretch's first
         self.seam = 0  # the seam at which it gives over
         self.time: SystemTime | None = None
@@ -146,13 +148,13 @@ class Relay:
 
     # Runs that are killed
 
-    def drop_next(self, run: FollowRun, ended: RunEnded) -> None:
+    def drop_next(self, run: Run, ended: RunEnded) -> None:
         """The run that is to take over was killed: another one begins as soon as it can."""
         run.kill()
         self.next, self.beginning = None, None
         self.check_killed(ended)
 
-    def replace(self, run: FollowRun, ended: RunEnded) -> None:
+    def replace(self, run: Run, ended: RunEnded) -> None:
         """Passes on the lines of a current run that was killed, and continues with another run.
 
         That is the run that should take over, if it has received enough for that, or one that begins with the oldest
@@ -184,7 +186,7 @@ class Relay:
 
     # Runs
 
-    def begun(self, row: int | None) -> FollowRun | None:
+    def begun(self, row: int | None) -> Run | None:
         """Returns the run that must begin, once it finds a pilot; None if more chips must come first."""
         beginning = self.beginning
         assert beginning is not None
@@ -207,9 +209,10 @@ class Relay:
             beginning.again(begin)
         return None
 
-    def start(self, begin: int, row: int | None) -> FollowRun:
+    def start(self, begin: int, row: int | None) -> Run:
         """Returns a run from a chip on, fed with the chips that have come."""
-        run = FollowRun(self.handset.on_row(row), begin)
+        handset = self.handset.on_row(row)
+        run: Run = RateTwoRun(handset, begin) if handset.rate_set == 2 else FollowRun(handset, begin)
         try:
             for chips in self.kept.pieces:
                 run.feed(chips)
@@ -218,7 +221,7 @@ class Relay:
             raise
         return run
 
-    def hears_pilot(self, run: FollowRun) -> bool:
+    def hears_pilot(self, run: Run) -> bool:
         """Whether a run finds the pilot of the lock, or another one that is present in the chips around its first."""
         if run.phase is None or not self.is_astray(run):
             return True
@@ -237,7 +240,7 @@ class Relay:
             self.seam = min(self.seam, self.wanted[0])
         self.seam = off_grid(self.seam, self.time.offset if self.time else 0)
 
-    def change(self, before: FollowRun, after: FollowRun | None) -> None:
+    def change(self, before: Run, after: Run | None) -> None:
         """Ends the run before at the seam, and passes on the lines of the one after it from there on."""
         try:
             before.close()
@@ -256,7 +259,7 @@ class Relay:
             self.plan()
             self.tell(after)
 
-    def carried(self, before: FollowRun, after: FollowRun) -> FollowRun:
+    def carried(self, before: Run, after: Run) -> Run:
         """Returns the run after the seam, on the row of the one before; reports what isn't carried over."""
         if self.row is not None:
             # Frames end every 20 ms once there is a mark: then all lines up to the seam have come.
@@ -280,7 +283,7 @@ class Relay:
         elif before.candidates and (after is None or after.candidates != before.candidates):
             self.say("the candidate pilots and their timers are reset at a seam")
 
-    def row_at(self, run: FollowRun, chip: int) -> int | None:
+    def row_at(self, run: Run, chip: int) -> int | None:
         """Returns the row on which the reference sends the traffic channel at a chip, by the run's lines or its start.
         """
         sets = run.sets_at(chip)
@@ -290,7 +293,7 @@ class Relay:
 
     # Lines that are passed on
 
-    def tell(self, run: FollowRun) -> None:
+    def tell(self, run: Run) -> None:
         """Passes on the current run's lines up to its seam; those after it are the next run's."""
         self.check_phase(run)
         events, run.told = run.told, []
@@ -304,13 +307,13 @@ class Relay:
             else:
                 run.told.append(event)
 
-    def check_phase(self, run: FollowRun) -> None:
+    def check_phase(self, run: Run) -> None:
         """Reports a run that finds another pilot than the one of the lock, by the code at its first chip."""
         if self.is_astray(run):
             self.say(f"a run follows a pilot whose code is {astray_of(run)} chips from the lock's: another cell's")
         run.phase = None
 
-    def is_astray(self, run: FollowRun) -> bool:
+    def is_astray(self, run: Run) -> bool:
         """Whether a run has reported another pilot than the one of the lock."""
         return abs(astray_of(run)) > ASTRAY
 
@@ -327,10 +330,11 @@ class Relay:
 
     def say(self, text: str) -> None:
         """Makes a remark about the last chips."""
-        self.listener.remark(Remark((self.end - self.origin) / CHIP_RATE, text))
+        name = f"{self.handset.name}: " if self.handset.name else ""
+        self.listener.remark(Remark((self.end - self.origin) / CHIP_RATE, name + text))
 
 
-def astray_of(run: FollowRun) -> int:
+def astray_of(run: Run) -> int:
     """Returns the chips by which the code of a run's pilot is ahead of its first chip's number, 0 without a pilot."""
     if run.phase is None:
         return 0

@@ -3,13 +3,16 @@
 import asyncio
 import concurrent.futures
 import contextlib
-from collections.abc import Callable, Iterator
+import heapq
+import itertools
+from collections.abc import Callable, Iterable, Iterator, Sequence
+from dataclasses import dataclass
 from typing import Any, Protocol
 
 from cdma_tools.cluster import AHEAD, connected, result_of, some_ended, workers_of
 from cdma_tools.errors import Refused
 from cdma_tools.listening.follow_run import Handset
-from cdma_tools.listening.line_writer import Already, LineWriter
+from cdma_tools.listening.line_writer import LineWriter
 from cdma_tools.listening.parts import Joined, Joiner, Part, PartHeard, Recording, hear_part, part_at, parts_of
 from cdma_tools.progress import bar
 
@@ -21,6 +24,13 @@ class Workers(Protocol):
         """Returns what is received in a part whose traffic channel begins on a row, as those of later parts seem to."""
 
 
+class ChannelWorkers(Protocol):
+    """Who listens to several channels of parts."""
+
+    def heard_by(self, number: int, handsets: tuple[Handset, ...]) -> list[PartHeard]:
+        """Returns what each handset receives in a part, which later parts seem to begin with too."""
+
+
 class Alone:
     """This process."""
 
@@ -29,13 +39,17 @@ class Alone:
     ) -> None:
         """The parts of a recording; `look` is called now and then, and may raise to break a part off."""
         self.recording, self.handset, self.parts, self.look = recording, handset, parts, look
-        self.last: tuple[tuple[int, int | None], PartHeard] | None = None
+        self.last: tuple[tuple[int, tuple[Handset, ...]], list[PartHeard]] | None = None
 
     def heard(self, number: int, row: int | None) -> PartHeard:
         """Returns what is received in a part."""
-        if self.last is None or self.last[0] != (number, row):
-            handset = self.handset.on_row(row)
-            self.last = (number, row), hear_part(self.recording, handset, self.parts[number], self.look)
+        return self.heard_by(number, (self.handset.on_row(row),))[0]
+
+    def heard_by(self, number: int, handsets: tuple[Handset, ...]) -> list[PartHeard]:
+        """Returns what each handset receives in a part."""
+        if self.last is None or self.last[0] != (number, handsets):
+            heard = hear_part(self.recording, handsets, self.parts[number], self.look)
+            self.last = (number, handsets), heard
         return self.last[1]
 
 
@@ -45,23 +59,26 @@ class Handed:
     def __init__(self, recording: Recording, handset: Handset, parts: list[Part], client: Any) -> None:
         """The parts of a recording, and a client of the scheduler."""
         self.recording, self.handset, self.parts, self.client = recording, handset, parts, client
-        self.under_way: dict[tuple[int, int | None], Any] = {}
+        self.under_way: dict[tuple[int, tuple[Handset, ...]], Any] = {}
 
     def heard(self, number: int, row: int | None) -> PartHeard:
         """Returns what is received in a part; those after it are handed out meanwhile."""
+        return self.heard_by(number, (self.handset.on_row(row),))[0]
+
+    def heard_by(self, number: int, handsets: tuple[Handset, ...]) -> list[PartHeard]:
+        """Returns what each handset receives in a part; those after it are handed out meanwhile."""
         ahead = AHEAD * max(1, workers_of(self.client))
         for other in range(number, min(number + ahead, len(self.parts))):
-            if (other, row) not in self.under_way:
-                handset = self.handset.on_row(row)
-                self.under_way[other, row] = self.client.submit(
-                    hear_part, self.recording, handset, self.parts[other], pure=False
+            if (other, handsets) not in self.under_way:
+                self.under_way[other, handsets] = self.client.submit(
+                    hear_part, self.recording, handsets, self.parts[other], pure=False
                 )
         for key in [key for key in self.under_way if key[0] < number]:
             self.under_way.pop(key).cancel()
-        future = self.under_way[number, row]
+        future = self.under_way[number, handsets]
         try:
             some_ended(self.client, [future])
-            heard: PartHeard = result_of(future, "part")
+            heard: list[PartHeard] = result_of(future, "part")
         except (OSError, concurrent.futures.CancelledError, asyncio.CancelledError):
             raise Refused("the scheduler ended, or cancelled the run") from None
         return heard
@@ -81,22 +98,57 @@ def joined_parts(workers: Workers, parts: list[Part], joiner: Joiner, first: int
         yield joiner.join(part, heard, part is parts[-1])
 
 
-def start_of(parts: list[Part], already: Already, workers: Workers, row: int | None) -> tuple[Joiner, int]:
-    """Returns the beginning of a listening: the part in which the last existing line lies, if that part has the time
-    too."""
-    if already.at is not None and already.offset is not None:
-        number = part_at(parts, already.at)
-        joiner = Joiner(row)
-        joiner.resume(parts[number], already.times, already.sets, already.offset)
-        if joiner.can_resume(workers.heard(number, joiner.row_before(parts[number]))):
-            return joiner, number
-    return Joiner(row), 0
+@dataclass(frozen=True)
+class Channel:
+    """A channel of a cell that is listened to: the handset that follows it, and what writes its lines."""
+
+    handset: Handset
+    writer: LineWriter
+
+
+def on_rows(channels: Sequence[Channel], rows: Iterable[int | None]) -> tuple[Handset, ...]:
+    """Returns the handsets of channels, each with its traffic channel on a row."""
+    return tuple(channel.handset.on_row(row) for channel, row in zip(channels, rows))
+
+
+def start_of(parts: list[Part], channels: Sequence[Channel], workers: ChannelWorkers) -> tuple[list[Joiner], int]:
+    """Returns the beginning of a listening: the part in which the last existing line of a channel lies, if that part
+    has the time too. The earliest of such parts counts."""
+    already = [channel.writer.already for channel in channels]
+    first = min(0 if one.at is None or one.offset is None else part_at(parts, one.at) for one in already)
+    if first:
+        joiners = [Joiner(channel.handset.row) for channel in channels]
+        for joiner, one in zip(joiners, already):
+            assert one.offset is not None
+            joiner.resume(parts[first], one.times, one.sets, one.offset)
+        rows = [joiner.row_before(parts[first]) for joiner in joiners]
+        heard = workers.heard_by(first, on_rows(channels, rows))
+        if all(joiner.can_resume(one) for joiner, one in zip(joiners, heard)):
+            return joiners, first
+    return [Joiner(channel.handset.row) for channel in channels], 0
+
+
+def joined_channels(
+    workers: ChannelWorkers, parts: list[Part], channels: Sequence[Channel], joiners: list[Joiner], first: int
+) -> Iterator[list[Joined]]:
+    """Yields what each part adds to each channel, from one of them on."""
+    for part in parts[first:]:
+        rows = [joiner.row_before(part) for joiner in joiners]
+        heard = workers.heard_by(part.number, on_rows(channels, rows))
+        are_right = [joiner.is_on_row(one) for joiner, one in zip(joiners, heard)]
+        if not all(are_right):
+            rows = [row if is_right else joiner.row for row, is_right, joiner in zip(rows, are_right, joiners)]
+            heard = workers.heard_by(part.number, on_rows(channels, rows))
+        yield [joiner.join(part, one, part is parts[-1]) for joiner, one in zip(joiners, heard)]
+
+
+Both = Alone | Handed
 
 
 @contextlib.contextmanager
 def workers_for(
     recording: Recording, handset: Handset, parts: list[Part], count: int, scheduler: str | None
-) -> Iterator[Workers]:
+) -> Iterator[Both]:
     """Yields `count` workers of this machine, this process if it is 1, or those of a scheduler."""
     if scheduler is None and count == 1:
         yield Alone(recording, handset, parts)
@@ -110,22 +162,30 @@ def workers_for(
 
 
 def hear_recording(
-    recording: Recording, handset: Handset, writer: LineWriter, seconds: float, count: int, scheduler: str | None
+    recording: Recording, channels: Sequence[Channel], seconds: float, count: int, scheduler: str | None
 ) -> bool:
-    """Listens to a recording, in parts of `seconds`; returns whether a pilot was found."""
+    """Listens to channels of a recording, in parts of `seconds`; returns whether a pilot was found."""
     parts, is_heard = parts_of(recording, seconds), False
-    with workers_for(recording, handset, parts, count, scheduler) as workers:
-        joiner, first = start_of(parts, writer.already, workers, handset.row)
+    with workers_for(recording, channels[0].handset, parts, count, scheduler) as workers:
+        joiners, first = start_of(parts, channels, workers)
         is_heard = first > 0
         with bar(total=len(parts) - first, text="parts", unit="") as shown:
-            for joined in joined_parts(workers, parts, joiner, first):
-                writer.begin(joined.origin)
-                if writer.notes is not None:
-                    writer.notes.anchors = joiner.anchors
-                for remark in joined.remarks:
-                    writer.remark(remark)
-                for event in joined.events:
-                    writer.event(event)
-                is_heard = is_heard or joined.is_heard
+            for joined in joined_channels(workers, parts, channels, joiners, first):
+                write_joined(channels, joiners, joined)
+                is_heard = is_heard or joined[0].is_heard
                 shown.update(1)
     return is_heard
+
+
+def write_joined(channels: Sequence[Channel], joiners: list[Joiner], joined: list[Joined]) -> None:
+    """Writes what a part adds to each channel: remarks, and then the lines of all channels by their chips."""
+    writers = [channel.writer for channel in channels]
+    for writer, joiner, one in zip(writers, joiners, joined):
+        writer.begin(one.origin)
+        if writer.notes is not None:
+            writer.notes.anchors = joiner.anchors
+        for remark in one.remarks:
+            writer.remark(remark)
+    events = [zip(itertools.repeat(writer), one.events) for writer, one in zip(writers, joined)]
+    for writer, event in heapq.merge(*events, key=lambda written: written[1].chip):
+        writer.event(event)

@@ -127,7 +127,7 @@ class WatchedStream(LiveListening):
 
     def summary(self) -> str:
         """Returns how the listening ended, in words."""
-        seconds, lines = self.listening.lock.seconds, self.writer.written
+        seconds, lines = self.listening.lock.seconds, self.written
         how = "stopped" if self.is_stopped else "the source ended"
         return f"{how} after {seconds:,.1f} s: {lines:,} lines, {self.lost:,} samples were lost"
 

@@ -65,6 +65,7 @@ CASES = {
     ("import_capture", "file"): f"import_capture {RAW} IN OUT",
     ("install", "prefix"): "install --program IN FOLDER",
     ("listen", "out"): f"listen {RAW} --program /bin/true IN --out OUT",
+    ("listen", "out_dir"): f"listen {RAW} --program /bin/true IN --out-dir FOLDER",
     ("listen", "pcapng"): f"listen {RAW} --program /bin/true IN --pcapng OUT",
     ("report", "out"): f"report {RAW} --program /bin/true IN --out OUT",
 }
@@ -82,8 +83,12 @@ NO_INPUT = {
 }
 # And the one output that is meant to be an input too: a metadata file that gets a note.
 UPDATED = {("import_capture", "meta"), ("listen", "meta")}
-# Names that a folder's files have, by the tool that writes them.
-IN_FOLDERS = {"curve": "curve.csv", "install": os.path.join("bin", "cdma_replay")}
+# Names that a folder's files have, by the tool that writes them and its argument.
+IN_FOLDERS = {
+    ("curve", "out"): "curve.csv",
+    ("install", "prefix"): os.path.join("bin", "cdma_replay"),
+    ("listen", "out_dir"): "cell1-paging1.txt",
+}
 SHOWN = re.compile(r"(?m)^  ((?:pilot phase|(?:sync|paging|frame|traffic|sets|raw) at)=.+)$")
 FRAME = b"frame at=%d rate=9600 good=1 bits=0: commands=0000000000000011\n"
 CASES_FOLDER = os.path.join(ROOT, "conformance", "cases")
@@ -193,10 +198,10 @@ class EachOutputTest(Folder):
                 self.assertEqual(isinstance(made_by(action), UpdatedFile), (tool, action.dest) in UPDATED)
         self.assertEqual(found, set(CASES) | NO_INPUT | UPDATED)
 
-    def ways(self, tool: str, data: bytes) -> Iterator[tuple[str, str, str]]:
+    def ways(self, output: tuple[str, str], data: bytes) -> Iterator[tuple[str, str, str]]:
         """Yields each way to the same file: its name, the input and the output, a picture by its name."""
         folder = self.at("folder")
-        end = IN_FOLDERS.get(tool)
+        end = IN_FOLDERS.get(output)
         own = self.keep(os.path.join("folder", end) if end else "folder/own.png", data)
         other = os.path.join(folder, "other.png")
         yield "the same name", own, own
@@ -211,9 +216,9 @@ class EachOutputTest(Folder):
         os.remove(other)
 
     def test_an_output_that_is_the_input(self) -> None:
-        for (tool, _), line in CASES.items():
+        for (tool, name), line in CASES.items():
             for kind, data in CONTENTS.items():
-                for way, given, output in self.ways(tool, data):
+                for way, given, output in self.ways((tool, name), data):
                     words = line.split()[1:]
                     places = {"IN": given, "OUT": output, "FOLDER": self.at("folder")}
                     with self.subTest(f"{line}, {kind}, {way}"), self.unchanged(given):
