@@ -20,7 +20,7 @@ SENDING, HEARING = ("base_modulator",), ("pilot_survey", "tuned_listener")
 # The columns of the picture, from the left.
 SIDES = ("base station", "both", "handset", "program, laws", "tests")
 # The head of the table of crates in docs/ARCHITECTURE.md; the purposes in it are written by hand.
-HEAD = "| Crate | Purpose | Depends on |\n|---|---|---|\n"
+HEAD = "| Crate | Purpose |\n|---|---|\n"
 
 
 class NoList(Exception):
@@ -79,13 +79,6 @@ def longest_chain(below: Mapping[str, Sequence[str]]) -> list[str]:
     return max(chains(below).values(), key=len, default=[])
 
 
-def right_below(below: Mapping[str, Sequence[str]], name: str) -> list[str]:
-    """Returns a crate's dependencies in the order of crates.txt, without those that another of them depends on."""
-    further = {at for it in below[name] for at in all_below(below, it)}
-    wanted = set(below[name]) - further
-    return [it for it in below if it in wanted]
-
-
 def side_of(below: Mapping[str, Sequence[str]], name: str) -> str:
     """Returns the side of a crate, which is its column in the picture."""
     if name.endswith("_tests"):
@@ -112,7 +105,7 @@ def table(purposes: Mapping[str, str], below: Mapping[str, Sequence[str]]) -> st
     """Returns the table of crates, sorted by side, by layer and then as in crates.txt."""
     layers = {name: len(chain) for name, chain in chains(below).items()}
     rows = [
-        f"| `{name}` | {purposes.get(name, '')} | {', '.join(f'`{it}`' for it in right_below(below, name))} |\n"
+        f"| `{name}` | {purposes.get(name, '')} |\n"
         for name in sorted(below, key=lambda it: (SIDES.index(side_of(below, it)), layers[it]))
     ]
     return HEAD + "".join(rows)
@@ -127,7 +120,7 @@ def with_crates(text: str, below: Mapping[str, Sequence[str]]) -> str:
         raise NoList("docs/ARCHITECTURE.md has no table of crates")
     old = re.match(r"(?:\|.*\n)*", after)
     rows = old[0] if old else ""
-    purposes = dict(re.findall(r"(?m)^\| `(\w+)` \| (.*?) \|[^|]*\|$", rows))
+    purposes = dict(re.findall(r"(?m)^\| `(\w+)` \| (.*?) ?\|$", rows))
     return before + table(purposes, below) + after[len(rows) :]
 
 

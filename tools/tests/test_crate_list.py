@@ -12,7 +12,6 @@ from cdma_tools.repository.crate_list import (
     crates_below,
     longest_chain,
     picture,
-    right_below,
     with_crates,
     with_sides,
 )
@@ -50,10 +49,6 @@ class Layers(unittest.TestCase):
         self.assertEqual(chains(BELOW)["tuned_listener"], ["core", "codes", "tuned_listener"])
         self.assertEqual(longest_chain(BELOW), ["core", "codes", "cell", "base_modulator", "program"])
 
-    def test_what_another_one_stands_on_is_left_out(self) -> None:
-        self.assertEqual(right_below(BELOW, "base_modulator"), ["cell"])
-        self.assertEqual(right_below(BELOW, "program"), ["base_modulator", "tuned_listener"])
-
     def test_a_circle_has_no_layers(self) -> None:
         with self.assertRaisesRegex(NoList, "^crates.txt has a cycle: one other one$"):
             chains({"one": ["other"], "other": ["one"]})
@@ -83,14 +78,14 @@ class Architecture(unittest.TestCase):
                 self.assertTrue(purpose, "write what it is for into docs/ARCHITECTURE.md")
 
     def test_rows_are_sorted_and_purposes_stay(self) -> None:
-        head = "| Crate | Purpose | Depends on |\n|---|---|---|\n"
-        old = "| `tuned_listener` | hears \\| waits | `gone` |\n| `gone` | went | |\n| `cell` | a cell | |\n"
+        head = "| Crate | Purpose |\n|---|---|\n"
+        old = "| `tuned_listener` | hears \\| waits |\n| `gone` | went |\n| `cell` | a cell |\n"
         other = "\n| `find` | of | memory |\n"
         wanted = "".join(f"    {line}\n" for line in PICTURE.splitlines()) + "\n" + head
         made = with_crates("    old\n\n" + head + old + other, BELOW)
-        self.assertTrue(made.startswith(wanted + "| `cell` | a cell | `codes` |\n"), made)
-        self.assertTrue(made.endswith("| `core_tests` |  | `core` |\n" + other), made)
-        self.assertIn("| `tuned_listener` | hears \\| waits | `codes` |\n", made)
+        self.assertTrue(made.startswith(wanted + "| `cell` | a cell |\n"), made)
+        self.assertTrue(made.endswith("| `core_tests` |  |\n" + other), made)
+        self.assertIn("| `tuned_listener` | hears \\| waits |\n", made)
         self.assertNotIn("gone", made)
 
     def test_the_line_counts_are_those_of_the_tree(self) -> None:
