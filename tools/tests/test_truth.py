@@ -27,6 +27,9 @@ CHIPS = 900_000
 MOST = {"carrier": 3.0, "clock": 0.1, "ec_io": 0.1, "level": 0.15, "delay": 0.1}
 MOST |= {"scan ec_io": 0.2, "scan carrier": 30.0, "at": 0.0, "rho": 0.0001}
 SUPERFRAME = 98_304  # chips of 80 ms
+OFFSET = 64  # chips of one step of PILOT_PN
+SYNC_ROW = 32
+MOST_SPREADS = 4  # of noise, between the level of a weaker cell's row and the truth
 LEAST_SYNCED = 2  # messages: each takes 240 ms, and the recordings last 0.7 s
 
 
@@ -74,9 +77,26 @@ def recorded(folder: str, number: int) -> Truth:
     )  # fmt: skip
 
 
+def row_powers(cell: DrawnCell) -> dict[int, float]:
+    """Returns the mean power of each Walsh row over a cell's file, as a part of its pilot's.
+
+    The file begins at local chip 0. A channel sends nothing before its first frame (docs/LINK.md, "What a cell sends"),
+    which begins at chip 64 PILOT_PN on the sync channel and at chip 0 on the others.
+    """
+    gains = {SYNC_ROW: cell.sync, 1: cell.paging, 20: cell.traffic}
+    powers = {row: (gain / cell.pilot) ** 2 for row, gain in gains.items()}
+    powers[SYNC_ROW] *= 1 - OFFSET * cell.pn / CHIPS
+    return powers
+
+
 def decibels(ratio: float) -> float:
     """Returns a ratio of powers in dB."""
     return 10 * math.log10(ratio)
+
+
+def spread_of(sigma: float, symbols: float) -> float:
+    """Returns the standard deviation of a row's level in dB, by the formula of docs/RADIO.md, "The code domain"."""
+    return decibels(1 + math.sqrt(1 / sigma**2 + 2 / (sigma * math.sqrt(symbols))))
 
 
 def figure(pattern: str, text: str) -> float:
@@ -103,9 +123,13 @@ class Truths(unittest.TestCase):
         self.folder = temporary_folder(self.addCleanup)
         self.table: list[str] = []
 
+    def tabled(self, tool: str, name: str, found: float, wanted: float) -> None:
+        """Adds a figure to the table."""
+        self.table.append(f"{tool:<16}{name:<22}{found:>14.3f}{wanted:>14.3f}{found - wanted:>+10.3f}")
+
     def near(self, tool: str, name: str, found: float, wanted: float, most: str) -> None:
         """Adds a figure to the table, and reports it if it is too far from the truth."""
-        self.table.append(f"{tool:<16}{name:<22}{found:>14.3f}{wanted:>14.3f}{found - wanted:>+10.3f}")
+        self.tabled(tool, name, found, wanted)
         self.assertAlmostEqual(found, wanted, delta=MOST[most], msg=f"{tool}: {name}")
 
     def import_holds(self, truth: Truth) -> None:
@@ -151,11 +175,29 @@ class Truths(unittest.TestCase):
         self.near("domain", "clock_ppm", told["clock_ppm"], truth.clock, "clock")
         rows, cell = {row["row"]: row["db"] for row in told["rows"] if row["used"]}, truth.cells[0]
         self.near("domain", "row 0 db", rows[0], truth.ec_io, "level")
-        for row, gain in ((32, cell.sync), (1, cell.paging), (20, cell.traffic)):
-            wanted = 2 * decibels(gain / cell.pilot)
-            self.near("domain", f"row {row} against row 0", rows[row] - rows[0], wanted, "level")
+        for row, power in row_powers(cell).items():
+            self.near("domain", f"row {row} against row 0", rows[row] - rows[0], decibels(power), "level")
         self.assertAlmostEqual(sum(10 ** (row["total_db"] / 10) for row in told["rows"]), 1, delta=0.002)
         self.rho = told["rho"]
+
+    def weaker_holds(self, truth: Truth) -> None:
+        """Checks the rows of each weaker cell, measured without the stronger ones, whose power no longer counts."""
+        out = os.path.join(self.folder, "weaker.json")
+        left = 10 ** (-truth.ec_io / 10)  # all power, as multiples of the first cell's pilot
+        for place, cell in enumerate(truth.cells[1:], 1):
+            stronger, pilot = (10 ** (truth.levels[number] / 10) for number in (place - 1, place))
+            left -= stronger * (1 + sum(row_powers(truth.cells[place - 1]).values()))
+            status, _, said = run_main("domain", truth.path, "--pn", cell.pn, "--program", PROGRAM, "--json", out)
+            self.assertEqual(status, 0, said)
+            with open(out, encoding="utf-8") as file:
+                told = json.load(file)
+            rows = {row["row"]: row for row in told["rows"] if row["used"]}
+            self.near("domain", f"PN {cell.pn} row 0 db", rows[0]["db"], decibels(pilot / left), "level")
+            for row, power in row_powers(cell).items():
+                found, name = rows[row]["db"] - rows[0]["db"], f"PN {cell.pn} row {row} to row 0"
+                self.tabled("domain", name, found, decibels(power))
+                spread = spread_of(rows[row]["sigma"], told["chips"] / (256 if row == SYNC_ROW else 64))
+                self.assertAlmostEqual(found, decibels(power), delta=MOST_SPREADS * spread, msg=name)
 
     def listen_holds(self, truth: Truth) -> None:
         """The messages that a listening hears are those that the strongest cell sends, and as often."""
@@ -199,6 +241,24 @@ class Truths(unittest.TestCase):
             self.near("report", f"PN {cell.pn} delay", float(row["Delay, chips"]), delay, "delay")
         self.assertEqual(float(table[0]["Ec/Io, dB"]), level)
 
+    def test_rows_of_a_file_without_noise(self) -> None:
+        """Without noise each row's level is the truth to 0.002 dB, of which 0.0013 is the symbol of the sync channel
+
+        at whose end the measuring may begin.
+        """
+        out = os.path.join(self.folder, "domain.json")
+        draws = random.Random(SEED)
+        for pn in draws.sample(range(512), FEW):
+            cell = drawn_cell(draws, pn, ())
+            path = cell.write(os.path.join(self.folder, "cell.is95"), CHIPS)
+            status, _, said = run_main("domain", path, "--program", PROGRAM, "--json", out)
+            self.assertEqual(status, 0, said)
+            with open(out, encoding="utf-8") as file:
+                rows = {row["row"]: row["db"] for row in json.load(file)["rows"] if row["used"]}
+            for row, power in row_powers(cell).items():
+                with self.subTest(pn=pn, row=row):
+                    self.assertAlmostEqual(rows[row] - rows[0], decibels(power), delta=0.002)
+
     def test_each_tool_tells_the_truth(self) -> None:
         count = MANY if os.environ.get("EVERY_TRUTH") else FEW
         for number in range(count):
@@ -206,7 +266,8 @@ class Truths(unittest.TestCase):
             self.table.append(f"recording {number}: PN {', '.join(str(cell.pn) for cell in truth.cells)}")
             with self.subTest(number):
                 for holds in (
-                    self.import_holds, self.scan_holds, self.domain_holds, self.listen_holds, self.report_holds
+                    self.import_holds, self.scan_holds, self.domain_holds, self.weaker_holds, self.listen_holds,
+                    self.report_holds,
                 ):  # fmt: skip
                     holds(truth)
         if count == MANY:
