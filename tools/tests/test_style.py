@@ -30,6 +30,8 @@ from tools.tests.prose import (
 
 needs("numpy", "scipy", "matplotlib", "plotly", "tqdm", "distributed", "jinja2")
 
+DOCS = os.path.join(ROOT, "docs")
+MOST_WORDS_OF_PAGES = 60_000
 # Folders whose docstrings and errors are checked, and this file, which has the old sentences.
 FOLDERS = ("cdma", "cdma_tools", "conformance", "examples", "cdma_model", "model", "tools/tests")
 THIS_FILE = os.path.relpath(__file__, ROOT)
@@ -275,6 +277,12 @@ class Style(unittest.TestCase):
                 found = help_sentences(command.name, parser_of(command.name))
                 self.assertEqual(list(faults(found, ALLOWED, used)), [])
         self.assertEqual(set(ALLOWED) - used, set())
+
+    def test_the_pages_together_are_short(self) -> None:
+        """All pages of docs/ have at most 60,000 words, as `cat docs/*.md | wc -w` counts them."""
+        words = {place: len(read_place(place).split()) for place in PAGES if re.fullmatch(r"docs/[^/]*\.md", place)}
+        self.assertEqual(sorted(words), sorted(f"docs/{name}" for name in os.listdir(DOCS) if name.endswith(".md")))
+        self.assertLessEqual(sum(words.values()), MOST_WORDS_OF_PAGES, words)
 
     def test_old_sentences_are_gone(self) -> None:
         """From pages, and from everything in modules."""
