@@ -11,7 +11,7 @@ use crate::other::OtherMessage;
 use crate::system::{SYSTEM_PARAMETERS, SystemParameters};
 use chip_core::{Bits, CheckForm};
 use message_layout::{ALL_BITS, BitSlice, Contents, Layout, append, read_from, read_kind};
-use quality_bits::{Kind, MessageFault, body_count, capsule_of};
+use quality_bits::{Kind, MessageFault, body_count, capsule_of, fills_capsule};
 
 /// A message of the paging channel that has a spelling.
 ///
@@ -80,7 +80,7 @@ impl PagingMessage {
     fn read(body: &BitSlice<'_>) -> Option<PagingMessage>
         ensures { result ≡ body_reading body.now }
     {
-        if !fills_capsule(body) {
+        if !fills_capsule(Kind::M30, body.len()) {
             return None;
         }
         let (kind, from) = read_kind(body)?;
@@ -158,11 +158,4 @@ fn layout_of(kind: u8) -> Layout
         4 => CHANNEL_LIST,
         _ => ALL_BITS,
     }
-}
-
-/// Whether a body's length is that of a capsule of 5 to 148 octets.
-fn fills_capsule(body: &BitSlice<'_>) -> bool
-    ensures { IsTrue result ↔ FillsCapsule M30 body.now }
-{
-    body.len() % 8 == 2 && body.len() <= 1146
 }

@@ -122,15 +122,21 @@ tells_none {of_capsule = of_capsule} bits fault are never =
           never m is.0 is.1);
     }
 
+-- a fault is no value
+err_is_no_ok : {A E : Type 0} {value : A} {fault : E} → ¬ (Err fault ≡ Ok value)
+err_is_no_ok same = cc
+
 -- where there is no capsule
-pub uncapsuled : {M : Type 0} {kind : Kind} {form : CheckForm} {Is : M → Type 0} {body spelled : M → List Bool}
+pub uncapsuled : {M E : Type 0} {fault : E} {kind : Kind} {form : CheckForm} {Is : M → Type 0} {body spelled : M → List Bool}
     {of_body of_capsule : List Bool → Option M} (bits : List Bool) (result : Result M MessageFault) →
     AreRead kind form Is body spelled of_body of_capsule →
-    ((inside : List Bool) → FillsCapsule kind inside → ¬ (bits ≡ capsule kind form inside)) →
+    ((inside : List Bool) → FillsCapsule kind inside → bits ≡ capsule kind form inside →
+    Err fault ≡ Ok (length inside)) →
     IfOk result (λ m. true ≡ false) → Tells Is spelled of_capsule bits result
-uncapsuled bits (Ok m) are none fault = absurd (cc)
-uncapsuled {body = body} bits (Err fault) are none is_fault =
-    tells_none bits fault are (λ m is same. none (body m) (are.fills m is) (same ∙ are.spells m))
+uncapsuled bits (Ok m) are only fault = absurd (cc)
+uncapsuled {body = body} bits (Err fault) are only is_fault =
+    tells_none bits fault are (λ m is same.
+    err_is_no_ok (only (body m) (are.fills m is) (same ∙ are.spells m)))
 
 -- what the body of a message's capsule is read as
 body_read : {M : Type 0} {kind : Kind} {form : CheckForm} {Is : M → Type 0} {body spelled : M → List Bool}

@@ -39,6 +39,15 @@ pub fn capsule_of(kind: Kind, form: CheckForm, body: &Bits) -> Bits
     bits
 }
 
+/// Whether a body of `count` bits fits a capsule: with the length and the check, it has whole
+/// octets, 5 to 148 of them.
+pub fn fills_capsule(kind: Kind, count: u16) -> bool
+    ensures { (body : List Bool) → length body ≡ count → (IsTrue result ↔ FillsCapsule kind body) }
+{
+    let bits = 8 + u32::from(count) + kind.divisor().degree;
+    bits % 8 == 0 && 40 <= bits && bits <= 1184
+}
+
 /// The body of a capsule.
 ///
 /// Returns `BadLength` exactly if the list's length differs from its MSG_LENGTH or that is not

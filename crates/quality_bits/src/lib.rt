@@ -16,7 +16,7 @@ mod open_capsule;
 mod rate;
 mod register;
 
-pub use capsule::{CapsuleFault, body_count, body_of, capsule_of, stated_length};
+pub use capsule::{CapsuleFault, body_count, body_of, capsule_of, fills_capsule, stated_length};
 pub use checking::{append_check, check};
 pub use format::{FrameFormat, REPEATED_SYMBOLS};
 pub use framer::CapsuleFramer;

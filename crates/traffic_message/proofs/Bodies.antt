@@ -1,7 +1,7 @@
 -- Bodies of messages, spelled and read again.
 use Rattle.traffic_message.proofs.Common.{◌≡◌, ◌≢◌, ◌⊎◌, ℕ, ◌+◌, ◌%◌, ◌^◌, ◌<◌, ◌≤◌, ◌==◌, ◌&&◌, Bool, true, false, List, ◌∷◌, ◌++◌, length}
 use Rattle.traffic_message.proofs.Common.{drop, refl, sym, ap, subst, ◌∙◌, arith, append_assoc, length-append, nat_le, inl, inr, Option, []}
-use Rattle.traffic_message.proofs.Common.{Some, None, and_from, and_parts, cases_Bool, eq-eqb, eqb-false, eqb-true, le-leb, leb-true, digit}
+use Rattle.traffic_message.proofs.Common.{Some, None, and_from, and_parts, cases_Bool, eq-eqb, false_from_ne_true, IsTrue, ◌↔◌, eqb-false, eqb-true, le-leb, leb-true, digit}
 use Rattle.traffic_message.proofs.Common.{drop_at, binary, spelled, in_widths, FieldsFit, number_at, values_at, digit_again, values_again}
 use Rattle.traffic_message.proofs.Common.{length-in_widths, values_there, FillsCapsule, M16, is_hard, head_widths, TrafficBody, Head, Form}
 use Rattle.traffic_message.proofs.Common.{HasFields, body_from, traffic_contents_of, form_at, form_in, traffic_shape_of, Contents, mapped}
@@ -213,6 +213,20 @@ is_body_parts body h =
       least,
       most,
     )
+
+-- a body with room for a type and a head passes the test exactly if it fills a capsule
+pub is_body_by : (body : List Bool) (fills : Bool) → 17 ≤ length body →
+    (IsTrue fills ↔ FillsCapsule M16 body) → fills ≡ reading.is_traffic_body body
+is_body_by body true least both = sym (is_body_from body (both.0 refl) least)
+is_body_by body false least both =
+    sym (false_from_ne_true (reading.is_traffic_body body)
+    (λ h. let fills = both.1 (is_body_parts body h).0 in absurd (cc)))
+
+-- and a shorter body doesn't pass it
+pub short_is_no_body : (body : List Bool) → length body < 17 → false ≡ reading.is_traffic_body body
+short_is_no_body body short =
+    sym (false_from_ne_true (reading.is_traffic_body body)
+    (λ h. absurd (omega (arith, short, (is_body_parts body h).1))))
 
 -- A message's body gives its type, its head and its own bits: type and head are the first 17 bits
 -- and fit their widths, so they are read as they were spelled, and its own bits come after them.

@@ -1,7 +1,8 @@
 -- What the proofs of this crate cite of what lies below, and of its own definitions.
 pub use Rattle.std.proofs.Common.{Err, None, Ok, Option, Some, is_some, rules, ◌≢◌, ◌⊎◌}
-pub use Rattle.std.proofs.lemmas.Bool.{and_from, and_parts, cases_Bool, eq-eqb, eqb-false, eqb-true, le-leb, leb-true}
+pub use Rattle.std.proofs.lemmas.Bool.{and_from, and_parts, cases_Bool, eq-eqb, eqb-false, eqb-true, false_from_ne_true, le-leb, leb-true}
 pub use Rattle.std.proofs.lemmas.List.Elements.{All-from_get_or}
+pub use Rattle.std.specs.Prelude.{IsTrue, ◌↔◌}
 pub use Rattle.chip_core.proofs.Common.{Bool, List, [], ap, append-nil, append_assoc, arith, cond, digit, digit_again, drop, drop_at, false}
 pub use Rattle.chip_core.proofs.Common.{get_or, get_or_from_slice_get, inl, inr, length, length-append, length-drop, nat_le, number, refl}
 pub use Rattle.chip_core.proofs.Common.{subst, sym, take, take-append-drop, true, ℕ, ◌%◌, ◌&&◌, ◌*◌, ◌++◌, ◌+◌, ◌-◌, ◌/◌, ◌<◌, ◌^◌, ◌∙◌}

@@ -14,7 +14,7 @@ use crate::fields::Head;
 use crate::layouts::HEAD;
 use chip_core::{Bits, CheckForm, Numbers};
 use message_layout::{BitSlice, Contents, FieldValues, append, read_fields};
-use quality_bits::{Kind, MessageFault, body_count, capsule_of};
+use quality_bits::{Kind, MessageFault, body_count, capsule_of, fills_capsule};
 use std::marker::Model;
 
 /// A signaling message of the traffic channel that has a spelling: its head and its content.
@@ -103,7 +103,7 @@ impl TrafficMessage {
     fn read(body: &BitSlice<'_>) -> Option<TrafficMessage>
         ensures { result ≡ traffic_body_reading body.now }
     {
-        if !fills_capsule(body) {
+        if !has_head(body) {
             return None;
         }
         let (values, from) = read_fields(HEAD.fixed, body, 0)?;
@@ -124,12 +124,11 @@ impl TrafficMessage {
     }
 }
 
-/// Whether a body's length is that of a capsule of 5 to 148 octets, and has a head.
-#[tactic(auto, unfolding(crate::specs::Reading::is_traffic_body))]
-fn fills_capsule(body: &BitSlice<'_>) -> bool
+/// Whether a body fits a capsule, and has at least a type and a head.
+fn has_head(body: &BitSlice<'_>) -> bool
     ensures { result ≡ is_traffic_body body.now }
 {
-    body.len() % 8 == 0 && body.len() >= 17 && body.len() <= 1160
+    body.len() >= 17 && fills_capsule(Kind::M16, body.len())
 }
 
 /// The head of these values, of which the first is the type.

@@ -1,19 +1,15 @@
-use Rattle.paging_message.proofs.Common.{Ok, Err, rules, M30, IsPagingMessage, paging_capsule, paging_reading, Tells, bad_body_told, told}
-use Rattle.paging_message.proofs.Common.{uncapsuled, ◌≡◌}
+use Rattle.paging_message.proofs.Common.{rules, M30, IsPagingMessage, paging_capsule, paging_reading, Tells, bad_body_told, told}
+use Rattle.paging_message.proofs.Common.{uncapsuled}
 use Rattle.paging_message.proofs.Readings.{are_read}
 use Rattle.paging_message.proofs.message.PagingMessage.decode.Goals.{After-from_residual, After-ok_or}
 use Rattle.paging_message.proofs.message.PagingMessage.decode.Goals as goal
-
--- a fault is no value
-err_is_no_ok : {A E : Type 0} {value : A} {fault : E} → ¬ (Err fault ≡ Ok value)
-err_is_no_ok same = cc
 
 -- what is known at the two exits
 uncapsuled_at : (c : After-from_residual) →
     Tells IsPagingMessage (paging_capsule c.args.form) (paging_reading c.args.form) c.args.capsule.now c.from_residual.result
 uncapsuled_at c =
     uncapsuled c.args.capsule.now c.from_residual.result (are_read c.args.form)
-    (λ inside fills spelled. err_is_no_ok (c.in_err-count.ensures.only inside fills spelled)) (search rules)
+    c.in_err-count.ensures.only (search rules)
 
 told_at : (c : After-ok_or) →
     Tells IsPagingMessage (paging_capsule c.args.form) (paging_reading c.args.form) c.args.capsule.now c.ok_or.result

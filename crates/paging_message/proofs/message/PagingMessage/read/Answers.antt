@@ -5,7 +5,10 @@ use Rattle.paging_message.proofs.message.PagingMessage.read.Goals as goal
 
 pub returns-then-not-fills_capsule : goal.returns-then-not-fills_capsule
 returns-then-not-fills_capsule c =
-    no_body c.args.body.now (λ fills. cc (c.fills_capsule.ensures.1 fills, c.if-not-fills_capsule.true))
+    no_body c.args.body.now (λ fills. cc (
+      (c.fills_capsule.ensures c.args.body.now (sym c.len.ensures.value)).1 fills,
+      c.if-not-fills_capsule.true,
+    ))
 
 pub returns-in_err-kind : goal.returns-in_err-kind
 returns-in_err-kind c =
@@ -24,21 +27,21 @@ read_from-requires-clause-room c =
     subst (λ (s : MessageShape). count_in s.records (length later) ≤ 128) (sym c.layout_of.ensures.shape)
     (few_records c.in_ok-kind.kind (length later)
     (typed_length body later c.in_ok-kind.kind
-    (c.fills_capsule.ensures.0 c.if-not-fills_capsule.false) c.in_ok-kind.ensures.kind))
+    ((c.fills_capsule.ensures body (sym c.len.ensures.value)).0 c.if-not-fills_capsule.false) c.in_ok-kind.ensures.kind))
 
 pub returns-in_err-contents : goal.returns-in_err-contents
 returns-in_err-contents c =
     let body = c.args.body.now in
     let none : c.from_residual-in_err-contents.result ≡ None = cc in
     none ∙ told body (drop c.in_ok-kind.from body) c.in_ok-kind.kind _ None
-    (c.fills_capsule.ensures.0 c.if-not-fills_capsule.false) c.in_ok-kind.ensures.kind
+    ((c.fills_capsule.ensures body (sym c.len.ensures.value)).0 c.if-not-fills_capsule.false) c.in_ok-kind.ensures.kind
     c.layout_of.ensures.shape c.in_err-contents.ensures.reading
 
 pub of-requires : goal.of-requires
 of-requires c =
     let body = c.args.body.now in
     told_is body (drop c.in_ok-kind.from body) c.in_ok-kind.kind _ c.in_ok-contents.contents
-    (c.fills_capsule.ensures.0 c.if-not-fills_capsule.false) c.in_ok-kind.ensures.kind
+    ((c.fills_capsule.ensures body (sym c.len.ensures.value)).0 c.if-not-fills_capsule.false) c.in_ok-kind.ensures.kind
     c.layout_of.ensures.shape c.in_ok-contents.ensures.found
 
 pub returns : goal.returns
@@ -46,5 +49,5 @@ returns c =
     let body = c.args.body.now in
     ap Some c.of.ensures
     ∙ told body (drop c.in_ok-kind.from body) c.in_ok-kind.kind _ (Some c.in_ok-contents.contents)
-    (c.fills_capsule.ensures.0 c.if-not-fills_capsule.false) c.in_ok-kind.ensures.kind
+    ((c.fills_capsule.ensures body (sym c.len.ensures.value)).0 c.if-not-fills_capsule.false) c.in_ok-kind.ensures.kind
     c.layout_of.ensures.shape c.in_ok-contents.ensures.reading

@@ -1,4 +1,4 @@
-use Rattle.sync_message.proofs.Common.{rules, refl, ◌≡◌, None, Some, Ok, Err, M30, sync_capsule, IsSyncMessage}
+use Rattle.sync_message.proofs.Common.{rules, refl, None, Some, Ok, Err, M30, sync_capsule, IsSyncMessage}
 use Rattle.quality_bits.proofs.Decoded.{Tells, bad_body_told, told, uncapsuled}
 use Rattle.quality_bits.specs.declared.message_fault.MessageFault.TheVariants.{BadBody}
 use Rattle.sync_message.specs.Reading.{sync_reading}
@@ -6,16 +6,12 @@ use Rattle.sync_message.proofs.Readings.{are_read}
 use Rattle.sync_message.proofs.message.SyncMessage.decode.Goals.{After-from_residual, In-None, In-Some}
 use Rattle.sync_message.proofs.message.SyncMessage.decode.Goals as goal
 
--- a fault is no value
-err_is_no_ok : {A E : Type 0} {value : A} {fault : E} → ¬ (Err fault ≡ Ok value)
-err_is_no_ok same = cc
-
 -- what is known at the three exits
 uncapsuled_at : (c : After-from_residual) →
     Tells IsSyncMessage (sync_capsule c.args.form) (sync_reading c.args.form) c.args.capsule.now c.from_residual.result
 uncapsuled_at c =
     uncapsuled c.args.capsule.now c.from_residual.result (are_read c.args.form)
-    (λ inside fills spelled. err_is_no_ok (c.in_err-count.ensures.only inside fills spelled)) (search rules)
+    c.in_err-count.ensures.only (search rules)
 
 read_at : (c : In-Some) →
     Tells IsSyncMessage (sync_capsule c.args.form) (sync_reading c.args.form) c.args.capsule.now (Ok c.in-Some.fields)

@@ -6,7 +6,7 @@ use Rattle.traffic_message.proofs.message.TrafficMessage.read.Goals as goal
 
 -- what is known after the head
 tested : (c : After-head_from-head) → is_traffic_body c.args.body.now ≡ true
-tested c = sym c.fills_capsule.ensures ∙ c.if-not-fills_capsule.false
+tested c = sym c.has_head.ensures ∙ c.if-not-has_head.false
 
 parts : (c : After-head_from-head) →
     AreParts c.args.body.now c.in_ok-values.values (drop c.in_ok-values.from c.args.body.now)
@@ -23,19 +23,19 @@ following c k read typed e =
     part_read c.args.body.now c.in_ok-values.values (drop c.in_ok-values.from c.args.body.now) k
     c.head_from-head.result read (tested c) (parts c) typed c.head_from-head.ensures e
 
-pub returns-then-not-fills_capsule : goal.returns-then-not-fills_capsule
-returns-then-not-fills_capsule c =
-    no_body c.args.body.now (sym c.fills_capsule.ensures ∙ c.if-not-fills_capsule.true)
+pub returns-then-not-has_head : goal.returns-then-not-has_head
+returns-then-not-has_head c =
+    no_body c.args.body.now (sym c.has_head.ensures ∙ c.if-not-has_head.true)
 
 pub returns-in_err-values : goal.returns-in_err-values
 returns-in_err-values c =
-    absurd (no_head c.args.body.now (sym c.fills_capsule.ensures ∙ c.if-not-fills_capsule.false)
+    absurd (no_head c.args.body.now (sym c.has_head.ensures ∙ c.if-not-has_head.false)
     c.in_err-values.ensures.values)
 
 pub head_from-head-requires : goal.head_from-head-requires
 head_from-head-requires c =
     (are_parts c.args.body.now c.in_ok-values.values (drop c.in_ok-values.from c.args.body.now)
-    (sym c.fills_capsule.ensures ∙ c.if-not-fills_capsule.false) c.in_ok-values.ensures.values).fit
+    (sym c.has_head.ensures ∙ c.if-not-has_head.false) c.in_ok-values.ensures.values).fit
 
 pub overflow_cast-get : goal.overflow_cast-get
 overflow_cast-get c =
