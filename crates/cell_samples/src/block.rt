@@ -10,7 +10,7 @@ ghost use Rattle.cell_samples.specs.Channels.{carrier_of};
 ghost use Rattle.cell_plan.specs.Signal.{scaled};
 ghost use Rattle.cell_plan.specs.Transmitter.{IsPoint};
 
-use crate::channel::Channel;
+use crate::channel::CellChannel;
 use chip_core::air::WALSH_CHIPS;
 use chip_core::{Pair, Sample};
 use std::marker::Model;
@@ -36,7 +36,7 @@ type BlockChips = [Sample; BLOCK];
 /// Contracts see the channels and the factor of the link.
 #[derive(Drop)]
 pub struct Block {
-    channels: Vec<Channel>,
+    channels: Vec<CellChannel>,
     factor: Pair,
     levels: Levels,
     chips: BlockChips,
@@ -67,7 +67,7 @@ fn keep_level(levels: &mut Levels, channel: usize, level: i64) -> bool
 
 /// Sets `levels` to those of the channels over the 64 chips from a local chip on, and returns
 /// whether they are unchanged.
-fn keep_levels(channels: &mut [Channel], first: u64, levels: &mut Levels) -> bool
+fn keep_levels(channels: &mut [CellChannel], first: u64, levels: &mut Levels) -> bool
     requires whole { first % 64 ≡ 0 }
     requires soon { first < 2 ^ 34 }
     requires few { length channels.old ≤ 128 }
@@ -103,7 +103,7 @@ fn with_level(sum: Pair, level: i64, factor: Pair) -> Pair
 ///
 /// Over a block each channel has one level, so the rows' transform of the levels gives the sums:
 /// the sign of row n at chip k is that of row k at chip n.
-fn sums_of(channels: &[Channel], factor: Pair, levels: &Levels) -> BlockSums
+fn sums_of(channels: &[CellChannel], factor: Pair, levels: &Levels) -> BlockSums
     requires few { length channels.now ≤ 128 }
     requires factor { IsWithin 32768 factor }
     requires small { All IsLevel levels.now }
@@ -143,7 +143,7 @@ fn narrow(sums: &BlockSums, chips: &mut BlockChips)
 /// Sets `levels` and `chips` to those of the block that begins with a local chip. If no channel's
 /// level changed, the chips are reused.
 fn renew(
-    channels: &mut [Channel],
+    channels: &mut [CellChannel],
     factor: Pair,
     first: u64,
     levels: &mut Levels,
@@ -206,7 +206,7 @@ fn turn(chips: &[Sample], signs: &[(i8, i8)], samples: &mut [Sample])
 
 impl Block {
     /// The channels of a cell with this factor of its link, before they are asked for a block.
-    pub fn new(channels: Vec<Channel>, factor: Pair) -> Block
+    pub fn new(channels: Vec<CellChannel>, factor: Pair) -> Block
         requires few { length channels.items ≤ 128 }
         requires factor { IsWithin 32768 factor }
         requires quiet { AreQuiet (map carrier_of channels.items) factor }

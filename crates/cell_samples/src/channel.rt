@@ -16,7 +16,7 @@ use std::marker::Model;
 ///
 /// TIA/EIA-95-B, 7.1.3.1: each channel is a stream of symbols that its Walsh row spreads.
 #[derive(Drop)]
-pub struct Channel {
+pub struct CellChannel {
     gain: u16,
     row: u8,
     first: u64,
@@ -26,7 +26,7 @@ pub struct Channel {
     symbols: Bits,
 }
 
-impl Model for Channel {
+impl Model for CellChannel {
     ghost use Rattle.cell_samples.specs.Channels.{ChannelState};
 
     ghost Value = { ChannelState };
@@ -52,15 +52,15 @@ fn signed(gain: u16, symbol: bool) -> i64
     }
 }
 
-impl Channel {
+impl CellChannel {
     /// A channel whose first frame begins at a local chip.
-    pub fn open(gain: u16, row: u8, first: u64, mut source: SymbolSource) -> Channel
+    pub fn open(gain: u16, row: u8, first: u64, mut source: SymbolSource) -> CellChannel
         requires row { row < 64 }
         requires whole { first % 64 ≡ 0 }
         ensures { result ≡ record { gain = gain; row = row; first = first; source = source } }
     {
         let symbols = source.symbols(0);
-        Channel {
+        CellChannel {
             gain,
             row,
             first,

@@ -13,7 +13,7 @@ ghost use Rattle.cell_plan.specs.Signal.{carriers, paging_carrier, samples_of, t
 ghost use Rattle.cell_plan.specs.Transmitter.{IsSendableSync, header_of, phase_at, version_of};
 
 use crate::block::{BLOCK, Block};
-use crate::channel::Channel;
+use crate::channel::CellChannel;
 use crate::continued::ContinuedEncoder;
 use crate::frame_source::FrameSource;
 use crate::page_cycle::PageCycle;
@@ -94,7 +94,7 @@ fn paging_rate(sync: Option<SyncPlan>) -> Rate
 }
 
 /// A paging channel of a cell, whose frames begin with local chip 0 (TIA/EIA-95-B, 7.1.3.4).
-fn paging_channel(plan: &CellPlan, paging: &PagingPlan) -> Channel
+fn paging_channel(plan: &CellPlan, paging: &PagingPlan) -> CellChannel
     requires pn { plan.now.cell.pn < 512 }
     requires lc { IsState plan.now.cell.lc }
     requires paging { IsPagingPlan (sent_paging_rate plan.now.sync) paging.now }
@@ -104,7 +104,7 @@ fn paging_channel(plan: &CellPlan, paging: &PagingPlan) -> Channel
     let rate = paging_rate(plan.sync);
     let cycle = PageCycle::new(&plan.cell, mask, rate, paging.pages.as_slice());
     let encoder = ContinuedEncoder::new(FrameSource::Paging(cycle));
-    Channel::open(
+    CellChannel::open(
         paging.gain,
         paging.number,
         0,
@@ -114,10 +114,10 @@ fn paging_channel(plan: &CellPlan, paging: &PagingPlan) -> Channel
 
 /// Channels, and after them the paging channels of a cell.
 fn with_paging(
-    mut channels: Vec<Channel>,
+    mut channels: Vec<CellChannel>,
     plan: &CellPlan,
     paging: &[PagingPlan],
-) -> Result<Vec<Channel>, OutOfMemory>
+) -> Result<Vec<CellChannel>, OutOfMemory>
     requires pn { plan.now.cell.pn < 512 }
     requires lc { IsState plan.now.cell.lc }
     requires paging { All (IsPagingPlan (sent_paging_rate plan.now.sync)) paging.now }
@@ -136,7 +136,7 @@ fn traffic_channel(
     alloc: Global,
     plan: &CellPlan,
     traffic: &TrafficPlan,
-) -> Result<Channel, OutOfMemory>
+) -> Result<CellChannel, OutOfMemory>
     requires lc { IsState plan.now.cell.lc }
     requires traffic { IsTrafficPlan traffic.now }
     ensures { IfOk result (λ channel. carrier_of channel ≡ traffic_carrier plan.now traffic.now) }
@@ -146,16 +146,16 @@ fn traffic_channel(
     let cycle = TrafficCycle::new(&plan.cell, mask, traffic.offset, frames);
     let first = cycle.first_chip(0);
     let source = SymbolSource::Traffic(cycle);
-    Ok(Channel::open(traffic.gain, traffic.row, first, source))
+    Ok(CellChannel::open(traffic.gain, traffic.row, first, source))
 }
 
 /// Channels, and after them the traffic channels of a cell.
 fn with_traffic(
     alloc: Global,
-    mut channels: Vec<Channel>,
+    mut channels: Vec<CellChannel>,
     plan: &CellPlan,
     traffic: &[TrafficPlan],
-) -> Result<Vec<Channel>, OutOfMemory>
+) -> Result<Vec<CellChannel>, OutOfMemory>
     requires lc { IsState plan.now.cell.lc }
     requires traffic { All IsTrafficPlan traffic.now }
     ensures { IfOk result (λ all. map carrier_of all.items ≡
@@ -171,7 +171,7 @@ fn with_traffic(
 /// with the cell's code, the paging channels and the traffic channels (TIA/EIA-95-B, 7.1.3.2 to
 /// 7.1.3.5).
 #[tactic(auto, unfolding(cell_plan::specs::Signal::carriers))]
-fn channels_for(alloc: Global, plan: &CellPlan) -> Result<Vec<Channel>, OutOfMemory>
+fn channels_for(alloc: Global, plan: &CellPlan) -> Result<Vec<CellChannel>, OutOfMemory>
     requires sync { IsSendableSync plan.now plan.now.sync }
     requires pn { plan.now.cell.pn < 512 }
     requires lc { IsState plan.now.cell.lc }
@@ -180,13 +180,13 @@ fn channels_for(alloc: Global, plan: &CellPlan) -> Result<Vec<Channel>, OutOfMem
     ensures { IfOk result (λ channels. map carrier_of channels.items ≡ carriers plan.now) }
 {
     let mut channels = Vec::with_capacity(alloc, FIRST_ROOM)?;
-    let pilot = Channel::open(plan.pilot.gain, PILOT_ROW, 0, SymbolSource::Pilot);
+    let pilot = CellChannel::open(plan.pilot.gain, PILOT_ROW, 0, SymbolSource::Pilot);
     channels.push(pilot)?;
     if let Some(sync) = plan.sync {
         let sendings = FrameSource::Sync(Sendings::new(&plan.cell, &sync.message));
         let source = SymbolSource::Continued(ContinuedEncoder::new(sendings));
         let first = OFFSET_CHIPS * u64::from(plan.cell.pn);
-        channels.push(Channel::open(sync.gain, SYNC_ROW, first, source))?;
+        channels.push(CellChannel::open(sync.gain, SYNC_ROW, first, source))?;
     }
     let continued = with_paging(channels, plan, plan.paging.as_slice())?;
     with_traffic(alloc, continued, plan, plan.traffic.as_slice())

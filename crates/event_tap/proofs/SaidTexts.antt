@@ -11,7 +11,7 @@ use Rattle.line_text.proofs.Digits.{all_below}
 use Rattle.message_layout.specs.Shapes.{line_names, shape, MessageShape}
 use Rattle.message_layout.specs.Spelling.{IsOf}
 use Rattle.message_layout.specs.declared.contents.Contents.{Contents}
-use Rattle.message_layout.specs.declared.layout.Layout.{Layout}
+use Rattle.message_layout.specs.declared.layout.MessageLayout.{MessageLayout}
 use Rattle.paging_message.proofs.ByLayout.{passes}
 use Rattle.paging_message.specs.Layouts.{paging_names_of, paging_shape_of}
 
@@ -114,7 +114,7 @@ numbers_fit s c i j is few h within =
 -- Contents of a layout that passes the tests of lines have all that writing the line asks for: each
 -- of the seven tests gives one bound or says that a name is ASCII, and that values fit their widths
 -- is known of the contents.
-pub is_shown : (layout : Layout) (c : Contents) → IsOf (shape layout) c →
+pub is_shown : (layout : MessageLayout) (c : Contents) → IsOf (shape layout) c →
     has_line (line_names layout) (shape layout) ≡ true → IsShown layout c
 unfolding has_line
 is_shown layout c is h =

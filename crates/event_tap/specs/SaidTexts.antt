@@ -9,7 +9,7 @@ use Rattle.message_layout.specs.Contents.{height, shares}
 use Rattle.message_layout.specs.Shapes.{line_names, shape, LineNames, MessageShape}
 use Rattle.message_layout.specs.Spelling.{IsOf}
 use Rattle.message_layout.specs.declared.contents.Contents.{Contents}
-use Rattle.message_layout.specs.declared.layout.Layout.{Layout}
+use Rattle.message_layout.specs.declared.layout.MessageLayout.{MessageLayout}
 use Rattle.event_tap.specs.Parts.{are_short, commas, named_values, rest_text}
 
 -- the number of record i in a further column, after a slash, where records have one there
@@ -106,7 +106,7 @@ unfoldable pub has_line : LineNames → MessageShape → Bool
 has_line names s = list_all (λ test. test) (line_tests names s)
 
 -- what is known of contents where it is so
-pub record IsShown (layout : Layout) (c : Contents) : Type 0 where
+pub record IsShown (layout : MessageLayout) (c : Contents) : Type 0 where
   pub said : IsOf (shape layout) c
   pub word : IsAscii layout.name.now
   pub list : IsAscii layout.records.name.now

@@ -12,12 +12,12 @@ use crate::items::{Listed, append_items};
 use crate::parts::{append_few_rest, append_rest, append_values};
 use chip_core::{Bits, Numbers};
 use line_text::Text;
-use message_layout::{Contents, Layout, Records};
+use message_layout::{Contents, MessageLayout, Records};
 
 /// Adds the content of a message by the names of its layout, or its type and bits if the layout has
 /// no names, and ends the line.
 #[tactic(auto, unfolding(crate::specs::SaidTexts::message_text))]
-pub(crate) fn append_message(text: &mut Text, kind: u8, layout: &Layout, contents: &Contents)
+pub(crate) fn append_message(text: &mut Text, kind: u8, layout: &MessageLayout, contents: &Contents)
     requires start { length text.old ≤ 95 }
     requires said { IsOf (shape layout.now) contents.now }
     requires line { has_line (line_names layout.now) (shape layout.now) ≡ true }
@@ -46,7 +46,7 @@ fn append_kind(text: &mut Text, kind: u8, bits: &Bits)
 }
 
 /// Adds the content of a message by the names of its layout, and ends the line.
-fn append_said(text: &mut Text, layout: &Layout, contents: &Contents)
+fn append_said(text: &mut Text, layout: &MessageLayout, contents: &Contents)
     requires start { length text.old ≤ 95 }
     requires shown { IsShown layout.now contents.now }
     ensures value { text.new ≡ text.old ++ said_text (line_names layout.now)

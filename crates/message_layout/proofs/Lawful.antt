@@ -3,7 +3,7 @@ use Rattle.message_layout.proofs.Common.{◌≡◌, ℕ, ◌+◌, ◌*◌, ◌/�
 use Rattle.message_layout.proofs.Common.{nat_le, Option, None, Some, and_parts, leb-true, ltb-true, div-mul-add, le-div, div-mul-le_self}
 use Rattle.message_layout.proofs.Common.{total_width, AreWidths, count_in, share, are_widths, ends, is_lawful, group_is_told, AreNarrow}
 use Rattle.message_layout.proofs.Common.{MessageShape, IsRest, length-map, shape}
-use Rattle.message_layout.specs.declared.layout.Layout.{Layout}
+use Rattle.message_layout.specs.declared.layout.MessageLayout.{MessageLayout}
 
 widths_from : (most : ℕ) (ws : List ℕ) → most ≤ 64 → are_widths most ws ≡ true → AreWidths ws
 widths_from most [] small h = tt
@@ -74,15 +74,15 @@ lawful s h =
     }
 
 -- so its tables are short
-pub fixed_few : (layout : Layout) → is_lawful (shape layout) ≡ true → length layout.fixed.now ≤ 48
+pub fixed_few : (layout : MessageLayout) → is_lawful (shape layout) ≡ true → length layout.fixed.now ≤ 48
 fixed_few layout h =
     omega (arith, (lawful (shape layout) h).fixed_room, length-map layout.fixed.now (λ row. row.1))
 
-pub group_few : (layout : Layout) → is_lawful (shape layout) ≡ true → length layout.group.fields.now ≤ 48
+pub group_few : (layout : MessageLayout) → is_lawful (shape layout) ≡ true → length layout.group.fields.now ≤ 48
 group_few layout h =
     omega (arith, (lawful (shape layout) h).group_room, length-map layout.group.fields.now (λ row. row.1))
 
-pub records_few : (layout : Layout) → is_lawful (shape layout) ≡ true → length layout.records.fields.now ≤ 3
+pub records_few : (layout : MessageLayout) → is_lawful (shape layout) ≡ true → length layout.records.fields.now ≤ 3
 records_few layout h =
     omega (arith, (lawful (shape layout) h).few, length-map layout.records.fields.now (λ row. row.1))
 

@@ -2,7 +2,7 @@
 use Rattle.message_layout.specs.Common.{total_width, Presence, Never, Flagged, UnlessLeft}
 use Rattle.std.specs.Prelude.{ℕ, ◌≤◌, ◌&&◌, Bool, true, false, List, [], ◌∷◌, length, map, nat_lt}
 use Rattle.std.specs.Prelude.{nat_le, Option, None, Some}
-use Rattle.message_layout.specs.declared.layout.Layout.{Layout}
+use Rattle.message_layout.specs.declared.layout.MessageLayout.{MessageLayout}
 
 -- the widths of the fields, and what stands among them
 pub record MessageShape : Type 0 where
@@ -16,7 +16,7 @@ pub record MessageShape : Type 0 where
   pub most : Option ℕ
 
 -- those of a layout
-abbrev pub shape : Layout → MessageShape
+abbrev pub shape : MessageLayout → MessageShape
 shape layout = record {
   fixed = map (λ row. row.1) layout.fixed.now;
   presence = layout.group.presence;
@@ -34,7 +34,7 @@ pub record LineNames : Type 0 where
   pub fixed : List (List ℕ)
   pub list : List ℕ
 
-abbrev pub line_names : Layout → LineNames
+abbrev pub line_names : MessageLayout → LineNames
 line_names layout = record {
   word = layout.name.now;
   fixed = map (λ row. row.0.now) layout.fixed.now;

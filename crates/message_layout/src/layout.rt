@@ -1,6 +1,6 @@
 //! Layouts as tables.
 //!
-//! A [`Layout`] has five parts, one after another, each of which may be empty:
+//! A [`MessageLayout`] has five parts, one after another, each of which may be empty:
 //!
 //! - fixed fields, which each body has;
 //! - a group of fields, which is there where a bit before it is 1, or where another number of bits
@@ -37,7 +37,7 @@ pub type FieldRow = (&'static str, u8);
 /// A layout has at most 48 fixed fields and 48 fields in its group, of 1 to 64 bits each, at most
 /// three fields in a record, of 1 to 32 bits each, and a rest that is shorter than a record.
 #[derive(Clone, Copy)]
-pub struct Layout {
+pub struct MessageLayout {
     /// The name of such a message in lines of text; empty if the line has another.
     pub name: &'static str,
     /// The fields that each body has.
@@ -109,7 +109,7 @@ pub const NO_RECORDS: Records = Records {
 };
 
 /// The layout without fields: all bits, as they are.
-pub const ALL_BITS: Layout = Layout {
+pub const ALL_BITS: MessageLayout = MessageLayout {
     name: "",
     fixed: &[],
     group: NO_GROUP,

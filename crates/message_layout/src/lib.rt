@@ -16,8 +16,8 @@ mod writing;
 
 pub use contents::Contents;
 pub use layout::{
-    ALL_BITS, FieldRow, Group, Layout, NO_GROUP, NO_OCTETS, NO_RECORDS, Octets, Presence, Records,
-    name_in, width_in,
+    ALL_BITS, FieldRow, Group, MessageLayout, NO_GROUP, NO_OCTETS, NO_RECORDS, Octets, Presence,
+    Records, name_in, width_in,
 };
 pub use reading::{read, read_fields, read_from, read_kind};
 pub use slice::BitSlice;

@@ -18,14 +18,14 @@ ghost use Rattle.message_layout.specs.Shapes.{is_lawful, shape, AreNarrow};
 ghost use Rattle.message_layout.specs.Spelling.{spelling, IsOf};
 
 use crate::contents::Contents;
-use crate::layout::{FieldRow, Group, Layout, Octets, Presence, Records, width_in};
+use crate::layout::{FieldRow, Group, MessageLayout, Octets, Presence, Records, width_in};
 use crate::slice::BitSlice;
 use crate::values::FieldValues;
 use chip_core::{Bits, Numbers};
 
 /// Returns the contents that bits spell by a layout, with at most 128 records; `None` exactly if
 /// they spell none.
-pub fn read(layout: &Layout, bits: &Bits) -> Option<Contents>
+pub fn read(layout: &MessageLayout, bits: &Bits) -> Option<Contents>
     requires lawful { is_lawful (shape layout.now) ≡ true }
     requires room { count_in (shape layout.now).records (length bits.now) ≤ 128 }
     ensures found { IfSome result (λ c.
@@ -40,7 +40,7 @@ pub fn read(layout: &Layout, bits: &Bits) -> Option<Contents>
 /// Returns the contents that the bits from a place on spell by a layout, with at most 128 records;
 /// `None` exactly if they spell none.
 #[inline(always)]
-pub fn read_from(layout: &Layout, bits: &BitSlice<'_>, from: u16) -> Option<Contents>
+pub fn read_from(layout: &MessageLayout, bits: &BitSlice<'_>, from: u16) -> Option<Contents>
     requires lawful { is_lawful (shape layout.now) ≡ true }
     requires within { from ≤ length bits.now }
     requires room { count_in (shape layout.now).records (length (drop from bits.now)) ≤ 128 }
@@ -65,7 +65,7 @@ pub fn read_kind(bits: &BitSlice<'_>) -> Option<(u8, u16)>
 /// Reads the bits from a place on, part by part.
 #[tactic(auto, unfolding(crate::specs::Reading::reading))]
 #[inline(always)]
-fn read_parts(layout: &Layout, bits: &BitSlice<'_>, from: u16) -> Option<Contents>
+fn read_parts(layout: &MessageLayout, bits: &BitSlice<'_>, from: u16) -> Option<Contents>
     requires lawful { is_lawful (shape layout.now) ≡ true }
     requires within { from ≤ length bits.now }
     requires room { count_in (shape layout.now).records (length (drop from bits.now)) ≤ 128 }

@@ -9,13 +9,13 @@ ghost use Rattle.message_layout.specs.Spelling.{group_fields, octet_bits, spelli
 ghost use Rattle.message_layout.specs.Spelling.{IsOf};
 
 use crate::contents::Contents;
-use crate::layout::{FieldRow, Group, Layout, Octets, Presence, width_in};
+use crate::layout::{FieldRow, Group, MessageLayout, Octets, Presence, width_in};
 use crate::values::FieldValues;
 use chip_core::{Bits, Numbers};
 
 /// Adds the bits that contents of a layout are sent as to the end of a body, if it is known to have
 /// room.
-pub fn append(layout: &Layout, contents: &Contents, body: &mut Bits)
+pub fn append(layout: &MessageLayout, contents: &Contents, body: &mut Bits)
     requires lawful { is_lawful (shape layout.now) ≡ true }
     requires contents { IsOf (shape layout.now) contents.now }
     requires room { length body.old + length (spelling (shape layout.now) contents.now) ≤ 1184 }

@@ -3,12 +3,12 @@
 ghost use Rattle.std.specs.Prelude.{◌≡◌, ◌<◌, IfSome};
 
 use chip_core::{BitWriter, Bits, Full};
-use message_layout::{Contents, Group, Layout, Octets, Presence, Records, append, read};
+use message_layout::{Contents, Group, MessageLayout, Octets, Presence, Records, append, read};
 use std::test::Fail;
 
 /// Two fields, two more after a bit, octets after two bits that are 0 and their count, records of
 /// three fields, and at most 7 bits.
-const ALL_PARTS: Layout = Layout {
+const ALL_PARTS: MessageLayout = MessageLayout {
     name: "all",
     fixed: &[("first", 5), ("second", 42)],
     group: Group {

@@ -5,7 +5,7 @@ ghost use Rattle.paging_message.specs.Channels.{channel_contents, channel_values
 ghost use Rattle.paging_message.specs.Channels.{IsChannelList};
 
 use chip_core::{Bits, Numbers};
-use message_layout::{ALL_BITS, Contents, Layout, Records};
+use message_layout::{ALL_BITS, Contents, MessageLayout, Records};
 use std::marker::Model;
 
 /// The names of the fields of the CDMA Channel List Message before its frequencies, each with its
@@ -15,7 +15,7 @@ use std::marker::Model;
 pub const CHANNEL_FIELDS: [(&str, u8); 2] = [("pn", 9), ("seq", 6)];
 
 /// The layout after the type: the fields, and CDMA_FREQ of each channel.
-pub(crate) const CHANNEL_LIST: Layout = Layout {
+pub(crate) const CHANNEL_LIST: MessageLayout = MessageLayout {
     name: "channels",
     fixed: &CHANNEL_FIELDS,
     records: Records {

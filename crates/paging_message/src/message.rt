@@ -10,7 +10,7 @@ use crate::neighbors::{NEIGHBOR_LIST, NeighborList};
 use crate::other::OtherMessage;
 use crate::system::{SYSTEM_PARAMETERS, SystemParameters};
 use chip_core::{Bits, CheckForm};
-use message_layout::{ALL_BITS, BitSlice, Contents, Layout, append, read_from, read_kind};
+use message_layout::{ALL_BITS, BitSlice, Contents, MessageLayout, append, read_from, read_kind};
 use quality_bits::{Kind, MessageFault, body_count, capsule_of, fills_capsule};
 
 /// A message of the paging channel that has a spelling.
@@ -126,7 +126,7 @@ impl PagingMessage {
     }
 
     /// Returns the layout of its content after the type.
-    pub fn layout(&self) -> Layout
+    pub fn layout(&self) -> MessageLayout
         ensures shape { shape result ≡ paging_shape_of (paging_kind_of self.now) }
         ensures names { line_names result ≡ paging_names_of (paging_kind_of self.now) }
     {
@@ -148,7 +148,7 @@ impl PagingMessage {
 }
 
 /// Returns the layout of the content after a message type.
-fn layout_of(kind: u8) -> Layout
+fn layout_of(kind: u8) -> MessageLayout
     ensures shape { shape result ≡ paging_shape_of kind }
     ensures names { line_names result ≡ paging_names_of kind }
 {

@@ -5,7 +5,7 @@ ghost use Rattle.paging_message.specs.Neighbors.{neighbor_contents, neighbor_val
 ghost use Rattle.paging_message.specs.Neighbors.{neighbors_from, IsNeighborList};
 
 use chip_core::{Bits, Numbers};
-use message_layout::{ALL_BITS, Contents, Layout, Records};
+use message_layout::{ALL_BITS, Contents, MessageLayout, Records};
 use std::marker::Model;
 
 /// The names of the fields of the Neighbor List Message before its neighbors, each with its number
@@ -15,7 +15,7 @@ use std::marker::Model;
 pub const NEIGHBOR_FIELDS: [(&str, u8); 3] = [("pn", 9), ("seq", 6), ("inc", 4)];
 
 /// The layout after the type: the fields, and NGHBR_CONFIG and NGHBR_PN of each neighbor.
-pub(crate) const NEIGHBOR_LIST: Layout = Layout {
+pub(crate) const NEIGHBOR_LIST: MessageLayout = MessageLayout {
     name: "neighbors",
     fixed: &NEIGHBOR_FIELDS,
     records: Records {

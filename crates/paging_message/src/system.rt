@@ -7,7 +7,7 @@ ghost use Rattle.paging_message.specs.System.{system_of, system_values, system_w
 
 use chip_core::{Bits, Numbers};
 use message_layout::{
-    ALL_BITS, Contents, FieldValues, Layout, field_rows, fields_of_values, name_in,
+    ALL_BITS, Contents, FieldValues, MessageLayout, field_rows, fields_of_values, name_in,
     values_of_fields,
 };
 use std::marker::Model;
@@ -44,7 +44,7 @@ pub fn system_name(i: usize) -> &'static str
 }
 
 /// The layout after the type: the fields, and all bits after them.
-pub(crate) const SYSTEM_PARAMETERS: Layout = Layout {
+pub(crate) const SYSTEM_PARAMETERS: MessageLayout = MessageLayout {
     name: "system",
     fixed: &SYSTEM_FIELDS,
     ..ALL_BITS

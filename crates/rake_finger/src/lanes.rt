@@ -70,7 +70,7 @@ fn covered_products(real: i32x8, imaginary: i32x8, row: &RowSigns, group: usize)
 /// The sums of the products of samples with the conjugates of their points of the code, as they are
 /// and with the signs of a Walsh row, whose chip 0 falls on the first sample. The samples are whole
 /// groups of eight.
-pub(crate) fn sums_on_lanes(samples: &[Sample], signs: &[(i8, i8)], row: &RowSigns) -> Sums
+pub(crate) fn symbol_sums_on_lanes(samples: &[Sample], signs: &[(i8, i8)], row: &RowSigns) -> Sums
     requires few { length samples.now ≤ 32768 }
     requires whole { length samples.now % 8 ≡ 0 }
     requires room { length samples.now ≤ length signs.now }

@@ -11,7 +11,7 @@ ghost use Rattle.rake_finger.specs.Soft.{covered_from, despread_at};
 ghost use Rattle.rake_finger.specs.SymbolSums.{SumsAreSmall, AreSymbolSums};
 
 use crate::finger::Finger;
-use crate::lanes::{Sums, sums_on_lanes};
+use crate::lanes::{Sums, symbol_sums_on_lanes};
 use crate::ring::SampleRing;
 use crate::rows::RowSigns;
 use chip_core::air::{CODE_CHIPS, PILOT_ROW, WALSH_CHIPS};
@@ -105,7 +105,7 @@ fn unbroken_sums(
     ensures small { SumsAreSmall chips result }
 {
     let (_, ahead) = codes.table().split_at(usize::from(first));
-    sums_on_lanes(ring.run(cell, usize::from(chips)), ahead, signs)
+    symbol_sums_on_lanes(ring.run(cell, usize::from(chips)), ahead, signs)
 }
 
 /// The sums of a symbol's samples from a place on, despread by the finger's code: as they are, and

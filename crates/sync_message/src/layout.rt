@@ -11,12 +11,12 @@ use crate::fields::SyncFields;
 use crate::table::{FREQ_FIELD, SYNC_FIELDS, sync_fields};
 use chip_core::{Bits, Numbers};
 use message_layout::{
-    ALL_BITS, BitSlice, Contents, FieldValues, Group, Layout, Presence, fields_of_values,
+    ALL_BITS, BitSlice, Contents, FieldValues, Group, MessageLayout, Presence, fields_of_values,
     read_from, read_kind, values_of_fields,
 };
 
 /// The fields that each message has, and the frequency unless 3 bits are left, as at 25 octets.
-pub(crate) const SYNC_CHANNEL: Layout = Layout {
+pub(crate) const SYNC_CHANNEL: MessageLayout = MessageLayout {
     fixed: &SYNC_FIELDS,
     group: Group {
         presence: Presence::UnlessLeft(3),

@@ -3,7 +3,7 @@ use Rattle.traffic_message.proofs.Common.{◌≡◌, ◌≢◌, ◌⊎◌, ℕ, 
 use Rattle.traffic_message.proofs.Common.{drop, refl, sym, ap, subst, ◌∙◌, arith, append_assoc, length-append, nat_le, inl, inr, Option, []}
 use Rattle.traffic_message.proofs.Common.{Some, None, and_from, and_parts, cases_Bool, eq-eqb, false_from_ne_true, IsTrue, ◌↔◌, eqb-false, eqb-true, le-leb, leb-true, digit}
 use Rattle.traffic_message.proofs.Common.{drop_at, binary, spelled, in_widths, FieldsFit, number_at, values_at, digit_again, values_again}
-use Rattle.traffic_message.proofs.Common.{length-in_widths, values_there, FillsCapsule, M16, is_hard, head_widths, TrafficBody, Head, Form}
+use Rattle.traffic_message.proofs.Common.{length-in_widths, values_there, FillsCapsule, M16, is_hard, head_widths, TrafficBody, Head, BodyForm}
 use Rattle.traffic_message.proofs.Common.{HasFields, body_from, traffic_contents_of, form_at, form_in, traffic_shape_of, Contents, mapped}
 use Rattle.traffic_message.proofs.Common.{fields_at, mapped_some, some_is, reading_again, reading_there, not_both, get_or, head_contents}
 use Rattle.traffic_message.proofs.Common.{head_in, head_shape, typed_widths, spelling, plain_spelled, plain_contents, plain_shape}
@@ -13,11 +13,11 @@ use Rattle.message_layout.specs.Reading as layouts
 use Rattle.traffic_message.specs.Messages as messages
 use Rattle.traffic_message.specs.Reading as reading
 use Rattle.traffic_message.specs.declared.body.TrafficBody.TheVariants as bodies
-use Rattle.traffic_message.specs.declared.layouts.Form.TheVariants as forms
+use Rattle.traffic_message.specs.declared.layouts.BodyForm.TheVariants as forms
 
 -- WHAT STANDS AFTER THE HEAD
 -- what its form says of the type
-abbrev IsForm : Form → ℕ → ℕ → List Bool → Type 0
+abbrev IsForm : BodyForm → ℕ → ℕ → List Bool → Type 0
 IsForm forms.Parameters kind encryption bits = (encryption ≡ 0) × (kind ≡ 7)
 IsForm forms.Update kind encryption bits = (encryption ≡ 0) × (kind ≡ 8)
 IsForm forms.Direction kind encryption bits =
@@ -51,7 +51,7 @@ form_is kind encryption bits =
     ]
 
 -- no other form says so of a type that has none of its own
-only_plain : (h : Head) (f : Form) (kind : ℕ) (bits : List Bool) →
+only_plain : (h : Head) (f : BodyForm) (kind : ℕ) (bits : List Bool) →
     IsForm f kind h.encryption bits → messages.IsOfKind h (bodies.Other kind bits) → f ≡ forms.Plain
 only_plain h forms.Parameters kind bits is (inl secret) = absurd (secret is.0)
 only_plain h forms.Parameters kind bits is (inr other) = absurd (other.0 is.1)
@@ -93,7 +93,7 @@ part_again h b is =
     let k = messages.kind_of b in
     let bits = messages.bits_of b in
     let own = laid b (fields_of h b is) in
-    ap (λ (g : Form). mapped (body_from g k) (layouts.reading (traffic_shape_of g) bits)) (form_again h b is)
+    ap (λ (g : BodyForm). mapped (body_from g k) (layouts.reading (traffic_shape_of g) bits)) (form_again h b is)
     ∙ ap (mapped (body_from f k)) (reading_again (traffic_shape_of f) (traffic_contents_of b) (lawful f) own)
     ∙ ap Some (made_again b)
 
@@ -103,14 +103,14 @@ Says kind encryption bits b =
     (messages.kind_of b ≡ kind) × (messages.bits_of b ≡ bits)
     × ((h : Head) → h.encryption ≡ encryption → messages.IsOfKind h b)
 
-kind_is : (f : Form) (kind encryption : ℕ) (bits : List Bool) (c : Contents) →
+kind_is : (f : BodyForm) (kind encryption : ℕ) (bits : List Bool) (c : Contents) →
     IsForm f kind encryption bits → messages.kind_of (body_from f kind c) ≡ kind
 kind_is forms.Parameters kind encryption bits c is = sym is.1
 kind_is forms.Update kind encryption bits c is = sym is.1
 kind_is forms.Direction kind encryption bits c is = sym is.1
 kind_is forms.Plain kind encryption bits c is = refl
 
-of_kind : (f : Form) (kind encryption : ℕ) (bits : List Bool) (c : Contents) (h : Head) →
+of_kind : (f : BodyForm) (kind encryption : ℕ) (bits : List Bool) (c : Contents) (h : Head) →
     IsForm f kind encryption bits → HasFields (body_from f kind c) →
     bits ≡ messages.bits_of (body_from f kind c) → h.encryption ≡ encryption →
     messages.IsOfKind h (body_from f kind c)

@@ -4,13 +4,13 @@ use Rattle.traffic_message.proofs.Common.{map-places-all, places, FieldsFit, in_
 use Rattle.traffic_message.proofs.Common.{one_value, record_fit, plain_back, plain_of, plain_spelled, rest_back, mapped, reading, is_lawful}
 use Rattle.traffic_message.proofs.Common.{IsGroup, IsOf, after_group, spelling, Contents, Flagged, bits_of, head_fields, head_values, Head}
 use Rattle.traffic_message.proofs.Common.{kind_of, part_reading, in_traffic_widths, search_widths, TrafficBody, DirectionFields, Search}
-use Rattle.traffic_message.proofs.Common.{UpdateFields, List, None, Some, get_or, MessageShape, Form}
+use Rattle.traffic_message.proofs.Common.{UpdateFields, List, None, Some, get_or, MessageShape, BodyForm}
 use Rattle.traffic_message.specs.Handoff as handoff
 use Rattle.traffic_message.specs.InTraffic as parameters
 use Rattle.traffic_message.specs.Layouts as layouts
 use Rattle.traffic_message.specs.Neighbors as updates
 use Rattle.traffic_message.specs.declared.body.TrafficBody.TheVariants as bodies
-use Rattle.traffic_message.specs.declared.layouts.Form.TheVariants as forms
+use Rattle.traffic_message.specs.declared.layouts.BodyForm.TheVariants as forms
 
 -- CONTENTS OF A LAYOUT ARE THOSE OF THE MESSAGE THAT IS MADE OF THEM
 parameters_back : (c : Contents) → IsOf parameters.in_traffic_shape c →
@@ -82,7 +82,7 @@ search_fits None following is = tt
 search_fits (Some search) following is = is.fit
 
 -- WHAT STANDS AFTER A HEAD
-pub lawful : (f : Form) → is_lawful (layouts.traffic_shape_of f) ≡ true
+pub lawful : (f : BodyForm) → is_lawful (layouts.traffic_shape_of f) ≡ true
 unfolding is_lawful
 lawful forms.Parameters = refl
 lawful forms.Update = refl
@@ -108,12 +108,12 @@ made_again (bodies.Handoff m) = ap bodies.Handoff (direction_made m)
 made_again (bodies.Other kind bits) = refl
 
 -- contents of a layout are those of the body that is made of them
-pub record IsMade (f : Form) (c : Contents) (b : TrafficBody) : Type 0 where
+pub record IsMade (f : BodyForm) (c : Contents) (b : TrafficBody) : Type 0 where
   pub fields : layouts.HasFields b
   pub form : layouts.form_in b ≡ f
   pub contents : layouts.traffic_contents_of b ≡ c
 
-pub made_of : (f : Form) (kind : ℕ) (c : Contents) → IsOf (layouts.traffic_shape_of f) c →
+pub made_of : (f : BodyForm) (kind : ℕ) (c : Contents) → IsOf (layouts.traffic_shape_of f) c →
     IsMade f c (layouts.body_from f kind c)
 made_of forms.Parameters kind c is =
     let back = parameters_back c is in
@@ -130,27 +130,27 @@ made_of forms.Direction kind c is =
 made_of forms.Plain kind c is = record { fields = tt; form = refl; contents = rest_back c is }
 
 -- and so they are spelled as it is
-pub spelled_as : (f : Form) (c : Contents) (b : TrafficBody) (bits : List Bool) → IsMade f c b →
+pub spelled_as : (f : BodyForm) (c : Contents) (b : TrafficBody) (bits : List Bool) → IsMade f c b →
     bits ≡ spelling (layouts.traffic_shape_of f) c → bits ≡ bits_of b
 spelled_as f c b bits made same =
-    same ∙ ap (λ (g : Form). spelling (layouts.traffic_shape_of g) c) (sym made.form)
+    same ∙ ap (λ (g : BodyForm). spelling (layouts.traffic_shape_of g) c) (sym made.form)
     ∙ ap (spelling (layouts.traffic_shape_of (layouts.form_in b))) (sym made.contents)
 
 -- WHAT THE CODE READS AND WRITES
-pub told : (kind encryption : ℕ) (bits : List Bool) (f : Form) (s : MessageShape)
+pub told : (kind encryption : ℕ) (bits : List Bool) (f : BodyForm) (s : MessageShape)
     (read : Option Contents) → f ≡ layouts.form_at kind encryption bits → s ≡ layouts.traffic_shape_of f →
     read ≡ reading s bits →
     mapped (layouts.body_from f kind) read ≡ part_reading kind encryption bits
 unfolding part_reading
 told kind encryption bits f s read form layout e =
     ap (mapped (layouts.body_from f kind)) (e ∙ ap (λ (r : MessageShape). reading r bits) layout)
-    ∙ ap (λ (g : Form). mapped (layouts.body_from g kind) (reading (layouts.traffic_shape_of g) bits)) form
+    ∙ ap (λ (g : BodyForm). mapped (layouts.body_from g kind) (reading (layouts.traffic_shape_of g) bits)) form
 
-pub told_is : (kind : ℕ) (f : Form) (s : MessageShape) (c : Contents) → s ≡ layouts.traffic_shape_of f →
+pub told_is : (kind : ℕ) (f : BodyForm) (s : MessageShape) (c : Contents) → s ≡ layouts.traffic_shape_of f →
     IsOf s c → layouts.HasFields (layouts.body_from f kind c)
 told_is kind f s c layout is = (made_of f kind c (subst (λ (r : MessageShape). IsOf r c) layout is)).fields
 
-pub written : (b : TrafficBody) (f : Form) (s : MessageShape) (c : Contents) → layouts.HasFields b →
+pub written : (b : TrafficBody) (f : BodyForm) (s : MessageShape) (c : Contents) → layouts.HasFields b →
     f ≡ layouts.form_in b → s ≡ layouts.traffic_shape_of f → c ≡ layouts.traffic_contents_of b →
     IsOf s c × (spelling s c ≡ bits_of b)
 written b f s c is form layout contents = rw (layout, form, contents) (laid b is, refl)

@@ -39,5 +39,5 @@ pub use Rattle.traffic_message.specs.declared.body.TrafficBody.{TrafficBody}
 pub use Rattle.traffic_message.specs.declared.fields.DirectionFields.{DirectionFields}
 pub use Rattle.traffic_message.specs.declared.fields.Search.{Search}
 pub use Rattle.traffic_message.specs.declared.fields.UpdateFields.{UpdateFields}
-pub use Rattle.traffic_message.specs.declared.layouts.Form.{Form}
+pub use Rattle.traffic_message.specs.declared.layouts.BodyForm.{BodyForm}
 pub use Rattle.traffic_message.specs.declared.multiplex.Mux.{Mux}

@@ -12,9 +12,9 @@ use Rattle.traffic_message.specs.Neighbors.{update_contents, update_from, update
 use Rattle.traffic_message.specs.Neighbors.{IsNeighborUpdate}
 use Rattle.traffic_message.specs.Widths.{head_widths, in_traffic_names, time_names, update_names}
 use Rattle.traffic_message.specs.declared.body.TrafficBody.{TrafficBody}
-use Rattle.traffic_message.specs.declared.layouts.Form.{Form}
+use Rattle.traffic_message.specs.declared.layouts.BodyForm.{BodyForm}
 use Rattle.traffic_message.specs.declared.body.TrafficBody.TheVariants as bodies
-use Rattle.traffic_message.specs.declared.layouts.Form.TheVariants as forms
+use Rattle.traffic_message.specs.declared.layouts.BodyForm.TheVariants as forms
 
 -- THE TYPE AND THE HEAD
 -- the values of the fields of the head, in the order of the table
@@ -44,27 +44,27 @@ head_in values = record {
 
 -- WHAT STANDS AFTER A HEAD
 -- its form, by the type where nothing is encrypted
-abbrev pub form_at : ℕ → ℕ → List Bool → Form
+abbrev pub form_at : ℕ → ℕ → List Bool → BodyForm
 form_at kind encryption bits =
     if (encryption == 0) && (kind == 7) then forms.Parameters
     else (if (encryption == 0) && (kind == 8) then forms.Update
     else (if (encryption == 0) && ((kind == 17) && not (is_hard bits)) then forms.Direction
     else forms.Plain))
 
-abbrev pub form_in : TrafficBody → Form
+abbrev pub form_in : TrafficBody → BodyForm
 form_in (bodies.System m) = forms.Parameters
 form_in (bodies.Neighbors m) = forms.Update
 form_in (bodies.Handoff m) = forms.Direction
 form_in (bodies.Other kind bits) = forms.Plain
 
-abbrev pub traffic_shape_of : Form → MessageShape
+abbrev pub traffic_shape_of : BodyForm → MessageShape
 traffic_shape_of forms.Parameters = in_traffic_shape
 traffic_shape_of forms.Update = update_shape
 traffic_shape_of forms.Direction = direction_shape
 traffic_shape_of forms.Plain = plain_shape [] [] 0 None
 
 -- the names in the line
-abbrev pub traffic_names_of : Form → LineNames
+abbrev pub traffic_names_of : BodyForm → LineNames
 traffic_names_of forms.Parameters = record {
   word = codes "system";
   fixed = in_traffic_names;
@@ -88,7 +88,7 @@ traffic_contents_of (bodies.Neighbors m) = update_contents m
 traffic_contents_of (bodies.Handoff m) = direction_contents m
 traffic_contents_of (bodies.Other kind bits) = plain_contents [] ([] ∷ [] ∷ [] ∷ []) bits
 
-abbrev pub body_from : Form → ℕ → Contents → TrafficBody
+abbrev pub body_from : BodyForm → ℕ → Contents → TrafficBody
 body_from forms.Parameters kind c = bodies.System (in_traffic_from c)
 body_from forms.Update kind c = bodies.Neighbors (update_from c)
 body_from forms.Direction kind c = bodies.Handoff (direction_from c)

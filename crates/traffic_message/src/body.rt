@@ -9,10 +9,10 @@ ghost use Rattle.traffic_message.specs.Reading.{part_reading};
 
 use crate::handoff::HandoffDirection;
 use crate::in_traffic::InTraffic;
-use crate::layouts::{Form, form_of, layout_of};
+use crate::layouts::{BodyForm, form_of, layout_of};
 use crate::neighbors::NeighborUpdate;
 use chip_core::{Bits, Numbers};
-use message_layout::{BitSlice, Contents, Layout, append, read_from};
+use message_layout::{BitSlice, Contents, MessageLayout, append, read_from};
 
 /// The content of a message of the traffic channel after its head.
 ///
@@ -65,15 +65,15 @@ impl TrafficBody {
     }
 
     /// Makes the content of this form.
-    fn of(form: Form, kind: u8, contents: &Contents) -> TrafficBody
+    fn of(form: BodyForm, kind: u8, contents: &Contents) -> TrafficBody
         requires { HasFields (body_from form kind contents.now) }
         ensures { result ≡ body_from form kind contents.now }
     {
         match form {
-            Form::Parameters => TrafficBody::System(InTraffic::of(contents)),
-            Form::Update => TrafficBody::Neighbors(NeighborUpdate::of(contents)),
-            Form::Direction => TrafficBody::Handoff(HandoffDirection::of(contents)),
-            Form::Plain => TrafficBody::Other {
+            BodyForm::Parameters => TrafficBody::System(InTraffic::of(contents)),
+            BodyForm::Update => TrafficBody::Neighbors(NeighborUpdate::of(contents)),
+            BodyForm::Direction => TrafficBody::Handoff(HandoffDirection::of(contents)),
+            BodyForm::Plain => TrafficBody::Other {
                 kind,
                 bits: contents.rest,
             },
@@ -89,19 +89,19 @@ impl TrafficBody {
     }
 
     /// Returns the form of the content after the head.
-    fn form(&self) -> Form
+    fn form(&self) -> BodyForm
         ensures { result ≡ form_in self.now }
     {
         match self {
-            TrafficBody::System(_) => Form::Parameters,
-            TrafficBody::Neighbors(_) => Form::Update,
-            TrafficBody::Handoff(_) => Form::Direction,
-            TrafficBody::Other { .. } => Form::Plain,
+            TrafficBody::System(_) => BodyForm::Parameters,
+            TrafficBody::Neighbors(_) => BodyForm::Update,
+            TrafficBody::Handoff(_) => BodyForm::Direction,
+            TrafficBody::Other { .. } => BodyForm::Plain,
         }
     }
 
     /// Returns the layout of the content after the head.
-    pub fn layout(&self) -> Layout
+    pub fn layout(&self) -> MessageLayout
         ensures shape { shape result ≡ traffic_shape_of (form_in self.now) }
         ensures names { line_names result ≡ traffic_names_of (form_in self.now) }
     {

@@ -7,12 +7,13 @@ ghost use Rattle.traffic_message.specs.Layouts.{form_at, traffic_names_of, traff
 use crate::handoff::is_hard_handoff;
 use crate::table::{HEAD_FIELDS, IN_TRAFFIC_FIELDS, SEARCH_FIELDS, TIME_FIELDS, UPDATE_FIELDS};
 use message_layout::{
-    ALL_BITS, BitSlice, Group, Layout, NO_GROUP, NO_OCTETS, NO_RECORDS, Octets, Presence, Records,
+    ALL_BITS, BitSlice, Group, MessageLayout, NO_GROUP, NO_OCTETS, NO_RECORDS, Octets, Presence,
+    Records,
 };
 
 /// The form of the content after a head.
 #[derive(Clone, Copy)]
-pub(crate) enum Form {
+pub(crate) enum BodyForm {
     /// As an In-Traffic System Parameters Message.
     Parameters,
     /// As a Neighbor List Update Message.
@@ -24,37 +25,37 @@ pub(crate) enum Form {
 }
 
 /// Returns the form of the content after a head, by the type if it is not encrypted.
-pub(crate) fn form_of(kind: u8, encryption: u8, bits: &BitSlice<'_>, from: u16) -> Form
+pub(crate) fn form_of(kind: u8, encryption: u8, bits: &BitSlice<'_>, from: u16) -> BodyForm
     requires { from ≤ length bits.now }
     ensures { result ≡ form_at kind encryption (drop from bits.now) }
 {
     if encryption == 0 && kind == 7 {
-        return Form::Parameters;
+        return BodyForm::Parameters;
     }
     if encryption == 0 && kind == 8 {
-        return Form::Update;
+        return BodyForm::Update;
     }
     if encryption == 0 && kind == 17 && !is_hard_handoff(bits, from) {
-        return Form::Direction;
+        return BodyForm::Direction;
     }
-    Form::Plain
+    BodyForm::Plain
 }
 
 /// The layout of a form.
-pub(crate) fn layout_of(form: Form) -> Layout
+pub(crate) fn layout_of(form: BodyForm) -> MessageLayout
     ensures shape { shape result ≡ traffic_shape_of form }
     ensures names { line_names result ≡ traffic_names_of form }
 {
     match form {
-        Form::Parameters => IN_TRAFFIC,
-        Form::Update => NEIGHBOR_UPDATE,
-        Form::Direction => HANDOFF_DIRECTION,
-        Form::Plain => ALL_BITS,
+        BodyForm::Parameters => IN_TRAFFIC,
+        BodyForm::Update => NEIGHBOR_UPDATE,
+        BodyForm::Direction => HANDOFF_DIRECTION,
+        BodyForm::Plain => ALL_BITS,
     }
 }
 
 /// The message type, the head, and all bits after them.
-pub(crate) const HEAD: Layout = Layout {
+pub(crate) const HEAD: MessageLayout = MessageLayout {
     name: "",
     fixed: &[
         ("type", 8),
@@ -70,7 +71,7 @@ pub(crate) const HEAD: Layout = Layout {
 };
 
 /// The In-Traffic System Parameters Message: its fields, and all bits after them.
-const IN_TRAFFIC: Layout = Layout {
+const IN_TRAFFIC: MessageLayout = MessageLayout {
     name: "system",
     fixed: &IN_TRAFFIC_FIELDS,
     group: NO_GROUP,
@@ -80,7 +81,7 @@ const IN_TRAFFIC: Layout = Layout {
 };
 
 /// The Neighbor List Update Message: PILOT_INC, and NGHBR_PN of each neighbor.
-const NEIGHBOR_UPDATE: Layout = Layout {
+const NEIGHBOR_UPDATE: MessageLayout = MessageLayout {
     name: "neighbors",
     fixed: &UPDATE_FIELDS,
     group: NO_GROUP,
@@ -96,7 +97,7 @@ const NEIGHBOR_UPDATE: Layout = Layout {
 /// The Extended Handoff Direction Message: the search parameters after SEARCH_INCLUDED, the
 /// additional fields after HARD_INCLUDED, which is 0, and ADD_LENGTH, and of each record PILOT_PN,
 /// PWR_COMB_IND and CODE_CHAN.
-const HANDOFF_DIRECTION: Layout = Layout {
+const HANDOFF_DIRECTION: MessageLayout = MessageLayout {
     name: "handoff",
     fixed: &TIME_FIELDS,
     group: Group {

@@ -3,8 +3,8 @@ use Rattle.rake_finger.proofs.Rings.{run_is}
 use Rattle.rake_finger.proofs.SymbolSums.{covered_run, plain_run}
 use Rattle.rake_finger.proofs.sums.unbroken_sums.Goals as goal
 
-pub sums_on_lanes-requires-clause-units : goal.sums_on_lanes-requires-clause-units
-sums_on_lanes-requires-clause-units c =
+pub symbol_sums_on_lanes-requires-clause-units : goal.symbol_sums_on_lanes-requires-clause-units
+symbol_sums_on_lanes-requires-clause-units c =
     rw (c.split_at.ensures.back, c.table.ensures.value)
     (All-drop IsUnit c.from.result pilot_signs units)
 
@@ -25,8 +25,8 @@ returns-clause-sums c = λ samples row phase place held row_signs in_ring cell f
     omega (arith, c.run.ensures.long, count, c.requires.code) in
     record {
       plain = plain_run samples c.run.result.now c.split_at.result.1.now phase place c.args.chips
-          c.args.first _ c.sums_on_lanes.ensures.plain ahead run first room;
+          c.args.first _ c.symbol_sums_on_lanes.ensures.plain ahead run first room;
       covered = covered_run row c.args.signs.now samples c.run.result.now
           c.split_at.result.1.now phase place c.args.chips c.args.first _ row_signs
-          c.sums_on_lanes.ensures.covered ahead run first room;
+          c.symbol_sums_on_lanes.ensures.covered ahead run first room;
     }

@@ -1,6 +1,6 @@
 use Rattle.rake_finger.proofs.Common.{map, to_z, w32, covered_signs}
 use Rattle.pilot_search.specs.Lanes.{AreSums}
-use Rattle.rake_finger.proofs.lanes.sums_on_lanes.Given as goal
+use Rattle.rake_finger.proofs.lanes.symbol_sums_on_lanes.Given as goal
 
 abbrev pub invariant-loop-k : goal.invariant-loop-k
 invariant-loop-k l = record {

@@ -1,7 +1,7 @@
 use Rattle.rake_finger.proofs.Common.{ints, common_steps, ◌≤◌, ◌+◌, ◌*◌, ◌/◌, arith, length, kept, covered_signs}
 use Rattle.pilot_search.proofs.LaneSums.{kept_near, products_kept, products_near, sums_kept, sums_whole}
 use Rattle.rake_finger.proofs.SignedLanes.{group_products, length-covered}
-use Rattle.rake_finger.proofs.lanes.sums_on_lanes.Goals as goal
+use Rattle.rake_finger.proofs.lanes.symbol_sums_on_lanes.Goals as goal
 
 pub covered_products-requires-clause-real : goal.covered_products-requires-clause-real
 covered_products-requires-clause-real c =
