@@ -17,8 +17,8 @@ tuned deltas = record {
   traffic = None;
 }
 
-marked : ℕ → Mark
-marked prat = record {
+mark_with : ℕ → Mark
+mark_with prat = record {
   sample = 688128;
   time = 1007;
   state = 1;
@@ -27,48 +27,48 @@ marked prat = record {
 }
 
 stream : List ℤ → Stream
-stream deltas = channel_stream (tuned deltas) (Paging 1) (marked 0)
+stream deltas = channel_stream (tuned deltas) (Paging 1) (mark_with 0)
 
 heard : ℕ → ℕ → ℕ → List ℕ
 heard key prat n =
-    filter (is_heard key 0 1228800 (stream (pos 0 ∷ [])) (marked prat) n) (places (slot_bound n))
+    filter (is_heard key 0 1228800 (stream (pos 0 ∷ [])) (mark_with prat) n) (places (slot_bound n))
 
 -- five whole slots lie after the mark, those of times 1007 to 1011
 within : filter (is_slot_within 1228800 (stream (pos 0 ∷ [])) 1228800) (places (slot_bound 1228800))
     ≡ 0 ∷ 1 ∷ 2 ∷ 3 ∷ 4 ∷ []
-unfolding tuned marked stream places
+unfolding tuned mark_with stream places
 within = refl
 
 -- key 0 monitors time 1008 alone,
 one_heard : heard 0 0 1228800 ≡ 1 ∷ []
-unfolding tuned marked stream heard places
+unfolding tuned mark_with stream heard places
 one_heard = refl
 
 -- which is heard at the end of its last frame,
 ended : frame_of_slot_end (stream (pos 0 ∷ [])) 1 3 ≡ 884736
-unfolding tuned marked stream
+unfolding tuned mark_with stream
 ended = refl
 
 -- and not a sample before;
 not_yet : heard 0 0 884735 ≡ []
-unfolding tuned marked stream heard places
+unfolding tuned mark_with stream heard places
 not_yet = refl
 
 just_then : heard 0 0 884736 ≡ 1 ∷ []
-unfolding tuned marked stream heard places
+unfolding tuned mark_with stream heard places
 just_then = refl
 
 -- 3 samples later where a path comes 3 chips later
 ended_late : frame_of_slot_end (stream (pos 0 ∷ negsuc 2 ∷ pos 2 ∷ [])) 1 3 ≡ 884739
-unfolding tuned marked stream
+unfolding tuned mark_with stream
 ended_late = refl
 
 -- key 1 monitors times of 12 modulo 16, and none of these is there
 none_heard : heard 1 0 1228800 ≡ []
-unfolding tuned marked stream heard places
+unfolding tuned mark_with stream heard places
 none_heard = refl
 
 -- data rate 2 stands for no paging channel
 no_rate : heard 0 2 1228800 ≡ []
-unfolding tuned marked stream heard places
+unfolding tuned mark_with stream heard places
 no_rate = refl

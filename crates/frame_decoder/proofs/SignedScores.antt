@@ -12,11 +12,11 @@ use Rattle.viterbi.proofs.Zipped.{zipped_by_place}
 -- ---- how many places are left
 
 -- those of n places, from a place on
-abbrev left : List ℕ → ℕ → ℕ → List ℕ
-left replaced at n = filter (λ i. not (is_replaced replaced i)) (range_with_len at n)
+abbrev unreplaced_in : List ℕ → ℕ → ℕ → List ℕ
+unreplaced_in replaced at n = filter (λ i. not (is_replaced replaced i)) (range_with_len at n)
 
 -- a replaced place before all of them leaves them as they are
-left_past : (q : ℕ) (qs : List ℕ) (at n : ℕ) → q < at → left (q ∷ qs) at n ≡ left qs at n
+left_past : (q : ℕ) (qs : List ℕ) (at n : ℕ) → q < at → unreplaced_in (q ∷ qs) at n ≡ unreplaced_in qs at n
 left_past q qs at zero past = refl
 left_past q qs at (suc n) past =
     let test = ne_eqb at q (omega (arith, past)) in
@@ -24,17 +24,17 @@ left_past q qs at (suc n) past =
     rw (test, rest) refl
 
 -- any other takes one of them at most
-left_one : (q : ℕ) (qs : List ℕ) (at n : ℕ) → length (left qs at n) ≤ length (left (q ∷ qs) at n) + 1
+left_one : (q : ℕ) (qs : List ℕ) (at n : ℕ) → length (unreplaced_in qs at n) ≤ length (unreplaced_in (q ∷ qs) at n) + 1
 left_one q qs at zero = omega arith
 left_one q qs at (suc n) = ⊎_elim
     (λ (same : at ≡ q).
     let test = eq-eqb at q same in
     let rest = left_past q qs (at + 1) n (omega (arith, same)) in
-    rw (test, rest) (one_more (is_replaced qs at) at (left qs (at + 1) n)))
+    rw (test, rest) (one_more (is_replaced qs at) at (unreplaced_in qs (at + 1) n)))
     (λ (other : at ≢ q).
     let test = ne_eqb at q other in
     rw test
-    (both (is_replaced qs at) at (left qs (at + 1) n) (left (q ∷ qs) (at + 1) n)
+    (both (is_replaced qs at) at (unreplaced_in qs (at + 1) n) (unreplaced_in (q ∷ qs) (at + 1) n)
     (left_one q qs (at + 1) n)))
     (cases_eq at q)
   where
@@ -47,12 +47,12 @@ left_one q qs at (suc n) = ⊎_elim
     both true i is js most = most
     both false i is js most = omega (arith, most)
 
-left_none : (at n : ℕ) → length (left [] at n) ≡ n
+left_none : (at n : ℕ) → length (unreplaced_in [] at n) ≡ n
 left_none at zero = refl
 left_none at (suc n) = ap suc (left_none (at + 1) n)
 
 -- so one is left at least where there are more of them than replaced ones
-left_least : (qs : List ℕ) (n : ℕ) → n ≤ length (left qs 0 n) + length qs
+left_least : (qs : List ℕ) (n : ℕ) → n ≤ length (unreplaced_in qs 0 n) + length qs
 left_least [] n = omega (arith, left_none 0 n)
 left_least (q ∷ qs) n = omega (arith, left_one q qs 0 n, left_least qs n)
 
@@ -70,7 +70,7 @@ sizes_related : (R : ℕ → ℕ → Type 0) → R 0 0 →
     (replaced : List ℕ) (value : ℕ → ℤ) (n at m : ℕ) →
     ((i : ℕ) → i < m →
     R (if is_replaced replaced (at + i) then 0 else n) (unsigned_abs (value (at + i)))) →
-    R (n * length (left replaced at m)) (sum_by unsigned_abs (map value (range_with_len at m)))
+    R (n * length (unreplaced_in replaced at m)) (sum_by unsigned_abs (map value (range_with_len at m)))
 sizes_related R none add replaced value n at zero each =
     let nothing : n * 0 ≡ 0 = omega arith in rw nothing none
 sizes_related R none add replaced value n at (suc m) each =
@@ -80,7 +80,7 @@ sizes_related R none add replaced value n at (suc m) each =
     (λ i lt. let next : at + suc i ≡ at + 1 + i = omega arith in
     rw next at (each (suc i) (omega (arith, lt)))) in
     rw (
-      weighed (is_replaced replaced at) n at (left replaced (at + 1) m),
+      weighed (is_replaced replaced at) n at (unreplaced_in replaced (at + 1) m),
       sum_by-cons unsigned_abs (value at) (map value (range_with_len (at + 1) m)),
     )
     (add _ _ _ _ first rest)
@@ -90,7 +90,7 @@ kept_sizes : (R : ℕ → ℕ → Type 0) → R 0 0 → ((a b c d : ℕ) → R a
     (replaced : List ℕ) (softs : List ℤ) (n : ℕ) → length softs ≡ 384 →
     ((i : ℕ) → i < 384 →
     R (if is_replaced replaced i then 0 else n) (unsigned_abs (kept replaced softs i))) →
-    R (n * length (left replaced 0 384)) (sum_by unsigned_abs (unreplaced replaced softs))
+    R (n * length (unreplaced_in replaced 0 384)) (sum_by unsigned_abs (unreplaced replaced softs))
 unfolding unreplaced
 kept_sizes R none add replaced softs n long each =
     rw (long, places_is 384) (sizes_related R none add replaced (kept replaced softs) n 0 384

@@ -88,11 +88,11 @@ paged prat = record {
 }
 
 -- a message whose long-code state is 0 sets none
-told : map
+no_mark_of_state_zero : map
     (λ lc. marks_of 32704
     (Some (record { capsule = replicate 200 true; message = worked_sync lc })))
     (0x102a1d2e508 ∷ 0 ∷ []) ≡ (paged 0 ∷ []) ∷ [] ∷ []
-told = refl
+no_mark_of_state_zero = refl
 
 -- a message goes on, hasn't begun, and begins again
 open_frames : frames_with false 6 ∷ frames_with false 0 ∷ frames_with true 3 ∷ [] ≡ 7 ∷ 0 ∷ 1 ∷ []

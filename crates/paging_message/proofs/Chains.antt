@@ -10,9 +10,9 @@ use Rattle.quality_bits.proofs.Opened as opened
 abbrev pub is_there : List Bool → Bool
 is_there bits = is_stated bits && nat_le (stated_bits bits) (length bits)
 
-there : (bits : List Bool) → is_there bits ≡ true →
+is_there_parts : (bits : List Bool) → is_there bits ≡ true →
     (is_stated bits ≡ true) × (stated_bits bits ≤ length bits)
-there bits h = let both =
+is_there_parts bits h = let both =
     and_parts (is_stated bits) (nat_le (stated_bits bits) (length bits)) h in (
       both.0,
       leb-true (stated_bits bits) (length bits) both.1,
@@ -25,9 +25,9 @@ from_there bits s l = let e = le-leb (stated_bits bits) (length bits) l in rw (s
 unstated : (bits : List Bool) → is_stated bits ≡ false → is_there bits ≡ false
 unstated bits f = rw f refl
 
-front-there : (bits : List Bool) → is_there bits ≡ false → front_capsule bits ≡ None
+front-unless_there : (bits : List Bool) → is_there bits ≡ false → front_capsule bits ≡ None
 unfolding front_capsule
-front-there bits h = rw h refl
+front-unless_there bits h = rw h refl
 
 not_both : {b : Bool} → b ≡ false → b ≡ true → ⊥
 not_both left right = cc
@@ -78,12 +78,12 @@ one : (bits : List Bool) (b : Bool) → length (bits ++ b ∷ []) ≡ suc (lengt
 one bits b = omega (arith, length-append bits (b ∷ []))
 
 -- a capsule that is there stays there
-there-more : (bits : List Bool) (b : Bool) → is_there bits ≡ true →
+is_there_parts-more : (bits : List Bool) (b : Bool) → is_there bits ≡ true →
     (is_there (bits ++ b ∷ []) ≡ true) × (stated_bits (bits ++ b ∷ []) ≡ stated_bits bits) ×
     (stated_bits bits < length (bits ++ b ∷ [])) × (40 ≤ stated_bits bits)
     × (stated_bits bits ≤ length bits)
-there-more bits b h =
-    let is = there bits h in
+is_there_parts-more bits b h =
+    let is = is_there_parts bits h in
     let bounds = opened.stated_bounds bits is.0 in
     let same = opened.stated-more bits (b ∷ []) bounds.0 in
     let longer = one bits b in (
@@ -96,10 +96,10 @@ there-more bits b h =
     )
 
 -- a capsule that one more bit completes ends with it
-there-now : (bits : List Bool) (b : Bool) → awaits_more bits ≡ true →
+is_there_parts-now : (bits : List Bool) (b : Bool) → awaits_more bits ≡ true →
     is_there (bits ++ b ∷ []) ≡ true → length (bits ++ b ∷ []) ≤ stated_bits (bits ++ b ∷ [])
-there-now bits b waits h =
-    let is = there (bits ++ b ∷ []) h in
+is_there_parts-now bits b waits h =
+    let is = is_there_parts (bits ++ b ∷ []) h in
     let bounds = opened.stated_bounds (bits ++ b ∷ []) is.0 in
     elim (opened.awaits_says bits waits) [
       | inl few ↦ omega (arith, one bits b, bounds.1)
@@ -142,7 +142,7 @@ ends_more (suc fuel) size count bits b =
     let gives = λ (o : Option (List Bool)). completed o (b ∷ []) in
     elim (cases_Bool (is_there bits)) [
       | inl t ↦
-          let m = there-more bits b t in
+          let m = is_there_parts-more bits b t in
           let left = nat_le 8 (bits_left size (count + st)) in
           let there_now : ends_chain (suc fuel) size count more
           ≡ cond left (ends_chain fuel size (count + st) (drop st bits ++ b ∷ [])) None =
@@ -163,13 +163,13 @@ ends_more (suc fuel) size count bits b =
                 ∙ opened.still_open-awaits bits waits in
                 elim (cases_Bool (is_there more)) [
                   | inl t ↦
-                      let long = there-now bits b waits t in
-                      let is = there more t in
+                      let long = is_there_parts-now bits b waits t in
+                      let is = is_there_parts more t in
                       ends-exact fuel size count more t long
                       ∙ sym (ap gives own ∙ opened.front-whole more is.0 is.1
                       ∙ ap Some (take_all (stated_bits more) more long))
                   | inr n ↦ ends-short fuel size count more n
-                      ∙ sym (ap gives own ∙ front-there more n)
+                      ∙ sym (ap gives own ∙ front-unless_there more n)
                 ]
             | inr over ↦
                 ends-short fuel size count more (never-there bits b f over)
@@ -219,7 +219,7 @@ open_more (suc fuel) size count bits b room =
     let later = count + length more in
     elim (cases_Bool (is_there bits)) [
       | inl t ↦
-          let m = there-more bits b t in
+          let m = is_there_parts-more bits b t in
           let left = nat_le 8 (bits_left size (count + st)) in
           let rest = drop st bits ++ b ∷ [] in
           let there_now : open_chain (suc fuel) size count more
@@ -252,7 +252,7 @@ open_more (suc fuel) size count bits b room =
                   | inr n ↦
                       open-short fuel size count more n
                       ∙ ap (λ (w : Option (List Bool)). follow size later w (still_open more))
-                      (sym (front-there more n)) ∙ sym known
+                      (sym (front-unless_there more n)) ∙ sym known
                 ]
             | inr over ↦
                 open-short fuel size count more (never-there bits b f over)
@@ -271,14 +271,14 @@ open_more (suc fuel) size count bits b room =
         ≡ follow size (count + length (bits ++ b ∷ [])) (front_capsule (bits ++ b ∷ []))
         (still_open (bits ++ b ∷ []))
     now_there zero size count bits b waits t room =
-        let is = there (bits ++ b ∷ []) t in
+        let is = is_there_parts (bits ++ b ∷ []) t in
         let bounds = opened.stated_bounds (bits ++ b ∷ []) is.0 in
         absurd (omega (arith, room, is.1, bounds.1))
     now_there (suc fuel) size count bits b waits t room =
         let more = bits ++ b ∷ [] in
         let st = stated_bits more in
-        let is = there more t in
-        let long = there-now bits b waits t in
+        let is = is_there_parts more t in
+        let long = is_there_parts-now bits b waits t in
         let all : st ≡ length more = omega (arith, long, is.1) in
         let bounds = opened.stated_bounds more is.0 in
         let over = opened.still_open-over more (opened.awaits_over more bounds.0 is.1) in
@@ -301,7 +301,7 @@ open_fuel (suc fuel) size count bits room =
     let st = stated_bits bits in
     elim (cases_Bool (is_there bits)) [
       | inl t ↦
-          let is = there bits t in
+          let is = is_there_parts bits t in
           let bounds = opened.stated_bounds bits is.0 in
           open-past (suc fuel) size count bits t
           ∙ ap (λ (o : Option (List Bool)). cond (nat_le 8 (bits_left size (count + st))) o None)

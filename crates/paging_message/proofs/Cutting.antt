@@ -79,38 +79,38 @@ ends_none : (size : ℕ) → halves.ends_chain 0 size 0 [] ≡ None
 unfolding halves.ends_chain
 ends_none size = refl
 
-told : List Piece → Option (List Bool)
-told [] = None
-told (p ∷ pieces) = Some (bodies (p ∷ pieces))
+bodies_if_any : List Piece → Option (List Bool)
+bodies_if_any [] = None
+bodies_if_any (p ∷ pieces) = Some (bodies (p ∷ pieces))
 
 opened_told : (size : ℕ) (message : List Piece) →
-    halves.opened size message ≡ open_of size (told message)
-unfolding told
+    halves.opened size message ≡ open_of size (bodies_if_any message)
+unfolding bodies_if_any
 opened_told size [] = refl
 opened_told size (p ∷ pieces) = refl
 
 ended_told : (size : ℕ) (message : List Piece) →
-    halves.ends_chain (length (bodies message)) size 0 (bodies message) ≡ end_of size (told message)
-unfolding told
+    halves.ends_chain (length (bodies message)) size 0 (bodies message) ≡ end_of size (bodies_if_any message)
+unfolding bodies_if_any
 ended_told size [] = ends_none size
 ended_told size (p ∷ pieces) = refl
 
 told_extended : (message : List Piece) (body : List Bool) →
-    told (extended message (record { starts = false; body = body }))
+    bodies_if_any (extended message (record { starts = false; body = body }))
     ≡ grown (begun false message) body
-unfolding told
+unfolding bodies_if_any
 told_extended [] body = refl
 told_extended (q ∷ message) body =
     ap Some (bodies-more (q ∷ message) (record { starts = false; body = body }))
 
 told_more : (pieces : List Piece) (starts : Bool) (body : List Bool) →
-    told (from_last_start (pieces ++ record { starts = starts; body = body } ∷ []))
+    bodies_if_any (from_last_start (pieces ++ record { starts = starts; body = body } ∷ []))
     ≡ grown (begun starts (from_last_start pieces)) body
-unfolding told
-told_more pieces true body = ap told (from_last_start_new pieces (record { starts = true; body = body }) refl)
+unfolding bodies_if_any
+told_more pieces true body = ap bodies_if_any (from_last_start_new pieces (record { starts = true; body = body }) refl)
     ∙ ap Some (append-nil body)
 told_more pieces false body =
-    ap told (from_last_start_more pieces (record { starts = false; body = body }) refl)
+    ap bodies_if_any (from_last_start_more pieces (record { starts = false; body = body }) refl)
     ∙ told_extended (from_last_start pieces) body
 
 -- how many bits those are
@@ -193,15 +193,15 @@ mark_opens size n front b long =
     (halves_more size n front (b ∷ []) long (omega arith) (omega arith))
     ∙ opened_told size (from_last_start (ps ++ record { starts = b; body = [] } ∷ []))
     ∙ ap (open_of size) (told_more ps b [])
-    ∙ marked b (from_last_start ps)
+    ∙ begun_open b (from_last_start ps)
     ∙ ap (λ (l : List Piece). cond b (Some []) (halves.opened size (from_last_start l)))
     (sym (halves_whole size n front long))
   where
-    marked : (b : Bool) (message : List Piece) →
+    begun_open : (b : Bool) (message : List Piece) →
         open_of size (grown (begun b message) []) ≡ cond b (Some []) (halves.opened size message)
-    marked true message = open_none 0 size 0
-    marked false [] = refl
-    marked false (q ∷ message) =
+    begun_open true message = open_none 0 size 0
+    begun_open false [] = refl
+    begun_open false (q ∷ message) =
         ap (λ (bits : List Bool). halves.open_chain (suc (length bits)) size 0 bits)
         (append-nil (bodies (q ∷ message)))
 

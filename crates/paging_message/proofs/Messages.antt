@@ -158,19 +158,19 @@ typed_length body w k fills typed =
     omega (arith, fills.whole, fills.most, ap length t.1, length-append (binary 8 k) w)
 
 -- what was read after a type, by the type's layout
-pub told : (body w : List Bool) (k : ℕ) (s : MessageShape) (read : Option Contents) →
+pub reads_by_layout : (body w : List Bool) (k : ℕ) (s : MessageShape) (read : Option Contents) →
     FillsCapsule M30 body → Some (k, w) ≡ number_part 8 body → s ≡ paging_shape_of k →
     read ≡ reading s w → mapped (message_from k) read ≡ body_reading body
-told body w k s read fills typed layout e =
+reads_by_layout body w k s read fills typed layout e =
     let t = number_there 8 k body w (sym typed) in
     ap (mapped (message_from k)) (e ∙ ap (λ (r : MessageShape). reading r w) layout)
     ∙ sym (typed_reading k w t.0 (subst (FillsCapsule M30) t.1 fills))
     ∙ ap body_reading (sym t.1)
 
-pub told_is : (body w : List Bool) (k : ℕ) (s : MessageShape) (c : Contents) → FillsCapsule M30 body →
+pub read_is_message : (body w : List Bool) (k : ℕ) (s : MessageShape) (c : Contents) → FillsCapsule M30 body →
     Some (k, w) ≡ number_part 8 body → s ≡ paging_shape_of k → IsOf s c × (w ≡ spelling s c) →
     IsPagingMessage (message_from k c)
-told_is body w k s c fills typed layout found =
+read_is_message body w k s c fills typed layout found =
     let t = number_there 8 k body w (sym typed) in
     let there = subst (λ (r : MessageShape). IsOf r c × (w ≡ spelling r c)) layout found in
     let same : body ≡ binary 8 k ++ spelling (paging_shape_of k) c =

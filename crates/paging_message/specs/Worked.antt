@@ -117,9 +117,9 @@ nothing_earlier = refl
 
 -- 8 body bits of the eighth half-frame are left after the first, and 7 of the first one after a
 -- capsule of 11 octets
-left : (bits_left 95 (length first) ≡ 8) × (bits_left 95 88 ≡ 7)
+left_after_capsules : (bits_left 95 (length first) ≡ 8) × (bits_left 95 88 ≡ 7)
 unfolding first bits_left binary places
-left = (refl, refl)
+left_after_capsules = (refl, refl)
 
 -- a length of 4 or of 149 octets opens no capsule
 shut : map (λ octets. half_frame_capsule_ending 47

@@ -167,12 +167,12 @@ told_of_body {kind = kind} {form = form} {spelled = spelled} {of_capsule = of_ca
     }
 
 -- where its body is read, or is that of no message
-pub told : {M : Type 0} {kind : Kind} {form : CheckForm} {Is : M → Type 0} {body spelled : M → List Bool}
+pub tells_by_body : {M : Type 0} {kind : Kind} {form : CheckForm} {Is : M → Type 0} {body spelled : M → List Bool}
     {of_body of_capsule : List Bool → Option M} (bits inside : List Bool) (read : Option M)
     (result : Result M MessageFault) → AreRead kind form Is body spelled of_body of_capsule →
     FillsCapsule kind inside × (bits ≡ capsule kind form inside) → read ≡ of_body inside →
     result ≡ ok_or read BadBody → Tells Is spelled of_capsule bits result
-told bits inside read result are found e is = rw is (told_of_body bits inside read are found e)
+tells_by_body bits inside read result are found e is = rw is (told_of_body bits inside read are found e)
 
 -- it was a capsule
 pub whole_checked : (kind : Kind) (form : CheckForm) (bits inside : List Bool) →

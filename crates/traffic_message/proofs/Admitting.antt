@@ -4,9 +4,9 @@ use Rattle.traffic_message.proofs.Common.{leb-true, number_at, is_some, FillsCap
 use Rattle.traffic_message.proofs.Common.{part_reading, Some, Message, traffic_body_reading}
 use Rattle.traffic_message.proofs.Bodies.{body_parts_read, body_read, is_body_from, is_body_parts, message_again, message_there}
 
-there : {A : Type 0} (o : Option A) → is_some o ≡ true → (x : A) × (o ≡ Some x)
-there None h = absurd (cc)
-there (Some x) h = (x, refl)
+some_if_is_some : {A : Type 0} (o : Option A) → is_some o ≡ true → (x : A) × (o ≡ Some x)
+some_if_is_some None h = absurd (cc)
+some_if_is_some (Some x) h = (x, refl)
 
 -- A body that is admitted has a message: it is long enough for the head, its remaining bits can be
 -- read as a part of its type, and what was read spells the bits that it was read from.
@@ -20,7 +20,7 @@ admitted_has body fills h =
     let read = part_reading kind head.encryption bits in
     let both = and_parts (nat_le 17 (length body)) (is_some read) h in
     let t = is_body_from body fills (leb-true 17 (length body) both.0) in
-    let part = there read both.1 in
+    let part = some_if_is_some read both.1 in
     let m : Message = record { head = head; body = part.0 } in
     let spelled = message_there body m (body_read body part.0 t part.1) in
     record { message = m; spelled = spelled.0; same = spelled.1 }

@@ -137,18 +137,18 @@ spelled_as f c b bits made same =
     ∙ ap (spelling (layouts.traffic_shape_of (layouts.form_in b))) (sym made.contents)
 
 -- WHAT THE CODE READS AND WRITES
-pub told : (kind encryption : ℕ) (bits : List Bool) (f : BodyForm) (s : MessageShape)
+pub reads_by_form : (kind encryption : ℕ) (bits : List Bool) (f : BodyForm) (s : MessageShape)
     (read : Option Contents) → f ≡ layouts.form_at kind encryption bits → s ≡ layouts.traffic_shape_of f →
     read ≡ reading s bits →
     mapped (layouts.body_from f kind) read ≡ part_reading kind encryption bits
 unfolding part_reading
-told kind encryption bits f s read form layout e =
+reads_by_form kind encryption bits f s read form layout e =
     ap (mapped (layouts.body_from f kind)) (e ∙ ap (λ (r : MessageShape). reading r bits) layout)
     ∙ ap (λ (g : BodyForm). mapped (layouts.body_from g kind) (reading (layouts.traffic_shape_of g) bits)) form
 
-pub told_is : (kind : ℕ) (f : BodyForm) (s : MessageShape) (c : Contents) → s ≡ layouts.traffic_shape_of f →
+pub read_has_fields : (kind : ℕ) (f : BodyForm) (s : MessageShape) (c : Contents) → s ≡ layouts.traffic_shape_of f →
     IsOf s c → layouts.HasFields (layouts.body_from f kind c)
-told_is kind f s c layout is = (made_of f kind c (subst (λ (r : MessageShape). IsOf r c) layout is)).fields
+read_has_fields kind f s c layout is = (made_of f kind c (subst (λ (r : MessageShape). IsOf r c) layout is)).fields
 
 pub written : (b : TrafficBody) (f : BodyForm) (s : MessageShape) (c : Contents) → layouts.HasFields b →
     f ≡ layouts.form_in b → s ≡ layouts.traffic_shape_of f → c ≡ layouts.traffic_contents_of b →

@@ -1,4 +1,4 @@
-use Rattle.paging_message.proofs.Common.{rules, M30, IsPagingMessage, paging_capsule, paging_reading, Tells, bad_body_told, told}
+use Rattle.paging_message.proofs.Common.{rules, M30, IsPagingMessage, paging_capsule, paging_reading, Tells, bad_body_told, tells_by_body}
 use Rattle.paging_message.proofs.Common.{uncapsuled}
 use Rattle.paging_message.proofs.Readings.{are_read}
 use Rattle.paging_message.proofs.message.PagingMessage.decode.Goals.{After-from_residual, After-ok_or}
@@ -14,7 +14,7 @@ uncapsuled_at c =
 told_at : (c : After-ok_or) →
     Tells IsPagingMessage (paging_capsule c.args.form) (paging_reading c.args.form) c.args.capsule.now c.ok_or.result
 told_at c =
-    told c.args.capsule.now c.of-body.result c.read.result c.ok_or.result (are_read c.args.form)
+    tells_by_body c.args.capsule.now c.of-body.result c.read.result c.ok_or.result (are_read c.args.form)
     (rw c.of-body.ensures c.in_ok-count.ensures.found) c.read.ensures c.ok_or.ensures.value
 
 pub returns-in_err-count-clause-only : goal.returns-in_err-count-clause-only

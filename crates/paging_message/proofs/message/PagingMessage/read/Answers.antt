@@ -1,6 +1,6 @@
 use Rattle.paging_message.proofs.Common.{◌≡◌, ◌≤◌, None, Some, drop, length, subst, sym, ap, ◌∙◌, count_in, MessageShape}
 use Rattle.paging_message.proofs.ByLayout.{few_records, lawful}
-use Rattle.paging_message.proofs.Messages.{no_body, no_type, told, told_is, typed_length}
+use Rattle.paging_message.proofs.Messages.{no_body, no_type, reads_by_layout, read_is_message, typed_length}
 use Rattle.paging_message.proofs.message.PagingMessage.read.Goals as goal
 
 pub returns-then-not-fills_capsule : goal.returns-then-not-fills_capsule
@@ -33,14 +33,14 @@ pub returns-in_err-contents : goal.returns-in_err-contents
 returns-in_err-contents c =
     let body = c.args.body.now in
     let none : c.from_residual-in_err-contents.result ≡ None = cc in
-    none ∙ told body (drop c.in_ok-kind.from body) c.in_ok-kind.kind _ None
+    none ∙ reads_by_layout body (drop c.in_ok-kind.from body) c.in_ok-kind.kind _ None
     ((c.fills_capsule.ensures body (sym c.len.ensures.value)).0 c.if-not-fills_capsule.false) c.in_ok-kind.ensures.kind
     c.layout_of.ensures.shape c.in_err-contents.ensures.reading
 
 pub of-requires : goal.of-requires
 of-requires c =
     let body = c.args.body.now in
-    told_is body (drop c.in_ok-kind.from body) c.in_ok-kind.kind _ c.in_ok-contents.contents
+    read_is_message body (drop c.in_ok-kind.from body) c.in_ok-kind.kind _ c.in_ok-contents.contents
     ((c.fills_capsule.ensures body (sym c.len.ensures.value)).0 c.if-not-fills_capsule.false) c.in_ok-kind.ensures.kind
     c.layout_of.ensures.shape c.in_ok-contents.ensures.found
 
@@ -48,6 +48,6 @@ pub returns : goal.returns
 returns c =
     let body = c.args.body.now in
     ap Some c.of.ensures
-    ∙ told body (drop c.in_ok-kind.from body) c.in_ok-kind.kind _ (Some c.in_ok-contents.contents)
+    ∙ reads_by_layout body (drop c.in_ok-kind.from body) c.in_ok-kind.kind _ (Some c.in_ok-contents.contents)
     ((c.fills_capsule.ensures body (sym c.len.ensures.value)).0 c.if-not-fills_capsule.false) c.in_ok-kind.ensures.kind
     c.layout_of.ensures.shape c.in_ok-contents.ensures.reading

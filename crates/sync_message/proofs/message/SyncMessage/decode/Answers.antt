@@ -1,5 +1,5 @@
 use Rattle.sync_message.proofs.Common.{rules, refl, None, Some, Ok, Err, M30, sync_capsule, IsSyncMessage}
-use Rattle.quality_bits.proofs.Decoded.{Tells, bad_body_told, told, uncapsuled}
+use Rattle.quality_bits.proofs.Decoded.{Tells, bad_body_told, tells_by_body, uncapsuled}
 use Rattle.quality_bits.specs.declared.message_fault.MessageFault.TheVariants.{BadBody}
 use Rattle.sync_message.specs.Reading.{sync_reading}
 use Rattle.sync_message.proofs.Readings.{are_read}
@@ -16,13 +16,13 @@ uncapsuled_at c =
 read_at : (c : In-Some) →
     Tells IsSyncMessage (sync_capsule c.args.form) (sync_reading c.args.form) c.args.capsule.now (Ok c.in-Some.fields)
 read_at c =
-    told c.args.capsule.now c.of-body.result (Some c.in-Some.fields) (Ok c.in-Some.fields) (are_read c.args.form)
+    tells_by_body c.args.capsule.now c.of-body.result (Some c.in-Some.fields) (Ok c.in-Some.fields) (are_read c.args.form)
     (rw c.of-body.ensures c.in_ok-count.ensures.found) c.in-Some.ensures refl
 
 unread_at : (c : In-None) →
     Tells IsSyncMessage (sync_capsule c.args.form) (sync_reading c.args.form) c.args.capsule.now (Err BadBody)
 unread_at c =
-    told c.args.capsule.now c.of-body.result None (Err BadBody) (are_read c.args.form)
+    tells_by_body c.args.capsule.now c.of-body.result None (Err BadBody) (are_read c.args.form)
     (rw c.of-body.ensures c.in_ok-count.ensures.found) c.in-None.ensures refl
 
 pub returns-in_err-count-clause-only : goal.returns-in_err-count-clause-only

@@ -1,5 +1,5 @@
 use Rattle.traffic_message.proofs.Common.{rules, M16, IsTrafficMessage, traffic_capsule, traffic_reading, Tells, bad_body_told}
-use Rattle.traffic_message.proofs.Common.{told, uncapsuled}
+use Rattle.traffic_message.proofs.Common.{tells_by_body, uncapsuled}
 use Rattle.traffic_message.proofs.Readings.{are_read}
 use Rattle.traffic_message.proofs.message.TrafficMessage.decode.Goals.{After-from_residual, After-ok_or}
 use Rattle.traffic_message.proofs.message.TrafficMessage.decode.Goals as goal
@@ -14,7 +14,7 @@ uncapsuled_at c =
 told_at : (c : After-ok_or) →
     Tells IsTrafficMessage (traffic_capsule c.args.form) (traffic_reading c.args.form) c.args.capsule.now c.ok_or.result
 told_at c =
-    told c.args.capsule.now c.of-body.result c.read.result c.ok_or.result (are_read c.args.form)
+    tells_by_body c.args.capsule.now c.of-body.result c.read.result c.ok_or.result (are_read c.args.form)
     (rw c.of-body.ensures c.in_ok-count.ensures.found) c.read.ensures c.ok_or.ensures.value
 
 pub returns-in_err-count-clause-only : goal.returns-in_err-count-clause-only
