@@ -86,7 +86,7 @@ header_due-lawful header lawful =
     (form30_read header.check30 header.check16)
     ∙ ap (make header.check30) (form16_read header.check30 header.check16)
 
--- what a header that is due tells of its numbers
+-- the numbers of a header that is due
 record IsDue (header : Header) (version flags count : ℕ) : Type 0 where
   lawful : IsLawfulHeader header
   version_is : header.version ≡ version

@@ -7,7 +7,7 @@ use borrow.Rule.Slice.PartMut.{put_mid}
 use Rattle.cdma_io.proofs.Moves.{filled_more}
 use Rattle.cdma_io.proofs.Spelling.{length-samples, sample_len-mono}
 
--- samples that were read are so many bytes
+-- the bytes of the samples that were read, by their number
 pub samples_taken : (width : Width) (old new : Option (List ℕ)) (samples : List Sample) (most : ℕ) →
     length samples ≤ most →
     Consumes old new (flat_map (sample_spelling width) samples) →
@@ -51,7 +51,7 @@ fewer_at_most limit old new fewer = record {
   consumed = fewer.consumed;
 }
 
--- so many bytes of a buffer were taken, and no more were there
+-- `count` bytes of a buffer were taken, fewer than were wanted
 pub fewer_taken : (old new : Option (List ℕ)) (buf : List ℕ) (count wanted : ℕ) →
     count ≤ length buf → count < wanted → Consumes old new (take count buf) →
     ConsumesFewer wanted old new
@@ -76,7 +76,7 @@ piece_cut_short (Some xs) (Some ys) buf count wanted place within few read ended
       ap length ended,
     ) in (omega (arith, long, few), omega (arith, long), ended)
 
--- a file that ended is no read that failed
+-- a file that ended is not a failed read
 pub short_is_no_failure : {T : Type 0} (place : ℕ) (result : Result T FileFault) →
     result ≡ Err (Short place) → ¬ (result ≡ Err ReadFault)
 short_is_no_failure place result short failed = cc

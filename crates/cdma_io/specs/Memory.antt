@@ -20,11 +20,11 @@ pub record SinkState : Type 0 where
   pub calls : ℕ
   pub faults : ℕ
 
--- how many bytes a source gives to a buffer of so many
+-- how many bytes a source gives to a buffer of n bytes
 abbrev pub given_count : SourceState → ℕ → ℕ
 given_count s wanted = min (min wanted s.piece) (length s.bytes)
 
--- a source that gave so many bytes
+-- a source after it gave n bytes
 abbrev pub given : SourceState → ℕ → SourceState
 given s n = record s { bytes = drop n s.bytes; calls = next_count s.calls }
 
@@ -32,7 +32,7 @@ given s n = record s { bytes = drop n s.bytes; calls = next_count s.calls }
 abbrev pub source_failed : SourceState → SourceState
 source_failed s = record s { calls = next_count s.calls; faults = next_count s.faults }
 
--- how many bytes of a piece of so many a sink takes
+-- how many bytes a sink takes of a piece of n bytes
 abbrev pub taken_count : SinkState → ℕ → ℕ
 taken_count k offered = min (min offered k.piece) (k.room - length k.bytes)
 

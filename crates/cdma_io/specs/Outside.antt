@@ -26,7 +26,7 @@ CountsFaults before now result =
 abbrev pub Progresses : {E : Type 0} → Result ℕ E → List ℕ → Type 0
 Progresses result piece = IfOk result (λ n. 0 < length piece → 1 ≤ n)
 
--- known bytes lost at most so many at their front
+-- known bytes lost at most `most` bytes at their front
 pub record ConsumesAtMost (most : ℕ) (old new : Option (List ℕ)) : Type 0 where
   pub bytes : List ℕ
   pub fits : length bytes ≤ most
@@ -38,7 +38,7 @@ pub record ConsumesFewer (limit : ℕ) (old new : Option (List ℕ)) : Type 0 wh
   pub fits : length bytes < limit
   pub consumed : Consumes old new bytes
 
--- known bytes grew by the first so many of a list
+-- known bytes grew by a prefix of a list
 pub record AppendsPrefix (old new : Option (List ℕ)) (all : List ℕ) : Type 0 where
   pub count : ℕ
   pub fits : count ≤ length all

@@ -155,7 +155,7 @@ abbrev pub Opens : Result Reading FileFault → Result Header FileFault → Type
 Opens (Ok reading) due = due ≡ Ok reading.header
 Opens (Err e) due = e ≢ ReadFault → due ≡ Err e
 
--- samples of so many bytes couldn't be read: the file ends before them, or a read failed
+-- n bytes of samples couldn't be read: the file ends before them, or a read failed
 abbrev pub CutsShort : FileFault → ℕ → ℕ → Option (List ℕ) → Option (List ℕ) → Type 0
 CutsShort (Short place) wanted from None new = ⊤
 CutsShort (Short place) wanted from (Some bytes) new =
@@ -163,10 +163,10 @@ CutsShort (Short place) wanted from (Some bytes) new =
 CutsShort ReadFault wanted from old new = ⊤
 CutsShort _ wanted from old new = ⊥
 
--- What a read of so many samples says, which begin at a place of the file. Where it answers, the
--- bytes that were consumed are those of the samples, whose parts fit the width. Where it fails, the
--- file ends before them, or a take failed and the count of faults rose. No more bytes than theirs
--- are consumed, and fewer where it fails.
+-- Result of reading `count` samples from offset `place` of the file. If it returns the samples, the
+-- bytes that were consumed are theirs, and their parts fit the width. If it fails, the file ends
+-- before them, or a take failed and the count of faults rose. No more bytes than theirs are
+-- consumed, and fewer if it fails.
 pub record ReadsSamples {T : Type 0} (width : Width) (place count : ℕ) (old new : Option (List ℕ))
     (before now : ℕ) (samples : List Sample) (result : Result T FileFault) : Type 0 where
   pub spelled : OnOk result (Consumes old new (flat_map (sample_spelling width) samples))

@@ -141,7 +141,7 @@ scaled_most s a b most below =
     let all : n * unsigned_abs s ≤ n * most = mul-le-mul_left n below in
     omega (arith, all, unsigned_abs-mul s a, unsigned_abs-mul s b)
 
--- a chip of a block is no louder than the plan
+-- a chip of a block is at most as loud as the plan
 pub chip_most : (plan : CellPlan) (chip : ℕ) (z : Pair) →
     z ≡ scaled (amplitudes chip (carriers plan)) plan.link.factor →
     unsigned_abs z.i + unsigned_abs z.q ≤ loudness plan

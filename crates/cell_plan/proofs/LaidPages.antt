@@ -71,7 +71,7 @@ whole_halves size starts body (suc h) within =
       more,
     )
 
--- so many half-frames, the last of which isn't whole
+-- the number of half-frames if the last of them isn't whole
 count_whole : (size q : ℕ) → 0 < size → (size * q + size - 1) / size ≡ q
 count_whole size q some =
     let e : size * q + size - 1 ≡ q * size + (size - 1) = omega (arith, some) in

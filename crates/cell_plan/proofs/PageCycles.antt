@@ -51,7 +51,7 @@ frame_bits-is rates.R4800 n e = omega (arith, e)
 frame_bits-is rates.R2400 n e = omega (arith, e)
 frame_bits-is rates.R1200 n e = omega (arith, e)
 
--- bit i of a frame of so many bits
+-- bit i of a frame of n bits
 abbrev pub bit_of_frame : List Bool → ℕ → ℕ → ℕ → Bool
 bit_of_frame cycle size frame i = get_or cycle ((size * frame + i) % length cycle) false
 

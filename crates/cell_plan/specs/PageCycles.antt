@@ -13,7 +13,7 @@ use Rattle.quality_bits.specs.declared.rate.Rate.{Rate}
 use Rattle.cell_plan.specs.declared.plan.CellIdentity.{CellIdentity}
 use Rattle.cell_plan.specs.Sendings.{continued_symbols}
 
--- the bits of each frame of so many bits, where a cycle of bits goes on and on
+-- the bits of frame k of n bits each, if a cycle of bits repeats without end
 unfoldable pub cycled : List Bool → ℕ → ℕ → List Bool
 cycled cycle size frame =
     map (λ i. get_or cycle ((size * frame + i) % length cycle) false) (places size)

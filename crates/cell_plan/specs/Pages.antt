@@ -6,7 +6,7 @@ use Rattle.std.specs.Prelude.{length, Option, None, Some}
 use Rattle.quality_bits.specs.declared.rate.Rate.TheVariants.{R9600, R4800}
 use Rattle.paging_message.specs.Laying.{fill, half_frames_of, laid_all, nothing_laid, Laid, Put}
 
--- the rate of a cell's paging channels: 4800 where its sync message has PRAT 1, and else 9600
+-- the rate of a cell's paging channels: 4800 if its sync message has PRAT 1, otherwise 9600
 -- (7.7.1.3)
 abbrev pub sent_paging_rate : Option SyncPlan → Rate
 sent_paging_rate None = R9600
@@ -16,7 +16,7 @@ sent_paging_rate (Some sync) = if sync.message.prat == 1 then R4800 else R9600
 abbrev pub put_of : CheckForm → Page → Put
 put_of form page = record { follows = page.follows; capsule = capsule M30 form page.body }
 
--- what pages lay in half-frames of so many body bits
+-- what pages lay in half-frames of n body bits
 abbrev pub laid_pages : ℕ → CheckForm → List Page → Laid
 laid_pages size form pages = laid_all size nothing_laid (map (put_of form) pages)
 
@@ -27,17 +27,17 @@ page_cycle rate form pages =
 
 -- ---- how many bits they have
 
--- the body bits after a capsule of so many bits that is laid after others
+-- the body bits after a capsule of n bits that is laid after others
 abbrev pub laid_after : ℕ → ℕ → Bool → ℕ → ℕ
 laid_after size count follows bits =
     if follows then count + bits else count + fill size count + bits
 
--- the bits of half-frames up to the last of so many body bits, SCI bits among them
+-- the bits of half-frames up to the last of n body bits, including SCI bits
 abbrev pub half_frame_bits : ℕ → ℕ → ℕ
 half_frame_bits size count = count + (count + size - 1) / size
 
--- Pages after so many body bits: each fills a capsule, and the half-frames have at most 8,192 bits
--- up to the end of the last capsule.
+-- Pages after n body bits: each fills a capsule, and the half-frames have at most 8,192 bits up to
+-- the end of the last capsule.
 abbrev pub AreSendable : ℕ → ℕ → List Page → Type 0
 AreSendable size count [] = Unit {0}
 AreSendable size count (page ∷ pages) =

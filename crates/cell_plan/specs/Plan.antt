@@ -74,8 +74,8 @@ HaveOwnTrafficRows (t ∷ traffic) =
 abbrev pub IsFreeOf : List TrafficPlan → ℕ → Type 0
 IsFreeOf traffic row = All (λ (t : TrafficPlan). t.row ≢ row) traffic
 
--- traffic channels that can be sent beside these paging channels: there are no more than rows, and
--- each has a row of its own
+-- traffic channels that can be sent together with these paging channels: there are no more than
+-- rows, and each has a row of its own
 pub record AreLawfulBeside (paging : List PagingPlan) (traffic : List TrafficPlan) : Type 0 where
   pub few : length traffic ≤ 62
   pub are : All IsTrafficPlan traffic

@@ -25,8 +25,8 @@ abbrev pub IsStatedSync : Option SyncPlan → Type 0
 IsStatedSync None = Unit {0}
 IsStatedSync (Some sync) = IsSyncMessage sync.message
 
--- Pages after so many body bits: each is a message, and one follows the one before at once only
--- where 8 body bits of the half-frame are left.
+-- Pages after n body bits: each is a message, and a page follows the one before at once only if 8
+-- body bits of the half-frame are left.
 abbrev pub AreHeard : ℕ → ℕ → List Page → Type 0
 AreHeard size count [] = Unit {0}
 AreHeard size count (page ∷ pages) =

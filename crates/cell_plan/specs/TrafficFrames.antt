@@ -47,7 +47,7 @@ placed_symbols (SetOne rate) information =
 placed_symbols (SetTwo rate) information = sent_frame2 rate information
 
 -- the 384 symbols of a frame as they are sent, where these are those before scrambling: the power
--- control bits stand in place of symbols that are scrambled
+-- control bits replace symbols after scrambling
 abbrev pub sent_with : ℕ → ℕ → List Bool → List Bool → List Bool
 sent_with state mask power_bits symbols =
     with_power_bits state mask power_bits (scrambled (scrambling state mask) symbols)

@@ -84,8 +84,8 @@ impl TrafficFrame {
     ghost use Rattle.cell_plan.specs.TrafficFrames.{traffic_symbols, IsTrafficFrame};
 
     /// Returns the 384 symbols of the frame, given the long-code state at its beginning and a mask
-    /// of 42 bits: those of its rate in the sent order, scrambled, with the power control bits in
-    /// place of some.
+    /// of 42 bits: those of its rate in the sent order, scrambled, some of them replaced by power
+    /// control bits.
     #[tactic(auto, unfolding(crate::specs::TrafficFrames::traffic_symbols))]
     pub fn symbols(&self, state: &State, mask: u64) -> Bits
         requires frame { IsTrafficFrame self.now }

@@ -17,7 +17,7 @@ chip_is plan block chip sent link =
     ap (λ (cs : List Carrier). scaled (amplitudes chip cs) block.factor) sent
     ∙ ap (scaled (amplitudes chip (carriers plan))) link
 
--- it is no louder than a sample may be
+-- it is at most as loud as a sample may be
 pub chips_quiet : (width : Width) (plan : CellPlan) (channels : List ChannelState) →
     map carrier_of channels ≡ carriers plan → loudness plan ≤ most_part width →
     AreQuiet (map carrier_of channels) plan.link.factor

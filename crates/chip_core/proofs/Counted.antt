@@ -57,7 +57,7 @@ flat_map-nothing {X} f (suc n) none =
     ∙ ap (λ (l : List X). l ++ f n) (flat_map-nothing f n (λ k lt. none k (omega (arith, lt))))
     ∙ none n (omega arith)
 
--- the first so many
+-- the first k of n places
 pub take-map-places : {X : Type 0} (f : ℕ → X) (k n : ℕ) → k ≤ n →
     take k (map f (places n)) ≡ map f (places k)
 take-map-places f k n le =

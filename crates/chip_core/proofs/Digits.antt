@@ -1,4 +1,4 @@
--- Numbers of so many bits, and their digits: sums, shifts and the numbers again.
+-- Binary digits of numbers of a given width: sums, shifts, and the numbers that digits spell.
 use Rattle.chip_core.proofs.Common.{◌≡◌, ℕ, zero, suc, ◌+◌, ◌*◌, ◌/◌, ◌%◌, ◌^◌, ◌<◌, Bool, false, List, [], ◌∷◌, ◌++◌, length, refl, sym}
 use Rattle.chip_core.proofs.Common.{ap, ◌∙◌, arith, nat_eq, bit_xor, xor_shr, pow_pos, field_of, bit_at_xor, mod-mod-pow, xor, number}
 use Rattle.chip_core.proofs.Common.{binary, digit_again}

@@ -69,7 +69,7 @@ bit_of-half n k =
 pub bit_of-next : (r : ℕ) (b : Bool) (k : ℕ) → bit_of (2 * r + digit b) (suc k) ≡ bit_of r k
 bit_of-next r b k = bit_of-half (2 * r + digit b) k ∙ ap (λ m. bit_of m k) (half_of r b)
 
--- the clauses of `binary`, which unfolds nowhere else
+-- the clauses of `binary`, which is unfolded only here
 pub binary-none : (n : ℕ) → binary 0 n ≡ []
 unfolding binary
 binary-none n = refl

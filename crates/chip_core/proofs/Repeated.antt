@@ -4,7 +4,7 @@ use Rattle.chip_core.proofs.Common.{sym, ap, ◌∙◌, arith, length-append, le
 use Rattle.chip_core.proofs.Common.{get_or-append_right, get_or-drop, get_or-take, get_or_append_left, length-take-le, mod-mul-add}
 use Rattle.chip_core.proofs.Places.{map-places-all}
 
--- a list so many times
+-- a list repeated n times
 abbrev pub repeated : {X : Type 0} → ℕ → List X → List X
 repeated zero xs = []
 repeated (suc n) xs = repeated n xs ++ xs
@@ -35,7 +35,7 @@ get_or-repeated (suc n) xs i d lt =
           (sym (ap (λ (k : ℕ). k % w) e ∙ mod-mul-add n w r low))
     ]
 
--- so many of them from a place on
+-- `many` of them from place `first` on
 pub repeated-part : {X : Type 0} (n : ℕ) (xs : List X) (first many : ℕ) (d : X) →
     first + many ≤ length xs * n →
     map (λ j. get_or xs ((first + j) % length xs) d) (places many)

@@ -43,7 +43,7 @@ free_taken b e f = let both : false ≡ true = sym e ∙ f in absurd (cc)
 pub record AllTaken (taken : List ℕ) (n : ℕ) : Type 0 where
   pub all : (k : ℕ) → k < n → list_any (nat_eq k) taken ≡ true
 
--- after so many numbers
+-- after the first n numbers
 abbrev pub Scanned : List ℕ → (ℕ → ℤ) → ℕ → ℕ → Type 0
 Scanned taken f n best = (AllTaken taken n × (best ≡ 0)) ⊎ IsGreatestUnless taken f n best
 
@@ -129,8 +129,8 @@ picked : (taken : List ℕ) (f : ℕ → ℤ) (n best : ℕ) → IsGreatestUnles
 picked taken f n best is e true t = takes taken f n best is e (tested (f best) (f n) t)
 picked taken f n best is e false t = keeps taken f n best is (untested (f best) (f n) t)
 
--- One place more that isn't taken keeps the greatest of all that aren't: the new one is picked
--- where its value is above the best so far, and else the best stays, so at a tie the first is kept.
+-- One place more that isn't taken keeps the greatest of all that aren't: the new one is picked if
+-- its value is above the best so far; otherwise the best stays. So on a tie the first is kept.
 next_best-picked : (taken : List ℕ) (f : ℕ → ℤ) (n best : ℕ) → IsGreatestUnless taken f n best →
     list_any (nat_eq n) taken ≡ false → IsGreatestUnless taken f (n + 1) (next_best taken f n best)
 next_best-picked taken f n best is e =

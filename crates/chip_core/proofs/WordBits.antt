@@ -30,7 +30,7 @@ set_others word place v true within is i other =
     rw is (ap (λ (m : ℕ). nat_eq m 1) (bit_at_set_other w64 word place within i other))
 set_others word place v false within is i other = rw is (or_nothing word place i)
 
--- a word was changed at the place of one bit alone
+-- a word was changed only at the place of one bit
 pub record SetsBit (words : List ℕ) (count v : ℕ) (bit : Bool) : Type 0 where
   pub within : count / 64 < length words
   pub here : bit_of v (count % 64) ≡ bit

@@ -31,7 +31,7 @@ number_from n (b ∷ bs) = number_from (2 * n + digit b) bs
 abbrev pub number : List Bool → ℕ
 number bs = number_from 0 bs
 
--- the lowest so many binary digits of a number, the highest first
+-- the lowest n binary digits of a number, the highest first
 unfoldable pub binary : ℕ → ℕ → List Bool
 binary zero n = []
 binary (suc width) n = binary width (n / 2) ++ (n % 2 == 1) ∷ []

@@ -5,7 +5,7 @@ use Rattle.std.specs.Prelude.{ℕ, ◌-◌, ◌≤◌, ◌≡◌, List, ◌++◌
 abbrev pub filled_list : List ℕ → List ℕ
 filled_list numbers = numbers ++ replicate (128 - length numbers) 0
 
--- the array holds so many numbers, and zeros after them
+-- the array holds `count` numbers, and zeros after them
 pub record IsListed (places : List ℕ) (count : ℕ) : Type 0 where
   pub room : count ≤ 128
   pub long : length places ≡ 128

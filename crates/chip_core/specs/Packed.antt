@@ -7,7 +7,7 @@ use Rattle.chip_core.specs.Bits.{digit, bit_of}
 abbrev pub word_bit : List ℕ → ℕ → Bool
 word_bit words i = bit_of (get_or words (i / 64) 0) (i % 64)
 
--- the first so many bits
+-- the first n bits
 unfoldable pub unpacked : List ℕ → ℕ → List Bool
 unpacked words count = map (word_bit words) (range_with_len 0 count)
 
@@ -19,7 +19,7 @@ low_first (b ∷ bs) = digit b + 2 * low_first bs
 unfoldable pub packed : List Bool → List ℕ
 packed bits = map (λ w. low_first (take 64 (drop (64 * w) bits))) (range_with_len 0 19)
 
--- the words hold so many bits, and zeros after them
+-- the words hold `count` bits, and zeros after them
 pub record IsPacked (words : List ℕ) (count : ℕ) : Type 0 where
   pub room : count ≤ 1184
   pub long : length words ≡ 19

@@ -5,7 +5,7 @@ ghost use Rattle.std.specs.Char.{is_ascii_digit};
 ghost use Rattle.chip_core.specs.Decimals.{digits_from};
 
 /// The number that at most 20 decimal digits spell, leading zeros among them; `None` exactly if a
-/// byte of the text is no digit. A text of no bytes spells 0.
+/// byte of the text is not a digit. A text of no bytes spells 0.
 pub fn digits_in(text: &[u8]) -> Option<u128>
     requires { length text.now ≤ 20 }
     ensures { result ≡ digits_from 0 text.now }

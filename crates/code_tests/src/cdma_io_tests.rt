@@ -25,7 +25,7 @@ fn source_of(alloc: Global, bytes: &[u8], failing: u64) -> Result<MemorySource, 
     Ok(MemorySource::new(bytes, 7, failing))
 }
 
-// In each of these one call fails alone, so whoever tried it again would go on as if nothing had
+// In each of these exactly one call fails, so code that retried it would continue as if nothing had
 // failed.
 #[test]
 fn the_first_failed_call_ends_fill(rt: HostRuntime) -> Result<(), Fail> {

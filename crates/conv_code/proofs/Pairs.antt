@@ -43,7 +43,7 @@ pub symbols_at : (start bits : List Bool) (j : ℕ) → j < length bits →
 symbols_at start bits j lt =
     pairs_at (symbol g0 (start ++ bits)) (symbol g1 (start ++ bits)) (length bits) j lt
 
--- The pair at place j is made of the state before it and of bit j alone: the code after the first j
+-- The pair at place j depends only on the state before it and on bit j: the code after the first j
 -- bits goes on from their state (`following`), and later bits don't enter the pair (`before`).
 pub pair_from_state : (start codeword : List Bool) (j : ℕ) → length start ≡ 8 → j < length codeword →
     pair (start ++ codeword) j ≡ pair (state_after start (take j codeword) ++ get_or codeword j false ∷ []) 0

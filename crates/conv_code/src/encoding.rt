@@ -1,4 +1,4 @@
-//! From bits to symbols.
+//! Encodes bits into code symbols.
 
 ghost use Rattle.std.specs.Prelude.{◌≡◌, ◌≤◌, ◌+◌, ◌*◌, ◌%◌, ◌^◌, ◌++◌, ◌∷◌, [], ℕ, length};
 ghost use Rattle.chip_core.specs.Bits.{binary, digit};
@@ -9,7 +9,7 @@ use chip_core::{Bits, parity_at};
 use std::marker::Model;
 
 /// The encoder's shift register: the last eight bits that it took, as a number whose bit 0 is the
-/// newest.
+/// newest bit.
 ///
 /// Contracts see that number. TIA/EIA-95-B, 7.1.3.1.3.1: constraint length 9.
 #[derive(Clone, Copy, PartialEq, Eq, Debug)]
@@ -26,14 +26,14 @@ impl Model for Register {
 }
 
 impl Register {
-    /// A register that took the eight bits of `start` before; bit 0 is the newest.
+    /// Returns a register that has taken the eight bits of `start`, of which bit 0 is the newest.
     pub fn new(start: u8) -> Register
         ensures { result ≡ start }
     {
         Register { state: start }
     }
 
-    /// Takes one bit and gives its two code symbols, that of 753 octal first.
+    /// Takes a bit and returns its two code symbols, that of the generator 753 (octal) first.
     pub fn push(&mut self, bit: bool) -> (bool, bool)
         ensures first { result.0 ≡ symbol g0 (binary 8 self.old ++ bit ∷ []) 0 }
         ensures second { result.1 ≡ symbol g1 (binary 8 self.old ++ bit ∷ []) 0 }
@@ -48,7 +48,7 @@ impl Register {
         )
     }
 
-    /// The last eight bits; bit 0 is the newest.
+    /// Returns the last eight bits; bit 0 is the newest.
     pub fn state(&self) -> u8
         ensures { result ≡ self.now }
     {
@@ -56,13 +56,12 @@ impl Register {
     }
 }
 
-/// Encodes bits from a start state, two symbols a bit.
+/// Encodes bits from a start state into two symbols each, and returns the last state.
 ///
-/// `out` becomes the symbols, whatever it held; the answer is the last state. Bit 0 of a state is
-/// its newest bit.
+/// `out` becomes the symbols, replacing its content. Bit 0 of a state is its newest bit.
 ///
-/// TIA/EIA-95-B, 7.1.3.1.3.1: of a bit's two symbols that of 753 octal comes first, then that of
-/// 561 octal.
+/// TIA/EIA-95-B, 7.1.3.1.3.1: a bit's symbol of the generator 753 (octal) comes first, then that of
+/// 561 (octal).
 pub fn encode_into(start: u8, bits: &Bits, out: &mut Bits) -> u8
     requires { length bits.now ≤ 592 }
     ensures symbols { out.new ≡ code_symbols (binary 8 start) bits.now }

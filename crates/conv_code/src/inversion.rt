@@ -1,4 +1,4 @@
-//! From symbols back to bits.
+//! Recovers bits from symbols without errors.
 
 ghost use Rattle.std.specs.Prelude.{◌≡◌, ◌<◌, ◌≤◌, ◌+◌, ◌*◌, ◌%◌, ℕ, Bool, false, List, [], ◌∷◌};
 ghost use Rattle.std.specs.Prelude.{◌++◌, length, map, get_or, All, IfSome, IfNone};
@@ -9,15 +9,15 @@ ghost use Rattle.conv_code.specs.ConvCode.{IsNoCodeword};
 use crate::encoding::Register;
 use chip_core::Bits;
 
-/// The start state and the bits whose symbols these are; `None` exactly if no start and bits give
-/// these symbols.
+/// Returns the start state and the bits whose symbols these are; `None` exactly if no start state
+/// and bits have these symbols.
 ///
-/// Eight pairs of symbols or more fix the start and every bit. Each bit of the start is a sum of
-/// some of the first sixteen symbols. From there each bit is the one that gives its first symbol,
-/// and its second symbol has to agree. Bit 0 of the start is its newest bit.
+/// Eight pairs of symbols or more determine the start state and every bit. Each bit of the start
+/// state is a sum of some of the first sixteen symbols. Then each bit is the one that gives its
+/// first symbol, and its second symbol must agree. Bit 0 of the start state is its newest bit.
 ///
-/// For tools that have symbols and no soft values, as a test bench that looks at what a transmitter
-/// sends; a handset finds the best codeword instead.
+/// For tools that have symbols and no soft values, such as a test bench that checks a transmitter;
+/// a handset finds the best codeword instead.
 pub fn invert(symbols: &Bits) -> Option<(u8, Bits)>
     requires even { length symbols.now % 2 ≡ 0 }
     requires enough { 16 ≤ length symbols.now }
@@ -31,7 +31,8 @@ pub fn invert(symbols: &Bits) -> Option<(u8, Bits)>
     Some((start, bits))
 }
 
-/// The bits whose symbols these are from a start state; `None` if no bits give them.
+/// Returns the bits whose symbols, from a start state, these are; `None` if no bits have these
+/// symbols.
 fn bits_from(start: u8, symbols: &Bits) -> Option<Bits>
     requires { length symbols.now % 2 ≡ 0 }
     ensures found { IfSome result (λ bits. code_symbols (binary 8 start) bits ≡ symbols.now) }
@@ -52,7 +53,7 @@ fn bits_from(start: u8, symbols: &Bits) -> Option<Bits>
     Some(bits)
 }
 
-/// The bit that gives this first symbol from a register.
+/// Returns the bit whose first symbol, after a register, is this one.
 fn bit_for(mut register: Register, first: bool) -> bool
     ensures { IsBitFor (binary 8 register) first result }
 {
@@ -60,7 +61,7 @@ fn bit_for(mut register: Register, first: bool) -> bool
     first_of_zero != first
 }
 
-/// The one start state that can have given the symbols.
+/// Returns the only start state that can have given the symbols.
 ///
 /// The generators have no common factor, so for each k up to 15 there are polynomials a and b of
 /// degree below 8 with a g0 + b g1 = D^k. So each of the sixteen bits after the first eight pairs

@@ -1,5 +1,5 @@
 //! The convolutional code of rate 1/2 and constraint length 9 (TIA/EIA-95-B, 7.1.3.1.3.1): the
-//! encoder, one bit at a time or a whole list, and the way back from symbols without errors.
+//! encoder, for one bit at a time or a whole list, and its inverse for symbols without errors.
 #![tactic(auto)]
 
 mod encoding;

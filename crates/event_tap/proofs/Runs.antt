@@ -67,7 +67,7 @@ run_text-no_taps (event ∷ events) = run_text-no_taps events
 
 -- TAPS THAT ARE KEPT
 
--- a tap of this form with so many events left
+-- a tap of this form with n events left
 abbrev pub tap : ℕ → ℕ → KeptTap
 tap form left = record { form = form; left = left }
 

@@ -1,4 +1,5 @@
--- Lemmas on what lines tell of messages by their layouts: how long records are, and which layouts have a line.
+-- Lemmas on the lines of messages, by their layouts: how long records are, and which layouts have a
+-- line.
 use Rattle.event_tap.proofs.Common.{◌≡◌, ℕ, ◌+◌, ◌*◌, ◌^◌, ◌<◌, ◌≤◌, Bool, true, List, [], ◌∷◌, ◌++◌, length, get_or, codes, decimal, refl}
 use Rattle.event_tap.proofs.Common.{sym, ap, subst, ◌∙◌, arith, inl, inr, nat_le, nat_lt, Option, None, Some, slice_get, cond, append_assoc}
 use Rattle.event_tap.proofs.Common.{length-append, zero, suc, ◌≢◌, length-decimal-le, get_or-map, get_or_default, length-map, list_all}

@@ -296,7 +296,7 @@ module _ {T : Type 0} where
     kept = All-seen shape left all h;
   }
 
-  -- the taps alone
+  -- the taps without their text
   pub unwritten : (shape left : T → ℕ) (event : Event) (before after : Option (List ℕ))
       (all now : List T) (place : ℕ) → IsHearing shape left event before after all now place →
       IsHearing shape left event None None all now place

@@ -46,7 +46,7 @@ few_records_in m (System d) is body = tt
 few_records_in m (Neighbors d) is body = tt
 few_records_in m (Other kind bits) is body = tt
 
--- all else is told by its layout
+-- any other body is written by its layout
 pub traffic_lines : (b : TrafficBody) → ((m : DirectionFields) → b ≢ Handoff m) →
     has_line (traffic_names_of (form_in b)) (traffic_shape_of (form_in b)) ≡ true
 unfolding has_line are_short

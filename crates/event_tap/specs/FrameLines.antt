@@ -20,7 +20,7 @@ received_text rate good bits power_bits =
     codes " rate=" ++ decimal rate ++ codes " good=" ++ digit_of good ++ codes " bits="
     ++ bit_text bits ++ codes " commands=" ++ digits_of power_bits ++ codes "\n"
 
--- the line of a frame that ends after so many samples
+-- the line of a frame that ends after n samples
 unfoldable pub frame_line : ℕ → Rate → Bool → List Bool → List Bool → List ℕ
 frame_line place rate good bits power_bits =
     codes "frame at=" ++ decimal place

@@ -50,7 +50,7 @@ message_text kind names widths c =
     if length names.word == 0 then kind_text kind c.rest else said_text names widths c
 
 -- HOW LONG IT IS
--- how many digits a number of so many bits has at most
+-- the most digits of a number of n bits
 abbrev pub digits_in : ℕ → ℕ
 digits_in width = width * 3 / 10 + 1
 

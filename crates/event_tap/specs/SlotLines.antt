@@ -15,13 +15,13 @@ use Rattle.event_tap.specs.PagingLines.{paging_line, slot_line}
 
 -- ---- a slot's messages and lines
 
--- the messages of the bits of a slot: those of the capsules that lie in these bits alone
+-- the messages of the bits of a slot: those whose capsules lie entirely in these bits
 unfoldable pub slot_pages : CheckForm → Rate → List Bool → List PagingMessage
 slot_pages check rate bits =
     flat_map (λ capsule. option_to_list (paging_reading check capsule))
     (capsules_in (half_frame_body rate) bits)
 
--- the line of a slot that ends after so many samples, and those of its messages
+-- the line of a slot that ends after n samples, and those of its messages
 abbrev pub slot_lines : ℕ → ℕ → List PagingMessage → List ℕ
 slot_lines place time pages =
     slot_line place time (length pages) ++ flat_map (paging_line place) pages
@@ -36,7 +36,7 @@ frame_of_slot slot i = 4 * slot + i
 abbrev pub frame_of_slot_end : Stream → ℕ → ℕ → ℕ
 frame_of_slot_end s slot i = frame_end s.fingers s.form (frame_start s (frame_of_slot slot i))
 
--- whether all of its frames lie in a file of so many samples, and end within the first n
+-- whether all of its frames lie in a file of `count` samples, and end within the first n
 abbrev pub is_slot_within : ℕ → Stream → ℕ → ℕ → Bool
 is_slot_within count s n slot =
     list_all
@@ -61,7 +61,7 @@ lines_of_slot check m samples s slot =
     slot_lines (frame_of_slot_end s slot 3) (m.time + slot)
     (slot_pages check rate (slot_bits rate (slot_softs samples s slot)))
 
--- more slots than end within so many samples
+-- a bound above the number of slots that end within n samples
 abbrev pub slot_bound : ℕ → ℕ
 slot_bound n = n / superframe_chips + 1
 

@@ -9,9 +9,9 @@ use Rattle.event_tap.specs.SlotLines.{slot_lines, slot_pages}
 -- ---- the frames of a slot
 
 -- The four frames of a slot are those whose numbers, counted from the mark on, have one quotient by
--- 4. The frames of a slot up to a frame, where those before that one are kept: a slot's first frame
--- begins it anew, another one goes after those before it, and where one of these is missing there
--- are none.
+-- 4. The frames of a slot up to a frame, where those before that one are kept: the first frame of a
+-- slot starts a new list, another frame is added to those before it, and the list is empty if one
+-- of these is missing.
 abbrev pub slot_more : List SoftFrame → SoftFrame → List SoftFrame
 slot_more kept frame =
     if frame.number % 4 == 0 then frame ∷ []

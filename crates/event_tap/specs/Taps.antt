@@ -65,7 +65,7 @@ abbrev pub left_after : Option (List ℕ) → ℕ → ℕ
 left_after None left = left
 left_after (Some line) left = left - 1
 
--- what a tap answers that has so many events left
+-- what a tap with n events left answers
 abbrev pub kept_or_done : ℕ → Heard
 kept_or_done left = if nat_eq left 0 then Done else Keep
 

@@ -24,7 +24,7 @@ search_text None = []
 search_text (Some s) = named_values search_names (search_values s)
 
 -- ` handoff use=.. action=.. hdm=..`, then ` wina=.. tadd=.. tdrop=.. tcomp=.. ttdrop=..` where the
--- direction brings them, ` extra=BITS records=P/R/C,P/R/C,.. rest=BITS` and LF: of each record the
+-- direction brings them, ` extra=BITS records=P/R/C,P/R/C,.. rest=BITS` and LF: for each record the
 -- pilot, the row and PWR_COMB_IND
 unfoldable pub handoff_text : DirectionFields → List ℕ
 handoff_text m =
@@ -32,7 +32,7 @@ handoff_text m =
     ++ codes " extra=" ++ bit_text m.extra ++ codes " records="
     ++ commas (columns_texts (m.pns ∷ m.rows ∷ m.combs ∷ [])) ++ rest_text m.rest
 
--- what the line says after the head: a handoff direction so, and all else by its layout
+-- what the line says after the head: a handoff direction in this way, any other body by its layout
 abbrev pub body_text : TrafficBody → List ℕ
 body_text (bodies.Handoff m) = handoff_text m
 body_text b =

@@ -39,7 +39,7 @@ within : filter (is_slot_within 1228800 (stream (pos 0 ∷ [])) 1228800) (places
 unfolding tuned mark_with stream places
 within = refl
 
--- key 0 monitors time 1008 alone,
+-- key 0 monitors only time 1008,
 one_heard : heard 0 0 1228800 ≡ 1 ∷ []
 unfolding tuned mark_with stream heard places
 one_heard = refl

@@ -90,7 +90,7 @@ one_small bits size code symbols k softs out part e f long room before here =
     rw (written bits code k out part e long room, all, sum, sum')
     (omega (arith, before, one))
 
--- so many soft values are gathered
+-- how many soft values are gathered
 pub length-gathered_span : (kind : Kind) (bits repeats n : ℕ) (softs : List ℤ) →
     2 * bits * repeats ≡ size (shape_of kind) →
     length (gathered_span (channel kind bits repeats) n softs) ≡ 2 * bits * n

@@ -26,7 +26,7 @@ length-sent_frames kind bits repeats n symbols =
     length-frames (sent_frame kind bits repeats symbols) (size (shape_of kind)) n
     (λ k. length-sent (shape_of kind) repeats (take (2 * bits) (drop (2 * bits * k) symbols)))
 
--- a part of so many lies within
+-- a part of `size` elements lies within
 length-part : {A : Type 0} (xs : List A) (size n : ℕ) → size * suc n ≤ length xs →
     length (take size (drop (size * n) xs)) ≡ size
 length-part xs size n room =

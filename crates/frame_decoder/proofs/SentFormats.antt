@@ -171,7 +171,7 @@ signs_chosen {R} format_of rates replaced rate information softs codewords named
     (frame_same format_of kept rate rate information (codeword_in kept format) more (named rate) long' refl
     found))
 
--- the best codewords alone
+-- the best codewords, without the choice among them
 pub best_codewords : {R : Type 0} (format_of : R → FrameFormat R) (kept : List ℤ) →
     AreCodewords format_of kept (λ r. codeword_in kept (format_of r) ∷ [])
 best_codewords format_of kept = record {

@@ -104,8 +104,8 @@ kept_not_against true true z has = omega (arith, ints)
 kept_not_against true false z has = omega (arith, ints)
 kept_not_against false b z has = sign_is_not_against b z (has refl)
 
--- No soft value that counts is against its symbol: where a power control bit replaces the symbol
--- the value is 0, and everywhere else it has the symbol's sign.
+-- No soft value that counts is against its symbol: if a power control bit replaces the symbol, the
+-- value is 0; otherwise it has the symbol's sign.
 none_against : (replaced : List ℕ) (xs : List Bool) (softs : List ℤ) → length softs ≡ 384 →
     length xs ≡ 384 → KeepSigns replaced xs softs →
     AllZip IsNotAgainst xs (unreplaced replaced softs)

@@ -105,7 +105,7 @@ zeros_read n k = ⊎_elim
     get_or_past (replicate n (pos 0)) k (pos 0) (omega (arith, past, length-replicate n (pos 0))))
     (cases_lt k n)
 
--- and of them the first so many
+-- and the first k of them
 pub first_zeros_read : (count n k : ℕ) → count ≤ n →
     get_or (take count (replicate n (pos 0))) k (pos 0) ≡ pos 0
 first_zeros_read count n k few = ⊎_elim

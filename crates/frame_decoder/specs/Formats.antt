@@ -86,8 +86,8 @@ not_good format bits score = record {
   score = score;
 }
 
--- the best candidate where it is good; where not, its score alone is kept, and where there is none,
--- that of the codeword of the highest rate
+-- the best candidate where it is good; if it is not good, only its score is kept, and if there is
+-- none, that of the codeword of the highest rate
 abbrev pub good_or : {R : Type 0} → FrameFormat R → List Bool → ℤ → Option (DecodedFrame R) →
     DecodedFrame R
 good_or format bits score None = not_good format bits score

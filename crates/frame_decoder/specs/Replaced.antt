@@ -7,7 +7,7 @@ use Rattle.std.specs.List.{list_any}
 abbrev pub is_replaced : List ℕ → ℕ → Bool
 is_replaced replaced i = list_any (nat_eq i) replaced
 
--- the soft values, with 0 in place of those of the replaced symbols
+-- the soft values, with those of the replaced symbols set to 0
 unfoldable pub unreplaced : List ℕ → List ℤ → List ℤ
 unreplaced replaced softs =
     map (λ i. if is_replaced replaced i then pos 0 else get_or softs i (pos 0))

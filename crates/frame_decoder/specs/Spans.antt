@@ -32,7 +32,7 @@ channel_for (Paging rate) = paging_channel rate
 abbrev pub channel_of : SpanFormat → Channel
 channel_of l = record { shape = shape_of l.kind; bits = l.bits; repeats = l.repeats }
 
--- how codewords turn into symbols as they are sent: so many frames of so many code symbols
+-- how a codeword turns into sent symbols: the number of frames, and their code symbols
 pub record Sending : Type 0 where
   pub frames : ℕ
   pub shape : Shape

@@ -47,7 +47,7 @@ group_sum replaced softs g =
     get_or softs (get_or replaced (2 * g) 0) (pos 0)
     +ℤ get_or softs (get_or replaced (2 * g + 1) 0) (pos 0)
 
--- of a frame's 16 groups
+-- for each of a frame's 16 groups
 abbrev pub group_sums : List ℕ → List ℤ → List ℤ
 group_sums replaced softs = map (group_sum replaced softs) (places 16)
 

@@ -17,8 +17,8 @@ pub type GroupSums = [i64; 16];
 
 /// The soft values of a frame's power control bits on up to six subchannels.
 ///
-/// TIA/EIA-95-B, 7.1.3.1.7: a frame has 16 power control bits, each in place of two symbols, which
-/// aren't scrambled.
+/// TIA/EIA-95-B, 7.1.3.1.7: a frame has 16 power control bits, which are not scrambled; each
+/// replaces two symbols.
 #[derive(Clone, Copy, PartialEq, Eq, Debug)]
 pub struct PowerSofts {
     /// How many subchannels there are, at most six.
@@ -93,9 +93,9 @@ fn is_up(heard: &[GroupSums], group: usize) -> bool
     up
 }
 
-/// The 16 power control bits of a frame: a bit is 0, which tells the handset to raise its power,
-/// exactly if the sum of its soft values is above 0 on each subchannel, and else 1, which tells it
-/// to lower it.
+/// The 16 power control bits of a frame: a bit is 0, which commands the handset to raise its power,
+/// exactly if the sum of its soft values is above 0 on each subchannel; otherwise it is 1, which
+/// commands it to lower its power.
 ///
 /// TIA/EIA-95-B, 7.1.3.1.7: a 0 raises the power and a 1 lowers it.
 pub fn commands(softs: &PowerSofts) -> PowerBits

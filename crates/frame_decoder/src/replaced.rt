@@ -16,10 +16,10 @@ fn clear_at(values: &mut FrameSofts, place: u16)
     }
 }
 
-/// The soft values of a frame's 384 symbols with 0 in place of those of power control bits:
+/// Returns the soft values of a frame's 384 symbols, with those of power control bits set to 0:
 /// `places` has their places, as `symbol_path::power_places` gives them. No absolute value grows.
 ///
-/// TIA/EIA-95-B, 7.1.3.1.7: a power control bit is sent in place of two symbols.
+/// TIA/EIA-95-B, 7.1.3.1.7: a power control bit replaces two symbols.
 pub fn without_power_bits(softs: &FrameSofts, places: &PowerPlaces) -> FrameSofts
     ensures value { result ≡ unreplaced places.now softs.now }
     ensures bound { sum_by unsigned_abs result ≤ sum_by unsigned_abs softs.now }

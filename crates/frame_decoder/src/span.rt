@@ -85,11 +85,11 @@ fn bits_of(
 
 /// The bits of frame `own`, counted from 0, of a span of one to three frames of a kind.
 ///
-/// `softs` has the soft values of so many frames in the sent order, one frame after another, turned
-/// by the scrambling where there is one; a soft value is positive where its symbol is more likely a
-/// 0. The bits are those of the span's best codeword: of all codewords of so many bits a frame,
-/// with any start and any end, the one whose sent symbols agree best with the soft values of all
-/// frames together, and the first in the decoder's order where several do.
+/// `softs` has the soft values of `frames` frames in the sent order, one frame after another, with
+/// the scrambling removed if there is any; a soft value is positive if its symbol is more likely a
+/// 0. The bits are those of the span's best codeword: of all codewords of its length, with any
+/// start and any end, the one whose sent symbols agree best with the soft values of all frames
+/// together. If several agree best, it is the first of them in the decoder's order.
 ///
 /// TIA/EIA-95-B, 7.1.3.1: the bits are encoded from frame to frame, each code symbol is sent so
 /// often, and the symbols of each frame are interleaved by themselves.

@@ -42,12 +42,12 @@ impl Decoded {
 /// Decodes a traffic frame of rate set 1.
 ///
 /// `softs` has the soft values of a frame's 384 symbols in the sent order, turned by the
-/// scrambling, and `places` the places of the power control bits, whose soft values count as 0. Of
-/// each rate the best codeword is found, of those that start from eight zeros and end with eight
-/// zeros. Those of 9,600 and 4,800 bits a second are candidates where their quality indicator is
-/// right, and the others always. The candidate of the largest score is taken, the higher rate on a
-/// tie, and is good exactly if that score is above 0. If it isn't, the rate is 9,600, with the
-/// information bits of the best codeword at that rate.
+/// scrambling, and `places` the places of the power control bits, whose soft values count as 0. For
+/// each rate, the best codeword is found among those that start and end with eight zeros. Those of
+/// 9,600 and 4,800 bits a second are candidates where their quality indicator is right, and the
+/// others always. The candidate of the largest score is taken, the higher rate on a tie, and is
+/// good exactly if that score is above 0. If it isn't, the rate is 9,600, with the information bits
+/// of the best codeword at that rate.
 ///
 /// TIA/EIA-95-B, 7.1.3.5: the bits of a frame at each rate; 7.1.3.1: they are encoded, each code
 /// symbol is sent 1, 2, 4 or 8 times, and the symbols are interleaved.

@@ -10,7 +10,8 @@ use Rattle.std.specs.List.{filter}
 use Rattle.rake_finger.proofs.Spans.{span_softs_sooner}
 use Rattle.chip_core.proofs.Ranges as ranges
 
--- which lie in the file, at how many samples each is known, and more numbers than are known within so many samples
+-- which lie in the file, at how many samples each is known, and a bound above the numbers that are
+-- known within n samples
 pub record Arrivals : Type 0 where
   pub inside : ℕ → Bool
   pub known : ℕ → ℕ

@@ -1,4 +1,4 @@
--- The first samples alone decide what is heard within them.
+-- What is heard within the first samples depends only on them.
 use Rattle.heard_events.proofs.Common.{◌≡◌, ℕ, suc, ◌+◌, ◌≤◌, true, List, [], ◌∷◌, ◌++◌, length, take, refl, ap, arith, ℤ, pos, All, Some}
 use Rattle.heard_events.proofs.Common.{slice_get, IsTrue, and_from, Sample, events_at, events_within, heard_within, mark, is_near, all_near}
 use Rattle.heard_events.proofs.Common.{has_reference, AreNear, IsTuned, low_of, Tuning, fingers_of, sync_stream, Event, Pilot}

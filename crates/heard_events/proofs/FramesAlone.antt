@@ -1,5 +1,4 @@
--- What is received of a traffic channel's frame is heard where the reference's pilot is active
--- alone.
+-- A handset receives a traffic channel's frame as defined if only the reference's pilot is active.
 use Rattle.heard_events.proofs.Common.{◌≡◌, ℕ, ◌==◌, List, [], ◌∷◌, map, refl, ap, ◌∙◌, pos, get_or, append-nil, Some, eq-eqb, places, Mark}
 use Rattle.heard_events.proofs.Common.{Sample, power_bit, decoded, group_sums, new_standing, channel_stream, reference_alone, all_fingers}
 use Rattle.heard_events.proofs.Common.{traffic_channel, pilot_finger, soft_frame, raw_at, Stream, frame_softs, power_bits_at, decoded_at}

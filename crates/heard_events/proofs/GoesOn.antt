@@ -35,7 +35,7 @@ things_go a next gives none heard end before following = record {
       let known = before k less inside in omega (arith, known, e, length-append heard more, some)));
 }
 
--- of a channel that isn't heard nothing is told
+-- a channel that is not received has no events
 pub never : {E : Type 0} (told : List Sample → ℕ → List E) →
     ((samples : List Sample) (n : ℕ) → told samples n ≡ []) → (heard : List Sample) (end : ℕ) →
     GoesOn told (λ samples. []) heard end
@@ -84,7 +84,7 @@ mapped f {heard = heard} goes = record {
   come = λ more some most. ap (map (f (length (heard ++ more)))) (goes.come more some most);
 }
 
--- What stays where more samples follow depends on the first samples alone.
+-- What stays when more samples follow depends only on the first samples.
 pub of_first : {A : Type 0} (f : List Sample → ℕ → A) → StaysWithin f →
     (one other : List Sample) (n : ℕ) → n ≤ length one → n ≤ length other →
     take n one ≡ take n other → f one n ≡ f other n

@@ -230,8 +230,9 @@ pilot_alone phase deltas true f c h = refl
 pilot_alone phase deltas false f c h = absurd (cc)
 
 module _ (t : Tuning) (near : AreNear (sync_stream t).fingers) (traffic : Traffic) where
-  -- Before the first moment the mark's pilot is active alone, and its paths are close: they are those
-  -- of the reference on another Walsh row, which are near there as they are on the sync channel's.
+  -- Before the first moment only the mark's pilot is active, and its paths are close: they are
+  -- those of the reference on another Walsh row, which are near there as they are on the sync
+  -- channel's.
   first_close : (m : Mark) →
       AreClose (all_fingers t.phase t.deltas (legs_of m (new_standing m.pilot traffic.row)))
   first_close m =

@@ -209,7 +209,8 @@ module _ (t : Tuning) (traffic : Traffic) (m : Mark) (kept : ℕ → Standing) (
   heard_at_next samples i =
       told_by t traffic m (legs_by traffic m kept) samples (moment_place m j + i + 1)
 
-  -- the sets with what is heard over so many samples more, where only with the last something is
+  -- the sets with what is heard over d more samples, if something is heard only with the last of
+  -- them
   pub heard_grown : (xs ys : List Sample) (a d : ℕ) →
       ((i : ℕ) → i < a → heard_at_next (xs ++ ys) i ≡ heard_at_next xs i) →
       ((i : ℕ) → a ≤ i → i < a + d → heard_at_next (xs ++ ys) i ≡ []) →

@@ -13,7 +13,7 @@ use Rattle.heard_events.specs.declared.channel.Channel.{Channel}
 use Rattle.heard_events.specs.declared.channel.Channel.TheVariants.{Paging, Traffic}
 
 -- THE CHANNELS AFTER THE MARK
--- What is heard on a channel when just n samples have been taken: of a traffic channel the frames
+-- What is heard on a channel when just n samples have been taken: for a traffic channel, the frames
 -- come first, then the messages that they complete, then the event of the pilot sets.
 abbrev pub told_on : Tuning → List Sample → ℕ → Channel → Mark → List Event
 told_on t samples n (Paging channel) m =

@@ -8,6 +8,6 @@ use Rattle.heard_events.specs.declared.channel.Channel.TheVariants as channels
 abbrev pub traffic_channel : Traffic → Channel
 traffic_channel traffic = channels.Traffic traffic
 
--- the reference's pilot is active alone, whatever the frame
+-- only the reference's pilot is active, for any frame
 abbrev pub reference_alone : Traffic → Mark → ℕ → List Leg
 reference_alone traffic m k = legs_of m (new_standing m.pilot traffic.row)

@@ -61,7 +61,7 @@ messages_left_of t traffic m legs samples next =
     let n = length samples in
     flat_map (message_heard t traffic m legs samples n) (later_frames t traffic m legs next n)
 
--- and of the moment after so many, where it lies there
+-- and of the moment after n samples, if it lies there
 unfoldable pub sets_left_of : Tuning → Traffic → Mark → List Sample → ℕ → List Event
 sets_left_of t traffic m samples j =
     if moment_place m (j + 1) == length samples

@@ -83,7 +83,7 @@ told_by t traffic m legs samples n =
     map (page_event n) (pages_if_marked t t.paging (Some m) first n)
     ++ (frames_by t traffic m legs first n ++ messages_by t traffic m legs first n)
 
--- the sets with what is heard after moment j, over so many samples
+-- the sets with what is heard after moment j, over n samples
 unfoldable pub heard_from : Tuning → Traffic → Mark → (ℕ → Standing) → List Sample → ℕ → ℕ →
     Standing
 heard_from t traffic m kept samples j count =
@@ -93,7 +93,7 @@ heard_from t traffic m kept samples j count =
     (kept j)
 
 -- What is kept after each moment up to j, by its number: a later one isn't known yet, and has what
--- moment j has. It depends on the samples before moment j alone.
+-- moment j has. It depends only on the samples before moment j.
 unfoldable pub kept_to : Tuning → Traffic → Mark → List Sample → ℕ → (ℕ → Standing)
 kept_to t traffic m samples zero = λ i. new_standing m.pilot traffic.row
 kept_to t traffic m samples (suc j) =

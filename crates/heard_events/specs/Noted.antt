@@ -32,7 +32,7 @@ in_traffic_thresholds f = record {
   t_tdrop = f.ttdrop;
 }
 
--- a message of the paging channel tells of the sets where it is of the reference's pilot
+-- a paging message updates the sets if it comes from the reference's pilot
 abbrev pub page_noted : ℕ → PagingMessage → Standing → Standing
 page_noted pn (pages.System f) s =
     if f.pn == pn then with_thresholds (system_thresholds f) s else s

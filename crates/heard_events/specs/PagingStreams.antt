@@ -28,6 +28,6 @@ paging_stream t channel m = record {
   waits = true;
 }
 
--- more frames than end within so many samples
+-- a bound above the number of frames that end within n samples
 abbrev pub paging_bound : ℕ → ℕ
 paging_bound n = n / data_frame_chips + 1

@@ -53,7 +53,7 @@ frame_known t traffic m legs k = known_at t.count (stream_of t traffic m legs k)
 abbrev pub ends_now : Tuning → Traffic → Mark → (ℕ → List Leg) → ℕ → ℕ → Bool
 ends_now t traffic m legs n k = has_frame t traffic m legs k && frame_known t traffic m legs k == n
 
--- more frames than end within so many samples
+-- a bound above the number of frames that end within n samples
 abbrev pub frames_bound : ℕ → ℕ
 frames_bound n = n / data_frame_chips + 1
 

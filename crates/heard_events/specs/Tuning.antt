@@ -49,6 +49,6 @@ sync_stream t = record {
   waits = true;
 }
 
--- more frames than end within so many samples
+-- a bound above the number of frames that end within n samples
 abbrev pub sync_bound : ℕ → ℕ
 sync_bound n = n / 32768 + 1

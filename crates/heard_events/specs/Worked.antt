@@ -39,7 +39,7 @@ alone = tuned 64 (pos 0 ∷ [])
 
 -- THE SYNC CHANNEL
 -- a message of seven frames that begins with frame 0 is known when frame 7 has ended; the last two
--- frames are known together, the one with the frame before it alone
+-- frames are known together: the last is decoded with only the frame before it
 sync_known : map (known_at 1228800 (sync_stream alone)) (6 ∷ 34 ∷ 35 ∷ [])
     ≡ 294848 ∷ 1212352 ∷ 1212352 ∷ []
 sync_known = refl

@@ -39,7 +39,7 @@ fn in_traffic_thresholds(fields: &InTrafficFields) -> Thresholds
     }
 }
 
-/// Puts a list's pilots in place of the neighbors (TIA/EIA-95-B, 7.7.2.3.2.3).
+/// Replaces the neighbors by a list's pilots (TIA/EIA-95-B, 7.7.2.3.2.3).
 fn note_neighbors(sets: &mut Sets, fields: &NeighborFields)
     requires { IsNeighborList fields.now }
     ensures { sets.new ≡ with_neighbors fields.now.pns sets.old }

@@ -89,8 +89,8 @@ abbrev pub all_clear : List Bool → Bool
 all_clear [] = true
 all_clear (bit ∷ bits) = if bit then false else all_clear bits
 
--- the first so many bits of whole octets; None where there aren't just as many octets as they need,
--- or where a bit after them is 1
+-- the first n bits of whole octets; None unless there are exactly as many octets as they need and
+-- the bits after them are 0
 abbrev pub unpadded : ℕ → List Bool → Option (List Bool)
 unpadded count bits =
     if nat_lt (length bits) count then None

@@ -15,7 +15,7 @@ octet_count bits = (length bits + 7) / 8
 unfoldable pub padded : List Bool → List Bool
 padded bits = bits ++ replicate (8 * octet_count bits - length bits) false
 
--- the first so many octets, each the number that its bits spell
+-- the first n octets, each the number that its bits spell
 unfoldable pub packed_octets : ℕ → List Bool → List ℕ
 packed_octets zero bits = []
 packed_octets (suc count) bits = number (take 8 bits) ∷ packed_octets count (drop 8 bits)

@@ -1,4 +1,5 @@
-//! Lines of text, made out piece by piece without memory of their own, and what such pieces state.
+//! Writes lines of text piece by piece without allocating, and reads the values that such pieces
+//! state.
 //!
 //! A [`Text`] holds one line of at most 1,024 ASCII bytes: numbers in decimal, bits with their
 //! count, and states of the long code and serial numbers in hex digits. The functions whose names

@@ -1,4 +1,5 @@
-//! The values that texts state: numbers, states of the long code, serial numbers and lists of bits.
+//! Reads the values that texts state: numbers, states of the long code, serial numbers and lists of
+//! bits.
 
 ghost use Rattle.std.specs.Prelude.{◌≡◌, ◌≤◌, ◌<◌, ◌+◌, ◌*◌, ◌-◌, ◌^◌, ℕ, true, length, take, drop};
 ghost use Rattle.std.specs.Prelude.{codes, Some, None, IfSome, unsigned_abs, flat_map};
@@ -14,10 +15,10 @@ ghost use Rattle.line_text.specs.StatedValues.{state_in, unpadded};
 use chip_core::{Bits, PowerBits, digits_in};
 use long_code::State;
 
-/// How many octets hold the bits of the longest list.
+/// The number of octets that hold the bits of the longest list.
 const MOST_OCTETS: usize = 148;
 
-/// Returns how many bytes of a text precede the first mark; all if it has none.
+/// Returns how many bytes of a text precede the first `mark`; all if there is none.
 pub fn length_before(text: &[u8], mark: u8) -> usize
     ensures value { result ≡ length_before mark text.now }
     ensures most { result ≤ length text.now }
@@ -32,15 +33,15 @@ pub fn length_before(text: &[u8], mark: u8) -> usize
     length
 }
 
-/// Whether a text begins with another one.
+/// Returns whether `text` begins with `front`.
 pub fn begins_with(text: &[u8], front: &[u8]) -> bool
     ensures { result ≡ begins_with text.now front.now }
 {
     text.strip_prefix(front).is_some()
 }
 
-/// The number that a text spells in decimal without leading zeros; `None` if it spells none, or one
-/// above `most`.
+/// Reads a number that is spelled in decimal without leading zeros. Returns `None` if the text is
+/// not such a number, or the number is above `most`.
 #[tactic(auto, unfolding(crate::specs::StatedValues::number_up_to))]
 pub fn number_up_to(text: &[u8], most: u64) -> Option<u64>
     ensures value { result ≡ number_up_to most text.now }
@@ -53,7 +54,7 @@ pub fn number_up_to(text: &[u8], most: u64) -> Option<u64>
     Some(number as u64)
 }
 
-/// The number that 1 to 20 digits spell.
+/// Returns the number that 1 to 20 digits spell.
 fn number_in(text: &[u8]) -> Option<u128>
     ensures { result ≡ number_in text.now }
 {
@@ -63,7 +64,7 @@ fn number_in(text: &[u8]) -> Option<u128>
     digits_in(text)
 }
 
-/// Whether a text has 1 to 20 bytes, and no 0 before others.
+/// Returns whether a text has 1 to 20 bytes and no leading zero.
 fn is_plain(text: &[u8]) -> bool
     ensures value { result ≡ is_plain text.now }
     ensures short { result ≡ true → length text.now ≤ 20 }
@@ -77,8 +78,8 @@ fn is_plain(text: &[u8]) -> bool
     text[0] != b'0'
 }
 
-/// The number with a sign that a text spells, from -32,768 to 32,767, as `number_up_to` reads its
-/// digits; `None` if it spells none, and `-0` isn't one.
+/// Reads a signed number from -32,768 to 32,767, whose digits are as for `number_up_to`. Returns
+/// `None` if the text is not such a number; `-0` is not one.
 #[tactic(auto, unfolding(crate::specs::StatedValues::signed_in))]
 pub fn signed_in(text: &[u8]) -> Option<i64>
     ensures value { result ≡ signed_in text.now }
@@ -90,7 +91,7 @@ pub fn signed_in(text: &[u8]) -> Option<i64>
     }
 }
 
-/// The negative number of this size.
+/// Returns the negative number of this size.
 fn negative(size: u64) -> Option<i64>
     requires { size ≤ 32768 }
     ensures value { result ≡ negative size }
@@ -102,8 +103,9 @@ fn negative(size: u64) -> Option<i64>
     Some(-(size as i64))
 }
 
-/// The state of the long code (TIA/EIA-95-B, 7.1.3.1.10) that eleven hex digits of either case
-/// spell; `None` if the text isn't such digits, and if they spell 0 or more than 42 bits.
+/// Reads the state of the long code (TIA/EIA-95-B, 7.1.3.1.10) that eleven hex digits of either
+/// case spell. Returns `None` if the text is not such digits, or if they spell 0 or more than 42
+/// bits.
 #[tactic(auto, unfolding(crate::specs::StatedValues::state_in))]
 pub fn state_in(text: &[u8]) -> Option<u64>
     ensures value { result ≡ state_in text.now }
@@ -116,8 +118,8 @@ pub fn state_in(text: &[u8]) -> Option<u64>
     Some(state.value())
 }
 
-/// The electronic serial number that eight hex digits of either case spell; `None` if the text
-/// isn't such digits.
+/// Reads the electronic serial number that eight hex digits of either case spell. Returns `None` if
+/// the text is not such digits.
 #[tactic(auto, unfolding(crate::specs::StatedValues::serial_number_in))]
 pub fn serial_number_in(text: &[u8]) -> Option<u64>
     ensures value { result ≡ serial_number_in text.now }
@@ -129,7 +131,7 @@ pub fn serial_number_in(text: &[u8]) -> Option<u64>
     hex_in(text)
 }
 
-/// The number that hex digits spell.
+/// Returns the number that hex digits spell.
 fn hex_in(text: &[u8]) -> Option<u64>
     requires { length text.now ≤ 11 }
     ensures value { result ≡ hex_from 0 text.now }
@@ -142,7 +144,7 @@ fn hex_in(text: &[u8]) -> Option<u64>
     Some(number)
 }
 
-/// The value of a hex digit of either case.
+/// Returns the value of a hex digit of either case.
 fn hex_digit(byte: u8) -> Option<u8>
     ensures value { result ≡ hex_digit byte }
     ensures range { IfSome result (λ n. n < 16) }
@@ -151,7 +153,7 @@ fn hex_digit(byte: u8) -> Option<u8>
     Some(value as u8)
 }
 
-/// A number with one more hex digit after it.
+/// Returns a number with another hex digit after it.
 fn with_hex_digit(number: u64, digit: u8) -> u64
     requires number { number < 16 ^ 11 }
     requires digit { digit < 16 }
@@ -161,7 +163,7 @@ fn with_hex_digit(number: u64, digit: u8) -> u64
     16 * number + u64::from(digit)
 }
 
-/// The bit that a digit is; `None` for other digits than 0 and 1.
+/// Returns the bit of a digit 0 or 1; `None` for any other byte.
 fn binary_digit(byte: u8) -> Option<bool>
     ensures { result ≡ binary_digit byte }
 {
@@ -172,8 +174,8 @@ fn binary_digit(byte: u8) -> Option<bool>
     }
 }
 
-/// The power control bits that sixteen digits 0 or 1 are, in order; `None` if the text isn't such
-/// digits.
+/// Reads power control bits from sixteen digits 0 or 1, in order. Returns `None` if the text is not
+/// such digits.
 pub fn power_bits_in(text: &[u8]) -> Option<PowerBits>
     ensures { result ≡ power_bits_in text.now }
 {
@@ -187,9 +189,9 @@ pub fn power_bits_in(text: &[u8]) -> Option<PowerBits>
     Some(power_bits)
 }
 
-/// The bits of a text `N:HEX`: N of them, at most 1,184, in two hex digits of either case for each
-/// octet of them, padded at the end with zero bits. `None` if a text isn't of this form, has more
-/// or fewer octets than N bits need, or pads them with other bits.
+/// Reads the bits of a text `N:HEX`: N bits, at most 1,184, as two hex digits of either case for
+/// each octet, padded at the end with zero bits. Returns `None` if the text does not have this
+/// form, has more or fewer octets than N bits need, or is padded with other bits.
 #[tactic(auto, unfolding(crate::specs::StatedValues::bits_in_text))]
 pub fn bits_in(text: &[u8]) -> Option<Bits>
     ensures { result ≡ bits_in_text text.now }
@@ -200,7 +202,7 @@ pub fn bits_in(text: &[u8]) -> Option<Bits>
     unpadded(count as u16, &hex_bits(digits)?)
 }
 
-/// The bits that hex digits spell.
+/// Returns the bits that hex digits spell.
 #[tactic(auto, unfolding(crate::specs::StatedValues::hex_bits))]
 fn hex_bits(digits: &[u8]) -> Option<Bits>
     ensures { result ≡ hex_bits digits.now }
@@ -216,7 +218,7 @@ fn hex_bits(digits: &[u8]) -> Option<Bits>
     }
 }
 
-/// The bits of octets, each with its highest bit first.
+/// Returns the bits of octets, each with its highest bit first.
 fn bits_of(octets: &[u8]) -> Bits
     requires { length octets.now ≤ 148 }
     ensures { result ≡ flat_map (binary 8) octets.now }
@@ -228,8 +230,8 @@ fn bits_of(octets: &[u8]) -> Bits
     bits
 }
 
-/// The first so many bits of octets, if there are just as many octets as they need, and the bits
-/// after them are 0.
+/// Returns the first `count` bits of octets, if there are exactly as many octets as they need and
+/// the bits after them are 0.
 fn unpadded(count: u16, bits: &Bits) -> Option<Bits>
     requires { count ≤ 1184 }
     ensures { result ≡ unpadded count bits.now }
@@ -240,7 +242,7 @@ fn unpadded(count: u16, bits: &Bits) -> Option<Bits>
     Some(bits.part(0, count))
 }
 
-/// Whether all bits from a place on are 0.
+/// Returns whether all bits from a place on are 0.
 fn is_clear_from(bits: &Bits, from: u16) -> bool
     ensures { result ≡ all_clear (drop from bits.now) }
 {

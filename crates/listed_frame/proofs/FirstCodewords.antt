@@ -90,7 +90,7 @@ codewords_allowed k softs format = λ i d b.
     subst (IsAllowed Zero n) (sym (get_or-map (codeword_at Zero n) ps i 0 d low))
     (codeword_at_allowed Zero n (get_or ps i 0) (bits_least format))
 
--- with one codeword it is the best codeword alone
+-- the list of one codeword has only the best codeword
 pub one_codeword : (softs : List ℤ) (format : FrameFormat Rate) → codewords_in 1 softs format ≡ codeword_in softs format ∷ []
 unfolding codeword_in best_codeword
 one_codeword softs format =

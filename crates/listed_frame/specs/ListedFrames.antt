@@ -16,8 +16,8 @@ use Rattle.list_viterbi.specs.First.{first_codewords}
 abbrev pub codewords_in : ℕ → List ℤ → FrameFormat Rate → List Codeword
 codewords_in k softs format = first_codewords k (score_in softs format) Zero (bits_in format)
 
--- how many codewords of a rate are listed: so many where its frames have a quality indicator, and
--- else the best alone
+-- how many codewords of a rate are listed: n if its frames have a quality indicator, otherwise only
+-- the best
 abbrev pub listed_count_of : ℕ → Rate → ℕ
 listed_count_of k R9600 = k
 listed_count_of k R4800 = k

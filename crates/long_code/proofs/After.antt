@@ -1,4 +1,4 @@
--- States so many chips later.
+-- The state n chips later: sums, products and periods.
 use Rattle.long_code.proofs.Common.{◌≡◌, ℕ, ◌+◌, ◌*◌, ◌/◌, ◌%◌, ◌^◌, ◌<◌, Bool, true, false, cond, [], ◌∷◌, ◌++◌, length, refl, sym, ap}
 use Rattle.long_code.proofs.Common.{◌∙◌, arith, bit_xor, xor_lt, number, binary, bit_of, places, add, below, after, length-binary}
 use Rattle.long_code.proofs.Common.{binary-front, binary-number_from, binary-xor, binary-double, binary-low, number-binary, number_lt}

@@ -121,7 +121,7 @@ before_lt s n =
     rw (before_is s n)
     (rw (long_before s n) at (number_lt (reverse (times_x n above (lowest_first s)))))
 
--- so many chips earlier, and then so many chips later
+-- n chips earlier, and then n chips later
 pub after-before : (s n : ℕ) → s < 2 ^ 42 → after (before s n) n ≡ s
 after-before s n h =
     let back : times_x n below (reverse (times_x n above (lowest_first s))) ≡ binary 42 s =

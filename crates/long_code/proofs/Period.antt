@@ -24,9 +24,9 @@ one_more_is u chips bit h =
     ap (λ (v : ℕ). cond bit (bit_xor v (after 1 chips)) v) (sym (after_one (after u chips))) ∙
     digit_more u chips bit h
 
--- The loop over a state's bits gives what the state becomes so many chips later, by induction over
--- the bits: one bit more doubles the state and adds the bit, so what it becomes is multiplied by x
--- and, where the bit is 1, gets what 1 becomes added.
+-- The loop over a state's bits gives the state `chips` chips later, by induction over the bits: one
+-- bit more doubles the state and adds the bit, so what it becomes is multiplied by x and, where the
+-- bit is 1, gets what 1 becomes added.
 product_from_is : (chips u : ℕ) (bits : List Bool) → number_from u bits < 2 ^ 42 →
     product_from (after 1 chips) (after u chips) bits ≡ after (number_from u bits) chips
 product_from_is chips u [] h = refl
@@ -117,7 +117,7 @@ IsState-after s n (p, q) = (
 pub moved_state : (s n next : ℕ) → next ≡ after s n → IsState s → IsState next
 moved_state s n next is h = subst (λ (m : ℕ). IsState m) (sym is) (IsState-after s n h)
 
--- the state so many chips earlier
+-- the state n chips earlier
 pub after-rest : (s n : ℕ) → s < 2 ^ 42 → n ≤ period → after (after s (period - n)) n ≡ s
 after-rest s n h l =
     let count : period - n + n ≡ period = omega (arith, l) in

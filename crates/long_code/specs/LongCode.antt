@@ -17,13 +17,12 @@ below = coefficients 42 powers
 abbrev pub IsState : ℕ → Type 0
 IsState state = (0 < state) × (state < 2 ^ 42)
 
--- the state so many chips later: the product with x^chips
+-- the state n chips later: the product with x^n
 unfoldable pub after : ℕ → ℕ → ℕ
 after state chips = number (remainder below (binary 42 state ++ replicate chips false))
 
--- The state so many chips earlier: divided by x, again and again. Read from the lowest coefficient
--- up, the polynomial is 1 and then these coefficients, and a division by x is a step of long
--- division.
+-- The state n chips earlier: divided by x n times. Read from the lowest coefficient up, the
+-- polynomial is 1 and then these coefficients, and a division by x is a step of long division.
 abbrev pub above : List Bool
 above = coefficients 42 (map (λ k. 42 - k) (42 ∷ powers))
 
@@ -35,14 +34,14 @@ before state chips =
 abbrev pub period : ℕ
 period = 2 ^ 42 - 1
 
--- the chip under a mask, so many chips after the state: the sum modulo 2 of the state's bits that
--- the mask chooses
+-- the chip under a mask, n chips after the state: the sum modulo 2 of the state's bits that the
+-- mask chooses
 unfoldable pub long_chip : ℕ → ℕ → ℕ → Bool
 long_chip state mask chips = common_parity (binary 42 mask) (binary 42 (after state chips))
 
 -- MASKS, each 42 bits, field after field
 
--- of a paging channel of a base station with this pilot
+-- the mask of a paging channel of a base station with this pilot
 unfoldable pub paging_mask : ℕ → ℕ → ℕ
 paging_mask channel pilot =
     number (binary 13 0x18cd ++ replicate 5 false ++ binary 3 channel ++ replicate 12 false ++

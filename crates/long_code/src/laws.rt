@@ -4,12 +4,12 @@
 ghost use Rattle.std.specs.Prelude.{◌≡◌, ◌≤◌, ◌+◌, ◌-◌, ℕ};
 ghost use Rattle.long_code.specs.LongCode.{IsState, after, before, long_chip, period};
 
-/// So many chips later, and so many more, are all of them later.
+/// The state m chips later, and then n chips later, is the state m + n chips later.
 pub fn later_twice()
     ensures { (state m n : ℕ) → after (after state m) n ≡ after state (m + n) }
 {}
 
-/// A state never becomes 0.
+/// A nonzero state stays nonzero.
 pub fn states_stay()
     ensures { (state chips : ℕ) → IsState state → IsState (after state chips) }
 {}
@@ -19,18 +19,18 @@ pub fn states_return()
     ensures { (state : ℕ) → IsState state → after state period ≡ state }
 {}
 
-/// Two states are never the same so many chips later.
+/// Two different states stay different n chips later.
 pub fn states_differ()
     ensures { (s t chips : ℕ) → IsState s → IsState t → after s chips ≡ after t chips → s ≡ t }
 {}
 
-/// From the state so many chips earlier, found by division by x, the state comes back.
+/// The state n chips earlier, found by division by x, gives the state again n chips later.
 pub fn division_goes_back()
     ensures state { (state chips : ℕ) → IsState state → IsState (before state chips) }
     ensures back { (state chips : ℕ) → IsState state → after (before state chips) chips ≡ state }
 {}
 
-/// The state so many chips earlier is the one so many chips short of the period later.
+/// The state n chips earlier is the state (period - n) chips later.
 pub fn before()
     ensures back { (state chips : ℕ) → IsState state → chips ≤ period →
         after (after state (period - chips)) chips ≡ state }
@@ -38,7 +38,7 @@ pub fn before()
         before state chips ≡ after state (period - chips) }
 {}
 
-/// A chip of a later state is a later chip.
+/// The chip n chips after a state is the chip of the state n chips later.
 pub fn chips_follow()
     ensures { (state mask m n : ℕ) →
         long_chip (after state m) mask n ≡ long_chip state mask (m + n) }

@@ -1,4 +1,4 @@
-//! The masks that tell the users of the long code apart.
+//! The masks of the users of the long code.
 
 ghost use Rattle.std.specs.Prelude.{◌≡◌, ◌<◌, ◌≤◌, ◌^◌};
 ghost use Rattle.long_code.specs.LongCode.{paging_mask, traffic_mask};
@@ -15,10 +15,10 @@ const SERIAL_ORDER: [u8; 32] = [
     23, 14, 5, 27, 18, 9,
 ];
 
-/// The mask of a paging channel, 1 to 7, of the base station whose pilot has this offset index, 0
-/// to 511.
+/// Returns the mask of paging channel `channel`, 1 to 7, of the base station with pilot offset
+/// index `pilot`, 0 to 511.
 ///
-/// TIA/EIA-95-B, 7.7.2: from bit 41 down 1100011001101, five zeros, the channel in 3 bits, twelve
+/// TIA/EIA-95-B, 7.7.2: from bit 41 down: 1100011001101, five zeros, the channel in 3 bits, twelve
 /// zeros, and the pilot in 9 bits.
 pub fn paging_mask(channel: u8, pilot: u16) -> u64
     requires first { 1 ≤ channel }
@@ -30,10 +30,10 @@ pub fn paging_mask(channel: u8, pilot: u16) -> u64
     PAGING_HEADER << 29 | u64::from(channel) << 21 | u64::from(pilot)
 }
 
-/// The public mask of the station with this electronic serial number.
+/// Returns the public mask of the mobile station with this electronic serial number.
 ///
-/// TIA/EIA-95-B, 7.1.3.1.6: from bit 41 down 1100011000, and the number's 32 bits in a fixed order
-/// of their own.
+/// TIA/EIA-95-B, 7.1.3.1.6: from bit 41 down: 1100011000, and the number's 32 bits in a fixed
+/// permutation.
 pub fn traffic_mask(esn: u32) -> u64
     ensures value { result ≡ traffic_mask esn }
     ensures below { result < 2 ^ 42 }

@@ -6,7 +6,7 @@ ghost use Rattle.long_code.specs.LongCode.{IsState, after, long_chip};
 use crate::symbol_step::times_x64;
 use std::marker::Model;
 
-/// The long code's polynomial below x^42: bit k is the coefficient of x^k.
+/// The long code's polynomial without x^42: bit k is the coefficient of x^k.
 const FEEDBACK: u64 = 0x00a_8e6f_04ef;
 
 /// A state of the long code's generator: a nonzero polynomial of degree below 42 over the field of
@@ -31,7 +31,7 @@ impl Model for State {
 }
 
 impl State {
-    /// The state of this number; `None` exactly if it is 0 or has a bit above bit 41.
+    /// Returns the state with this number; `None` exactly if it is 0 or has a bit above bit 41.
     pub fn new(value: u64) -> Option<State>
         ensures { SomeIff result (IsState value) value }
     {
@@ -41,7 +41,7 @@ impl State {
         Some(State { value })
     }
 
-    /// The state's number.
+    /// Returns the state's number.
     pub fn value(&self) -> u64
         ensures value { result ≡ self.now }
         ensures state { IsState result }
@@ -49,7 +49,7 @@ impl State {
         self.value
     }
 
-    /// The state one chip later.
+    /// Moves the state one chip on.
     pub fn step(&mut self)
         ensures later { self.new ≡ after self.old 1 }
         ensures state { IsState self.new }
@@ -57,7 +57,8 @@ impl State {
         self.value = times_x(self.value);
     }
 
-    /// The state 64 chips later, where the next symbol of a paging or traffic channel begins.
+    /// Moves the state 64 chips on, to the first chip of the next symbol of a paging or traffic
+    /// channel.
     ///
     /// TIA/EIA-95-B, 7.1.3.1.6: each symbol of these channels lasts 64 chips.
     pub fn step_symbol(&mut self)
@@ -67,7 +68,7 @@ impl State {
         self.value = times_x64(self.value);
     }
 
-    /// The state so many chips later, found by squaring: a few thousand steps for any count.
+    /// Moves the state `chips` chips on, by squaring: a few thousand steps for any count.
     pub fn jump(&mut self, chips: u64)
         ensures later { self.new ≡ after self.old chips }
         ensures state { IsState self.new }
@@ -85,8 +86,8 @@ impl State {
         self.value = value;
     }
 
-    /// The chip of this state under a mask of 42 bits: the sum modulo 2 of the state's bits where
-    /// the mask has a 1.
+    /// Returns the chip of this state under a mask of 42 bits: the sum modulo 2 of the state's bits
+    /// at which the mask has a 1.
     pub fn chip(&self, mask: u64) -> bool
         requires { mask < 2 ^ 42 }
         ensures { result ≡ long_chip self.now mask 0 }
@@ -95,7 +96,7 @@ impl State {
     }
 }
 
-/// The product with x.
+/// Returns the product with x.
 fn times_x(value: u64) -> u64
     requires { value < 2 ^ 42 }
     ensures value { result ≡ after value 1 }
@@ -109,7 +110,7 @@ fn times_x(value: u64) -> u64
     }
 }
 
-/// The product with a power of x, which is given as its remainder.
+/// Returns the product with a power of x, whose remainder is given.
 fn product(value: u64, power: u64) -> u64
     requires value { value < 2 ^ 42 }
     requires power { power < 2 ^ 42 }

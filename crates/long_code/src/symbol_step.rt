@@ -1,10 +1,11 @@
-//! A symbol's step of the generator, by a table.
+//! Moves the generator by one symbol, with a table.
 
 ghost use Rattle.std.specs.Prelude.{◌≡◌, ◌<◌, ◌^◌};
 ghost use Rattle.long_code.specs.LongCode.{after};
 
-/// What each two bits of a state are 64 chips later: row k is of bits 2k and 2k + 1, and its entry
-/// n is the product of n x^(2k) with x^64, where n stands for 0, 1, x and x + 1.
+/// The table of what pairs of bits of a state become 64 chips later. Row k is for bits 2k and 2k +
+/// 1; its entry n is the product of n x^(2k) with x^64, where n = 0, 1, 2, 3 stands for 0, 1, x and
+/// x + 1.
 const PRODUCTS: [[u64; 4]; 21] = [
     [0, 0x1fb_7e89_7f03, 0x3f6_fd12_fe06, 0x20d_839b_8105],
     [0, 0x3e7_744a_f8e3, 0x3c4_66fa_f529, 0x023_12b0_0dca],
@@ -29,7 +30,7 @@ const PRODUCTS: [[u64; 4]; 21] = [
     [0, 0x29d_6f12_9ac1, 0x130_504a_316d, 0x3ad_3f58_abac],
 ];
 
-/// The product with x^64: the sum of the products of each two bits.
+/// Returns the product with x^64: the sum of the table's entries for each pair of bits.
 pub fn times_x64(value: u64) -> u64
     requires { value < 2 ^ 42 }
     ensures value { result ≡ after value 64 }

@@ -1,4 +1,4 @@
--- Loops over the fields of a table and over records: what holds after so many of them.
+-- Loops over the fields of a table and over records: what holds after the first n of them.
 use Rattle.message_layout.proofs.Common.{◌≡◌, ℕ, zero, suc, ◌+◌, ◌*◌, ◌<◌, ◌≤◌, Bool, List, [], ◌∷◌, ◌++◌, length, get_or, map, take, drop}
 use Rattle.message_layout.proofs.Common.{refl, sym, ap, ◌∙◌, arith, inl, inr, Some, None, cases_lt, le-leb, leb-true, lt-leb, nat_le, subst}
 use Rattle.message_layout.proofs.Common.{length-drop, length-take-le, take_all, number_part, mul-le-mul_right, column_in, length-map, true}

@@ -148,8 +148,8 @@ flag_there ws group bits following after (suc zero) a b =
 flag_there ws group bits following after (suc (suc n)) a b =
     absurd (omega (arith, (number_there 1 (suc (suc n)) bits following a).0))
 
--- What was read of a group spells the bits that were read, whichever way tells that it is there: it
--- never is, a flag says so, or it is there unless just so many bits are left.
+-- What was read of a group spells the bits that were read, in each form of presence: never, by a
+-- flag, or unless a fixed number of bits is left.
 pub group_there : (p : Presence) (ws : List ℕ) (group : Option (List ℕ)) (bits after : List Bool) →
     group_at p ws bits ≡ Some (group, after) → GroupThere p ws bits (group, after)
 unfolding group_at presence_at

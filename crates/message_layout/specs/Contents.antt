@@ -10,7 +10,7 @@ head column = get_or column 0 0
 abbrev pub tail : List ℕ → List ℕ
 tail column = drop 1 column
 
--- the fields of the first so many records, each number in the width of its column
+-- the fields of the first n records, each number in the width of its column
 abbrev pub record_fields : List ℕ → ℕ → List (List ℕ) → List Field
 record_fields widths zero columns = []
 record_fields widths (suc n) columns =
@@ -31,7 +31,7 @@ share widths n j = if nat_lt j (length widths) then n else 0
 abbrev pub shares : List ℕ → ℕ → List ℕ
 shares widths n = share widths n 0 ∷ share widths n 1 ∷ share widths n 2 ∷ []
 
--- how many records fit into so many bits
+-- how many records fit into n bits
 abbrev pub count_in : List ℕ → ℕ → ℕ
 count_in [] bits = 0
 count_in (width ∷ widths) bits = bits / total_width (width ∷ widths)

@@ -5,7 +5,7 @@ use Rattle.message_layout.specs.Contents.{columns_in, count_in}
 use Rattle.message_layout.specs.Reading.{is_few}
 use Rattle.message_layout.specs.Shapes.{MessageShape}
 
--- fixed fields, so many records at least, and so many bits after them at most
+-- fixed fields, at least `least` records, and at most `most` bits after them
 abbrev pub plain_shape : List ℕ → List ℕ → ℕ → Option ℕ → MessageShape
 plain_shape fixed records least most = record {
   fixed = fixed;
@@ -35,8 +35,8 @@ list_said fixed records bits =
     plain_contents (values_at fixed bits) (columns_in records n w)
     (drop (n * total_width records) w)
 
--- whether so many bits are contents of such a layout: the fixed fields, records enough, and no more
--- bits after them than may be left
+-- whether n bits are contents of such a layout: the fixed fields, enough records, and no more bits
+-- after them than the layout allows
 abbrev pub has_length : MessageShape → ℕ → Bool
 has_length s count =
     let left = count - total_width s.fixed in

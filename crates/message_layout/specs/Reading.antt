@@ -27,7 +27,7 @@ fields_at widths bits =
     if nat_le (total_width widths) (length bits)
     then Some (values_at widths bits, drop (total_width widths) bits) else None
 
--- so many bits
+-- the first n bits, and the bits after them
 unfoldable pub part_at : ℕ → List Bool → Option (List Bool × List Bool)
 part_at count bits =
     if nat_le count (length bits) then Some (take count bits, drop count bits) else None
@@ -63,7 +63,7 @@ octets_at zeros width bits = do
   count ← number_part width none.1
   if none.0 == 0 then part_at (8 * count.0) count.1 else None
 
--- so many records, where these are enough
+-- the first n records, if these are enough
 abbrev pub records_from : List ℕ → ℕ → ℕ → List Bool → Option (List (List ℕ) × List Bool)
 records_from widths least n bits =
     if nat_le least n then Some (columns_in widths n bits, drop (n * total_width widths) bits)

@@ -28,7 +28,7 @@ shape layout = record {
   most = layout.most;
 }
 
--- the names in a line that tells of such a body: its own, those of the fixed fields, and the list's
+-- the names in the line of such a body: its own, those of the fixed fields, and the list's
 pub record LineNames : Type 0 where
   pub word : List ℕ
   pub fixed : List (List ℕ)
@@ -41,7 +41,7 @@ line_names layout = record {
   list = layout.records.name.now;
 }
 
--- each is 1 to so many
+-- each is 1 to n
 abbrev pub are_widths : ℕ → List ℕ → Bool
 are_widths most [] = true
 are_widths most (width ∷ widths) = nat_le 1 width && (nat_le width most && are_widths most widths)

@@ -36,7 +36,7 @@ pub record HaveValues (widths values : List ℕ) : Type 0 where
   pub all : length values ≡ length widths
   pub fit : FieldsFit (in_widths widths values)
 
--- the group may be there, or not, where so many bits stand after it
+-- whether the group may be present or absent if n bits follow it
 abbrev pub IsGroup : Presence → List ℕ → Option (List ℕ) → ℕ → Type 0
 IsGroup Never widths group following = group ≡ None
 IsGroup Flagged widths None following = Unit {0}

@@ -6,8 +6,8 @@
 //! - a group of fields, which is there where a bit before it is 1, or where another number of bits
 //!   is left than one that is named;
 //! - bits that are 0, a count of octets, and as many octets;
-//! - records of the same fields, as many as fit, at least so many;
-//! - a rest of at most so many bits.
+//! - records of the same fields, as many as fit, with a lower bound;
+//! - a rest of bits, with an upper bound.
 //!
 //! The message type, by which a layout is chosen, stands before all of them. The bodies of sync,
 //! paging and traffic channels are such layouts after their types:

@@ -182,7 +182,8 @@ fn read_octets(octets: Octets, bits: &BitSlice<'_>, from: u16) -> Option<(Bits, 
     read_part(8 * count, bits, from)
 }
 
-/// A number of so many bits, which is 0 if there are none.
+/// Reads a number of `width` bits, which is 0 if `width` is 0, and returns it with the place after
+/// it.
 #[tactic(auto, unfolding(crate::specs::Reading::number_part))]
 fn read_number(width: u8, bits: &BitSlice<'_>, from: u16) -> Option<(u64, u16)>
     requires width { width ≤ 64 }
@@ -213,7 +214,7 @@ fn number_from(bits: &BitSlice<'_>, from: u16, width: u8) -> u64
     number
 }
 
-/// So many bits.
+/// Returns the next `count` bits and the place after them.
 #[tactic(auto, unfolding(crate::specs::Reading::part_at))]
 fn read_part(count: u64, bits: &BitSlice<'_>, from: u16) -> Option<(Bits, u16)>
     requires { from ≤ length bits.now }
@@ -255,7 +256,7 @@ fn read_records(records: &Records, bits: &BitSlice<'_>, from: u16) -> Option<([N
     Some((columns, from + count * size_of(fields)))
 }
 
-/// Returns how many records fit into so many bits.
+/// Returns how many records of these fields fit into `count` bits.
 fn records_within(fields: &[FieldRow], count: u16) -> u16
     requires widths { AreWidths (map (λ row. row.1) fields.now) }
     requires few { length fields.now ≤ 3 }
@@ -279,7 +280,8 @@ pub(crate) fn size_of(fields: &[FieldRow]) -> u16
     size
 }
 
-/// The numbers of field `j` of the first so many records from a place on; none past the last field.
+/// Reads the numbers of field `j` of the first `count` records from bit `from` on; none past the
+/// last field.
 fn read_column(fields: &[FieldRow], j: usize, count: u8, bits: &BitSlice<'_>, from: u16) -> Numbers
     requires widths { AreWidths (map (λ row. row.1) fields.now) }
     requires narrow { AreNarrow (map (λ row. row.1) fields.now) }
@@ -296,7 +298,8 @@ fn read_column(fields: &[FieldRow], j: usize, count: u8, bits: &BitSlice<'_>, fr
     read_places(bits, first, width_in(fields, j), size_of(fields), count)
 }
 
-/// The numbers at a place and at so many bits after it each, `count` of them.
+/// Reads `count` numbers of `width` bits: the first at bit `first`, each of the others `size` bits
+/// after the one before.
 fn read_places(bits: &BitSlice<'_>, first: u16, width: u8, size: u16, count: u8) -> Numbers
     requires width { (1 ≤ width) × (width ≤ 32) }
     requires size { size ≤ 192 }

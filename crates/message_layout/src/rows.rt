@@ -1,9 +1,9 @@
 //! Tables of fields that a struct holds under the same names.
 //!
-//! A message lists its fields once, in a macro of its own that hands the list to one of these: of
-//! each field its place in the table, counted from 0, its name, and in how many bits it is sent.
+//! A message lists its fields once, in a macro of its own that hands the list to one of these: for
+//! each field, its place in the table, counted from 0, its name, and its number of bits.
 
-/// The table: of each field its name and its number of bits.
+/// The table: for each field, its name and its number of bits.
 #[macro_export]
 macro_rules! field_rows {
     ([] $($place:literal $name:ident $width:literal),*) => {

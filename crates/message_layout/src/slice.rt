@@ -5,8 +5,8 @@ ghost use Rattle.std.specs.Prelude.{◌≡◌, ◌<◌, ◌≤◌, ◌+◌, leng
 use chip_core::Bits;
 use std::marker::Model;
 
-/// So many bits of a list from a place on, as the body of a message in its capsule. Contracts see
-/// these bits.
+/// Consecutive bits of a list, such as the body of a message in its capsule. Contracts see these
+/// bits.
 #[derive(Drop)]
 pub struct BitSlice<'a> {
     bits: &'a Bits,

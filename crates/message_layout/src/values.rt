@@ -98,7 +98,7 @@ impl FieldValues {
     }
 }
 
-/// Whether a value has at most so many bits.
+/// Returns whether a value fits `width` bits.
 fn has_width(value: u64, width: u8) -> bool
     requires { (1 ≤ width) × (width ≤ 64) }
     ensures { IsTrue result ↔ (value < 2 ^ width) }

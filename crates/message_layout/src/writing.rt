@@ -80,7 +80,7 @@ fn append_octets(body: &mut Bits, layout: Octets, octets: &Bits)
     body.append_all(octets);
 }
 
-/// Adds a number at the end in so many bits, of which there may be none.
+/// Appends a number in `width` bits; `width` may be 0.
 #[tactic(auto, unfolding(chip_core::specs::Bits::binary))]
 fn append_number(body: &mut Bits, width: u8, value: u64)
     requires width { width ≤ 64 }

@@ -1,5 +1,5 @@
 //! Tests of messages by what their crates make public, of what no clause says: the names of fields,
-//! and that a message of its own is read and written by a layout alone. What a message's bits are,
+//! and that a message of its own is read and written with only a layout. What a message's bits are,
 //! clauses and worked values say. `tools/bench` times what reads and writes a message of each kind
 //! many times.
 //!

@@ -1,4 +1,4 @@
-//! Layouts: a message of its own with each kind of part, read and written by its table alone.
+//! Layouts: a message of its own with each kind of part, read and written with only its table.
 
 ghost use Rattle.std.specs.Prelude.{◌≡◌, ◌<◌, IfSome};
 
@@ -24,7 +24,7 @@ const ALL_PARTS: MessageLayout = MessageLayout {
     most: Some(7),
 };
 
-/// The fields of a body of that layout, with so many records, and so many bits that are 1.
+/// The fields of a body of that layout, with `records` records and `rest` bits that are 1.
 fn body_with(zeros: u64, records: u8, rest: u8) -> Result<Bits, Full>
     requires { zeros < 4 }
 {

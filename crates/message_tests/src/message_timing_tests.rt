@@ -50,7 +50,7 @@ macro_rules! turns_reading {
     }};
 }
 
-/// A body of so many bits: a message type, and zeros after it.
+/// A body of `count` bits: a message type, and zeros after it.
 fn body_of(kind: u8, count: u16) -> Bits {
     let mut body = Bits::empty();
     for i in 0..count {

@@ -9,7 +9,7 @@ use Rattle.heard_events.proofs.EventsGrown.{after_before, events_at_by, events_s
 
 module _ (t : Tuning) (low : ℕ) (timed : IsSyncTimed t low)
     (near : AreNear (sync_stream t).fingers) where
-  -- more samples, at whose end alone a frame may be known
+  -- more samples, a frame being known at most at their end
   module _ (xs ys : List Sample) (next : ℕ) (f : Followed) (some : 0 < length ys)
       (before : AreKnown (sync_frames t) next (length xs))
       (from : AreLater (sync_frames t) next (length xs + length ys))

@@ -192,8 +192,9 @@ module _ (t : Tuning) (assigned : Option Traffic) (mark : Option Mark) (heard : 
       goes_as (receiver_goes following.hears (sound r refl) none end (ends r refl)) (told_is following)
       (λ samples. left_is following samples r)
 
-  -- A traffic channel has heard more samples, up to the end of its next frame: where none is followed
-  -- nothing changes, and else its receiver has, since no page is told before the last of these samples.
+  -- A traffic channel has heard more samples, up to the end of its next frame: if none is followed,
+  -- nothing changes; otherwise its receiver does, because no page is known before the last of these
+  -- samples.
   pub frames_more : (receiver : Option SoftHandoff) → HearsFrames t assigned mark receiver heard pages →
       ForSome receiver IsSoundHandoff → ¬ IsSomeAnd receiver IsTrafficDue →
       (more : List Sample) → 0 < length more → length heard + length more ≤ t.count →

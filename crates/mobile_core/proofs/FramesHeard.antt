@@ -1,4 +1,4 @@
--- What a traffic channel and the pilot sets beside it stand for, step by step.
+-- The meaning of a traffic channel's receiver and its pilot sets, step by step.
 use Rattle.mobile_core.proofs.Common.{CapsuleStandsFor, messages_left_of, pages_if_marked, TrafficReceiver, message_events, IsSoundHandoff}
 use Rattle.mobile_core.proofs.Common.{told_left_with, signals_sooner, frames_left_of, length-append, power_bits_at, traffic_start, cases_lt}
 use Rattle.mobile_core.proofs.Common.{SpelledSignal, message_heard, sets_left_of, traffic_mask, power_places, moment_place, IsTrafficDue, ℕ}

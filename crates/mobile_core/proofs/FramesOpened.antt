@@ -1,4 +1,4 @@
--- What a traffic channel and the pilot sets beside it stand for as they are opened.
+-- The meaning of a traffic channel's receiver and its pilot sets when they are opened.
 use Rattle.mobile_core.proofs.Common.{◌≡◌, ℕ, ◌-◌, ◌≤◌, List, [], ◌∷◌, length, ℤ, refl, sym, ap, ◌∙◌, arith, subst, None, true, pos, get_or}
 use Rattle.mobile_core.proofs.Common.{replicate, append-nil, ◌==◌, Some, slice_get, eq-eqb, unsigned_abs, sum_by, sum_by-replicate, places}
 use Rattle.mobile_core.proofs.Common.{Sample, Standing, new_standing, CapsuleStandsFor, AreClose, all_close, paths_close, all_fingers, Leg}
@@ -16,7 +16,7 @@ pub paths_some : (deltas : List ℤ) (d : ℤ) → slice_get deltas 0 ≡ Some d
 paths_some [] d h = absurd (cc)
 paths_some (x ∷ deltas) d h = omega arith
 
--- the reference's pilot alone has close fingers where its paths are close
+-- if the paths of the reference's pilot are close, so are its fingers, and no other pilot has any
 pub first_paths : (m : Mark) (row phase : ℕ) (deltas : List ℤ) →
     all_close (all_fingers phase deltas (legs_of m (new_standing m.pilot row))) ≡ true →
     paths_close deltas ≡ true
@@ -41,8 +41,8 @@ module _ {t : Tuning} {traffic : Traffic} {m : Mark} {r : TrafficReceiver} {hear
     (close : AreClose (all_fingers t.phase t.deltas (legs_of m (new_standing m.pilot traffic.row))))
     (within : length heard ≤ t.count) (early : length heard ≤ m.sample) where
   -- A traffic channel that is opened at its mark stands for no frame heard: no sample after the
-  -- mark has been taken, so no frame and no moment has come, no message is begun, and the reference
-  -- pilot alone is active.
+  -- mark has been taken, so no frame and no moment has come, no message is begun, and only the
+  -- reference pilot is active.
   pub hears_opened : r.frames.clock.start ≡ traffic_start traffic m 0 → CapsuleStandsFor r.framer [] →
       HearsTraffic t traffic m (beside (first_keeper m traffic.row) r) heard []
   unfolding kept_to

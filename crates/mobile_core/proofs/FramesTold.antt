@@ -1,4 +1,4 @@
--- What a traffic channel and the pilot sets beside it stand for, as they tell what has come.
+-- The meaning of a traffic channel's receiver and its pilot sets, as they return what has come.
 use Rattle.mobile_core.proofs.Common.{◌≡◌, ℕ, ◌+◌, ◌<◌, ◌≤◌, List, [], ◌∷◌, ◌++◌, Bool, true, false, length, refl, sym, ap, ◌∙◌, arith, inl}
 use Rattle.mobile_core.proofs.Common.{subst, Option, None, Some, inr, ◌==◌, if◌then◌else◌, option_to_list, cases_lt, Sample, Decoded, at_of}
 use Rattle.mobile_core.proofs.Common.{PagingMessage, accepted_of, direction_fault, Standing, unless_refused, with_neighbors, DirectionFault}

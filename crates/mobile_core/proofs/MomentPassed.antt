@@ -1,4 +1,4 @@
--- What a traffic channel and the pilot sets beside it stand for as a moment passes.
+-- The meaning of a traffic channel's receiver and its pilot sets when a moment passes.
 use Rattle.mobile_core.proofs.Common.{◌≡◌, ℕ, ◌+◌, ◌-◌, ◌<◌, ◌≤◌, List, [], ◌∷◌, ◌++◌, length, take, sym, ap, ◌∙◌, arith, subst, Option}
 use Rattle.mobile_core.proofs.Common.{None, inl, inr, true, false, ◌==◌, flat_map, option_to_list, cases_lt, eq-eqb, take_all, Sample, Leg}
 use Rattle.mobile_core.proofs.Common.{filter_ext_places, flat_map_ext_filter_places, Standing, CapsuleStandsFor, AreClose, event_list, Mark}

@@ -81,8 +81,8 @@ module _ (t : Tuning) (mark : Option Mark) (heard : List Sample) where
       (before_next is) (from_next is end none (ends r refl)) past before))
 
   -- The pages of a paging channel go on as those that its receiver has left, up to the end of its
-  -- next frame: where none is open there are none, and else every bit of the frames so far has been
-  -- heard.
+  -- next frame: if no channel is open there are none; otherwise every bit of the frames so far has
+  -- been taken.
   pub pages_go : (receiver : Option PagingReceiver) → HearsPages t mark receiver heard →
       ¬ IsSomeAnd receiver (λ r. IsDueAt t.count r.received.clock) → (end : ℕ) →
       ForSome receiver (λ r. end ≤ r.received.clock.end) →

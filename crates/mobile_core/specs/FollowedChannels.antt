@@ -66,12 +66,12 @@ followed_heard f = option_map_or bits_heard f.paging 0 + option_map_or traffic_h
 abbrev pub followed_due : Followed → ℕ
 followed_due f = option_map_or paging_due f.paging 0 + option_map_or traffic_due f.traffic 0
 
--- the frame of each that comes next ends later than so many samples, and so lies the next moment
+-- the next frame of each channel ends after `taken` samples, and so does the next moment
 pub record WaitFrom (taken : ℕ) (f : Followed) : Type 0 where
   pub paging : ForSome f.paging (λ r. taken < r.received.clock.end)
   pub traffic : ForSome f.traffic (WaitsAt taken)
 
--- it ends at so many samples or later
+-- the next frame of each channel ends at n samples or later
 pub record EndFrom (n : ℕ) (f : Followed) : Type 0 where
   pub paging : ForSome f.paging (λ r. n ≤ r.received.clock.end)
   pub traffic : ForSome f.traffic (λ r. n ≤ next_end r)

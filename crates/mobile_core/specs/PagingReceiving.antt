@@ -12,7 +12,7 @@ use Rattle.heard_events.specs.Streams.{frame_own_bits}
 use Rattle.mobile_core.specs.declared.paging_receiver.PagingReceiver.{PagingReceiver}
 use Rattle.paging_message.specs.HalfFrames as half_frames
 
--- the bits of the next frame, of which the framer took so many, are those of a frame that is due
+-- the bits of the next frame, some of which the framer took, are those of a frame that is due
 pub record IsUnderWay (t : Tuning) (channel : ℕ) (m : Mark) (r : PagingReceiver)
     (heard : List Sample) : Type 0 where
   pub due : IsDueAt t.count r.received.clock

@@ -28,7 +28,7 @@ use Rattle.mobile_core.specs.declared.traffic_receiver.TrafficReceiver.{TrafficR
 use Rattle.heard_events.specs.Close as closes
 
 -- THE PILOT SETS
--- sets beside a receiver
+-- a receiver together with its sets
 abbrev pub beside : SetsKeeper → TrafficReceiver → SoftHandoff
 beside sets receiver = record { receiver = receiver; sets = sets }
 
@@ -42,8 +42,8 @@ first_keeper m row = record {
 }
 
 -- THE EVENTS THAT ARE LEFT
--- What a receiver has still to tell of the channel, from what is kept after each moment: the
--- message that it keeps comes first.
+-- The events that a receiver has not returned yet, from what is kept after each moment: the message
+-- that it keeps comes first.
 abbrev pub told_left_with : Tuning → Traffic → Mark → List Sample → TrafficReceiver →
     (ℕ → Standing) → List Event
 told_left_with t traffic m samples r kept =
@@ -71,8 +71,8 @@ receiver_fingers r = all_fingers r.phase (take r.near.count r.near.deltas) r.leg
 abbrev pub next_end : SoftHandoff → ℕ
 next_end r = min r.receiver.frames.clock.end (coming_place r.sets)
 
--- the frame that comes next ends later than so many samples, and so lies the next moment; one that
--- has come lies there
+-- the next frame ends after `taken` samples, and so does the next moment; one that has come is at
+-- `taken`
 pub record WaitsAt (taken : ℕ) (r : SoftHandoff) : Type 0 where
   pub before : taken < next_end r
   pub due : r.sets.due ≡ true → taken ≡ moment_place r.sets.mark (r.sets.passed + 1)
@@ -87,8 +87,8 @@ pub record IsTunedIn (t : Tuning) (traffic : Traffic) (m mark : Mark) (phase : �
   pub mask_is : turns.mask ≡ traffic_mask traffic.esn
   pub offset : traffic.offset ≤ 15
 
--- where so many samples of a file are among its moments: so many have passed, and where the next
--- is due it lies there
+-- where `taken` samples of a file are among its moments: `passed` moments have passed, and if the
+-- next is due, it is at `taken`
 pub record IsAmongMoments (m : Mark) (count taken passed : ℕ) (due : Bool) : Type 0 where
   pub within : taken ≤ count
   pub begun : 0 < passed → moment_place m passed ≤ taken

@@ -92,7 +92,7 @@ impl Mobile {
     ///
     /// Allocates everything it needs, less than a megabyte; only this can fail. The handset keeps
     /// the last 65,536 samples.
-    // Its frame holds the receivers once more, and is not to lie in its caller's.
+    // Not inlined: its stack frame holds a second copy of the receivers.
     #[inline(never)]
     pub fn new(
         alloc: Global,

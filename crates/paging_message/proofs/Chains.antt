@@ -182,8 +182,8 @@ ends_more (suc fuel) size count bits b =
     gives_cond true o = refl
     gives_cond false o = refl
 
--- what is open after a bit that completed this, so many bits after the start: a new capsule where
--- 8 bits are left
+-- what is open after a bit that completed this capsule, n bits after the start: a new capsule if 8
+-- bits are left
 abbrev pub after : ℕ → Option (List Bool) → Option (List Bool) → Option (List Bool)
 after left None open_bits = open_bits
 after left (Some whole) open_bits = cond (nat_le 8 left) (Some []) open_bits
@@ -205,9 +205,9 @@ step-none : (size count : ℕ) (o : Option (List Bool)) (b : Bool) → o ≡ Non
 step-none size count o b e = ap (λ (p : Option (List Bool)). step size count p b) e
 
 -- What is open after one bit more follows from what was open before it. Where a whole capsule
--- stands at the front the rest is a shorter chain, for which this holds by induction. Else the bit
--- ends the open capsule, continues it, or comes after a length that no capsule has, and nothing is
--- open.
+-- stands at the front the rest is a shorter chain, for which this holds by induction. Otherwise the
+-- bit ends the open capsule, continues it, or follows a length that no capsule has, and then
+-- nothing is open.
 pub open_more : (fuel size count : ℕ) (bits : List Bool) (b : Bool) →
     length (bits ++ b ∷ []) < fuel →
     open_chain fuel size count (bits ++ b ∷ [])

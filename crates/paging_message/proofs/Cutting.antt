@@ -311,7 +311,7 @@ chain_more size left (Some before) body b is =
           ∙ ap (λ (k : ℕ). after k (completed own (b ∷ [])) (continued own (b ∷ []))) place,
     )
 
--- a body bit, where so many bits of the half-frame are left after it
+-- a body bit, with `left` bits of the half-frame after it
 pub body_bit : (size n left : ℕ) (front body : List Bool) (s b : Bool) →
     length front ≡ (size + 1) * n → left + suc (length body) ≡ size →
     (halves.half_frame_capsule_ending size (front ++ s ∷ (body ++ b ∷ []))

@@ -89,8 +89,8 @@ any_from size n i starts begun =
         let b : (suc i == 0) ≡ false = ne_eqb (suc i) 0 (λ e. omega (arith, e)) in
         rw (a, b) refl
 
--- Half-frame i of the last run, which has n half-frames before it, is laid as the run's own: no run
--- before starts as far on, so its SCI bit is set where i is 0 alone, and its bits are those i
+-- Half-frame i of the last run, which has n half-frames before it, is laid as the run's own: no
+-- earlier run starts as late, so its SCI bit is set only if i is 0, and its bits are those i
 -- half-frames after the first n.
 half_frame_of_run : (size n i : ℕ) (starts : List ℕ) (front : List Bool)
     (cs : List (List Bool)) → laying.HaveBegun size (size * n) starts →

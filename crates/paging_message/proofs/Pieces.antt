@@ -2,7 +2,7 @@
 use Rattle.paging_message.proofs.Common.{◌≡◌, ℕ, zero, suc, ◌+◌, ◌<◌, false, List, [], ◌∷◌, ◌++◌, length, map, refl, ap, arith, places}
 use Rattle.paging_message.proofs.Common.{Piece, from_last_start, true, lt-ltb, range_with_len}
 
--- so many pieces, numbered from one on
+-- n pieces, numbered from `first` on
 abbrev pub run : (ℕ → Piece) → ℕ → ℕ → List Piece
 run f at zero = []
 run f at (suc n) = f at ∷ run f (at + 1) n

@@ -32,7 +32,7 @@ ended_of (c ∷ cs) m =
     if nat_lt m (length c) then None
     else (if nat_le m (length c) then Some c else ended_of cs (m - length c))
 
--- the capsules, and so many zeros after them
+-- the capsules, and n zeros after them
 abbrev pub joined : List (List Bool) → ℕ → List Bool
 joined [] pads = replicate pads false
 joined (c ∷ cs) pads = c ++ joined cs pads
@@ -196,7 +196,7 @@ chain_ends (c ∷ cs) (suc fuel) size at pads m chained enough room =
 
 -- ---- room
 
--- the half-frames that so many body bits take
+-- the number of half-frames that n body bits take
 abbrev pub width : ℕ → ℕ → ℕ
 width size count = (count + size - 1) / size
 
@@ -266,7 +266,7 @@ run_piece size cs j =
 abbrev pub run_pieces : ℕ → List (List Bool) → List Piece
 run_pieces size cs = map (run_piece size cs) (places (run_width size cs))
 
--- the first one alone begins the run
+-- only the first one begins the run
 pub first_begins : (size : ℕ) (cs : List (List Bool)) → (run_piece size cs 0).starts ≡ true
 first_begins size cs = eq-eqb 0 0 refl
 
@@ -288,7 +288,7 @@ run_width_some size cs large some =
 
 -- ---- the message under way
 
--- so many half-frames of a run, and one more
+-- j half-frames of a run, and one more
 runs_on : (before : List Piece) (f : ℕ → Piece) (j : ℕ) (q : Piece) → (f 0).starts ≡ true →
     ((i : ℕ) → 0 < i → (f i).starts ≡ false) → q.starts ≡ (f j).starts →
     from_last_start ((before ++ map f (places j)) ++ q ∷ []) ≡ map f (places j) ++ q ∷ []
@@ -458,7 +458,7 @@ ended-after c cs m k e =
     let d : m - length c ≡ suc k = omega (arith, e) in
     rw (a, b, d) refl
 
--- the bits up to the end of a capsule tell it alone
+-- the bits up to the end of a capsule determine it
 pub first_bits_told : (size at d : ℕ) (c : List Bool) (cs : List (List Bool)) → length c ≡ suc d →
     flat_map (ending_at size at (c ∷ cs)) (places (suc d)) ≡ ((at + length c - 1) / size, c) ∷ []
 first_bits_told size at d c cs long =

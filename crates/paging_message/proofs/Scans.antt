@@ -123,7 +123,7 @@ chain_of size bits = ends_chain (length bits) size 0 bits
 abbrev pub ended : ℕ → List Piece → Option (List Bool)
 ended size pieces = chain_of size (bodies (from_last_start pieces))
 
--- a half-frame that is cut short after so many body bits
+-- a half-frame that is cut short after n body bits
 abbrev pub cut_short : Piece → ℕ → Piece
 cut_short p m = record { starts = p.starts; body = take m p.body }
 

@@ -24,7 +24,7 @@ half_frame_body R4800 = 47
 half_frame_body R2400 = 23
 half_frame_body R1200 = 11
 
--- how many body bits of its half-frame are left after so many body bits since a start
+-- how many body bits of its half-frame are left, n body bits after a start
 unfoldable pub bits_left : ℕ → ℕ → ℕ
 bits_left size count = (size - count % size) % size
 

@@ -14,14 +14,14 @@ pub record Laid : Type 0 where
 abbrev pub nothing_laid : Laid
 nothing_laid = record { body = []; starts = [] }
 
--- the zeros that make whole half-frames of so many body bits
+-- the number of zeros that complete the last half-frame of n body bits
 unfoldable pub fill : ℕ → ℕ → ℕ
 fill size count = (size - count % size) % size
 
 abbrev pub padded_to : ℕ → List Bool → List Bool
 padded_to size bits = bits ++ replicate (fill size (length bits)) false
 
--- One capsule more: right after the bits so far where it follows, and else in the next half-frame.
+-- One capsule more: right after the bits so far if it follows, otherwise in the next half-frame.
 unfoldable pub laid_on : ℕ → Laid → Bool → List Bool → Laid
 laid_on size l follow capsule =
     if follow then record { body = l.body ++ capsule; starts = l.starts }
@@ -47,7 +47,7 @@ pub record Place : Type 0 where
   pub size : ℕ
   pub place : ℕ
 
--- how many bits of its last half-frame so many body bits fill, its SCI bit among them
+-- how many bits of their last half-frame n body bits fill, including its SCI bit
 unfoldable pub place_of : ℕ → ℕ → ℕ
 place_of size count = if count % size == 0 then 0 else 1 + count % size
 
@@ -73,7 +73,7 @@ abbrev pub way_for : ℕ → Laid → Bool → Laid
 way_for size l follow =
     record { body = if follow then l.body else padded_to size l.body; starts = l.starts }
 
--- half-frames whose first body bits are among so many
+-- half-frames whose first body bits are among the first n
 abbrev pub HaveBegun : ℕ → ℕ → List ℕ → Type 0
 HaveBegun size count [] = Unit {0}
 HaveBegun size count (s ∷ starts) = (s * size < count) × HaveBegun size count starts

@@ -42,7 +42,7 @@ abbrev pub type_in : List MessageType → ℕ → MessageType
 type_in [] kind = other_type kind
 type_in (row ∷ types) kind = if kind == row.kind then row else type_in types kind
 
--- of each message type its layout, and the names in its line
+-- for each message type, its layout and the names in its line
 abbrev pub paging_shape_of : ℕ → MessageShape
 paging_shape_of kind = (type_in own_types kind).shape
 

@@ -18,7 +18,7 @@ only_first : (id : ℕ) (v : View) → get_elem? (fresh_view ∷ []) id ≡ some
 only_first zero v e = refl
 only_first (suc id) v e = absurd (some-ne-none v (sym e))
 
--- the seat of a view that isn't spent is no first seat
+-- the seat of a view that isn't spent is not a first seat
 not_fresh : {X : Type 0} (views : List View) (id : ℕ) (v : View) → get_elem? views id ≡ some v →
     v.spent ≡ false → views ≡ fresh_view ∷ [] → X
 not_fresh views id v at held is =

@@ -6,7 +6,7 @@ use Rattle.chip_core.specs.Bits.{zip_with}
 unfoldable pub correlation_with : List Sample → List (ℤ × ℤ) → Pair
 correlation_with samples signs = sum_of (zip_with turned samples signs)
 
--- a sum that is the correlation, and no greater than so many samples make it
+-- a sum that is the correlation, and is bounded by the number of samples
 pub record IsSumBy (samples : List Sample) (signs : List (ℤ × ℤ)) (sum : Pair) : Type 0 where
   pub value : sum ≡ correlation_with samples signs
   pub i_bound : unsigned_abs sum.i ≤ 65536 * length samples

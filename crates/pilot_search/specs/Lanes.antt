@@ -63,14 +63,14 @@ pub record AreProducts (samples : List Sample) (signs : List (ℤ × ℤ)) (firs
   pub real_bound : Each1 (λ x. unsigned_abs x ≤ 65536) (real_lanes samples signs first)
   pub imaginary_bound : Each1 (λ x. unsigned_abs x ≤ 65536) (imaginary_lanes samples signs first)
 
--- eight real parts and eight imaginary parts that so many products each may add up to
+-- eight real and eight imaginary parts, each a possible sum of `groups` products
 pub record LanesAreNear (groups : ℕ) (real imaginary : List ℤ) : Type 0 where
   pub real_long : length real ≡ 8
   pub imaginary_long : length imaginary ≡ 8
   pub real_bound : Each1 (λ x. unsigned_abs x ≤ 65536 * groups) real
   pub imaginary_bound : Each1 (λ x. unsigned_abs x ≤ 65536 * groups) imaginary
 
--- sums of the products of the first so many groups of eight samples: with the products of the
+-- sums of the products of the first `groups` groups of eight samples: with the products of the
 -- samples that are left they are the whole sum
 pub record AreSums (samples : List Sample) (signs : List (ℤ × ℤ)) (groups : ℕ)
     (real imaginary : List ℤ) : Type 0 where

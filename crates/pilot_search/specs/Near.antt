@@ -18,8 +18,8 @@ abbrev pub near_value : List Sample → ℕ → ℕ → ℤ
 near_value samples best phase =
     if nat_le (near_place best phase) 64 then pos (energy samples phase) else negsuc 0
 
--- the first so many of these phases by greater energy, then by lesser phase, as deltas from the
--- best phase
+-- the first n of these phases by greater energy, then by lesser phase, as deltas from the best
+-- phase
 unfoldable pub near_deltas : List Sample → ℕ → ℕ → List ℤ
 near_deltas samples best count =
     map (λ phase. pos (near_place best phase) -ℤ pos 32)

@@ -14,13 +14,13 @@ abbrev pub measured_at : List Sample → ℕ → ℕ → Best
 measured_at samples best place =
     record { phase = near_phase_at best place; energy = energy samples (near_phase_at best place) }
 
--- the phases of the first so many places, with their energies
+-- the phases of the first `count` places, with their energies
 pub record IsRound (samples : List Sample) (best count : ℕ) (round : List Best) : Type 0 where
   pub long : length round ≡ 65
   pub measured : (place : ℕ) (d : Best) → place < count →
       get_or round place d ≡ measured_at samples best place
 
--- of the first so many places, two of them left out, the one that comes before all others
+-- the place that comes before all others of the first `count`, with two of them left out
 pub record IsNext (round : List Best) (first second count place : ℕ) : Type 0 where
   pub below : place < 65
   pub not_first : place ≢ first

@@ -21,7 +21,7 @@ pub data Step : Type 0 where
   Evaluate : (worker phase : ℕ) → Step
   Publish : (worker phase : ℕ) → Step  -- the energy of a phase that it evaluated
   Read : (worker : ℕ) → Step
-  Skip : (worker phase done : ℕ) → Step  -- after so many first samples
+  Skip : (worker phase done : ℕ) → Step  -- after the first `done` samples
 
 abbrev pub IsFresh : Worker → ℕ → Type 0
 IsFresh w phase =

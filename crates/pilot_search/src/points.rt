@@ -12,8 +12,8 @@ use short_code::Codes;
 use std::alloc::Global;
 use std::marker::Model;
 
-/// The points of all 32,768 chips, and the same points turned: of a chip with the signs c and d the
-/// point c + d j, and -d + c j.
+/// The points of all 32,768 chips, and the same points turned: for a chip with the signs c and d,
+/// the point c + d j and the point -d + c j.
 ///
 /// With I and Q of a sample i and q, the real part of its product with the conjugate of the chip's
 /// point is i c + q d, and the imaginary part q c - i d: i and q each times a part of the point,

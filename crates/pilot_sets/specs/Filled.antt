@@ -5,7 +5,7 @@ use Rattle.std.specs.Prelude.{◌≡◌, ℕ, ◌-◌, ◌≤◌, List, ◌++◌
 abbrev pub filled : {X : Type 0} → X → ℕ → List X → List X
 filled filler room things = things ++ replicate (room - length things) filler
 
--- the array holds so many things, and the filler after them
+-- the array holds `count` elements, and the filler after them
 pub record IsFilled {X : Type 0} (filler : X) (room : ℕ) (places : List X) (count : ℕ)
     : Type 0 where
   pub within : count ≤ room

@@ -59,8 +59,8 @@ actives_after old subchannel (n ∷ named) =
 abbrev pub fresh : ℕ → CandidatePilot
 fresh pilot = record { pilot = pilot; timer = None }
 
--- an active pilot that the direction doesn't name leaves the active set: to the candidates where
--- there is room and its timer hasn't expired, else to the neighbors where there is room
+-- an active pilot that the direction doesn't name leaves the active set: it moves to the candidates
+-- if they have room and its timer has not expired, otherwise to the neighbors if they have room
 abbrev pub left : ℕ → ActivePilot → PilotSets → PilotSets
 left time a s =
     if nat_lt (length s.candidates) 10 && not (is_expired s.thresholds time a.timer)

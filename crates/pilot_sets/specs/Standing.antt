@@ -46,8 +46,7 @@ with_neighbors heard s = record s { sets = neighbors_heard heard s.sets }
 abbrev pub with_waiting : Accepted → Standing → Standing
 with_waiting direction s = record s { sets = record s.sets { waiting = Some direction } }
 
--- a direction that is accepted waits, in place of one that waited; one that is refused changes
--- nothing
+-- an accepted direction waits, and replaces one that waited; one that is refused changes nothing
 abbrev pub unless_refused : Option DirectionFault → Accepted → Standing → Standing
 unless_refused None direction s = with_waiting direction s
 unless_refused (Some fault) direction s = s

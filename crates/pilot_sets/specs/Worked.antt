@@ -310,7 +310,7 @@ takes_over : story
 unfolding story strength thresholds direction searching leg
 takes_over = refl
 
--- a direction that changes rows alone changes the active list
+-- a direction that changes only rows changes the active list
 changes_rows : story
     (Direct 5 (direction 0 0 (leg 7 0 20 ∷ []))
     ∷ Due 6

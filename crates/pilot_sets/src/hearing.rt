@@ -38,8 +38,8 @@ fn free_pilots(sets: &PilotSets, pilots: &[u16]) -> Few<u16, 20>
     free
 }
 
-/// Puts a new list in place of the neighbors: the first of equal pilots, without those that are
-/// active or candidates, cut to 20.
+/// Replaces the neighbors by a new list: the first of equal pilots, without those that are active
+/// or candidates, cut to 20.
 pub(crate) fn hear_neighbors(sets: &mut PilotSets, pilots: &Numbers)
     requires { All (λ p. p < 512) pilots.now }
     ensures { sets.new ≡ neighbors_heard pilots.now sets.old }

@@ -65,7 +65,7 @@ pub fn directions_take_the_next_action_time()
 
 /// A timer that runs after a call ran before it, of a pilot that was active or a candidate, or the
 /// call is a step and its time is when the timer started. So a pilot's timer runs only while the
-/// pilot is active or a candidate: where it leaves both sets, it starts anew.
+/// pilot is active or a candidate: if it leaves both sets, its timer starts again.
 pub fn timers_run_in_their_sets()
     ensures keeps { (call : Call) (pilot start : ℕ) (s : Standing) →
         RunsSince pilot start (after_call call s).sets →

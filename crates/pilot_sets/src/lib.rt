@@ -2,9 +2,9 @@
 //!
 //! A handset tells base stations apart by the offsets of their pilots. It keeps a few of them in
 //! three sets (TIA/EIA-95-B, 6.6.6.2): the active set, whose traffic channels it reads, candidates,
-//! which are strong enough to be read, and neighbors, which may become so. At each moment, every
-//! 80 ms, pilots move between the sets by how strong they are, and a handoff direction may order
-//! another active set. This crate sees strengths and messages alone, and no signal.
+//! which are strong enough to be read, and neighbors, which may become so. At each moment, every 80
+//! ms, pilots move between the sets by how strong they are, and a handoff direction may order
+//! another active set. This crate sees only strengths and messages, not the signal.
 #![tactic(auto)]
 
 mod change;

@@ -173,8 +173,8 @@ impl Sets {
         self.sets.thresholds = *p;
     }
 
-    /// Puts the pilots of a message in place of the neighbors: the first of equal ones, without
-    /// those that are active or candidates, cut to 20.
+    /// Replaces the neighbors by the pilots of a message: the first of equal ones, without those
+    /// that are active or candidates, cut to 20.
     pub fn neighbors(&mut self, pilots: &Numbers)
         requires { All (λ p. p < 512) pilots.now }
         ensures { self.new ≡ with_neighbors pilots.now self.old }

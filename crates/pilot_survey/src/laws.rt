@@ -6,8 +6,8 @@ ghost use Rattle.pilot_survey.specs.declared.rank.Rank.{Rank};
 ghost use Rattle.pilot_survey.specs.Survey.{ranking, survey_phase};
 ghost use Rattle.pilot_survey.specs.Ranking.{IsRanking};
 
-/// The ranking has the rank of each pilot once, in falling order of energies, and at one energy in
-/// rising order of pilots; and no other list has.
+/// The ranking contains the rank of each pilot once, by falling energy, and by rising pilot if
+/// energies are equal. No other list does.
 pub fn ranking_is_the_only_one()
     ensures is { (samples : List Sample) (base width : ℕ) →
         IsRanking samples base width (ranking samples base width) }
@@ -16,8 +16,8 @@ pub fn ranking_is_the_only_one()
         ranks ≡ ranking samples base width }
 {}
 
-/// A pilot's phases are those from `width` chips below its own on, which is 64 chips below the base
-/// for each step of its offset, modulo 32,768. No phase is one of two pilots'.
+/// A pilot's own phase is 64 chips below the base for each step of its offset, modulo 32,768; its
+/// phases begin `width` chips below its own. No phase belongs to two pilots.
 pub fn phases_lie_round_the_pilots_own()
     ensures round { (base width pilot place : ℕ) →
         pilot < 512 →

@@ -1,4 +1,4 @@
-//! How strong one pilot is.
+//! Measures the energy of one pilot.
 
 ghost use Rattle.std.specs.Prelude.{◌≡◌, ◌<◌, ◌≤◌, ◌+◌, ◌*◌, ◌%◌, length, map, pos, ◌-ℤ◌};
 ghost use Rattle.std.specs.List.{range_with_len};
@@ -10,7 +10,7 @@ use chip_core::{Phase, Sample};
 use pilot_search::energy_at;
 use short_code::Codes;
 
-/// The phase at a place round the pilot's own phase. The first place lies `width` chips below it.
+/// Returns the phase at a place around the pilot's own phase. Place 0 lies `width` chips below it.
 fn phase_at(base: Phase, width: u8, pilot: u16, place: u8) -> Phase
     requires width { width ≤ 31 }
     requires pilot { pilot < 512 }
@@ -31,7 +31,7 @@ fn delta_of(width: u8, place: u8) -> i8
     place as i8 - width as i8
 }
 
-/// The pilot's greatest energy, at least delta on a tie.
+/// Returns the rank of a pilot: its greatest energy, and the least delta on a tie.
 fn measured(samples: &[Sample], codes: &Codes, base: Phase, width: u8, pilot: u16) -> Rank
     requires few { length samples.now ≤ 32768 }
     requires width { width ≤ 31 }
@@ -54,7 +54,7 @@ fn measured(samples: &[Sample], codes: &Codes, base: Phase, width: u8, pilot: u1
     }
 }
 
-/// Measures as many pilots as there is room for ranks, from the pilot `first` on.
+/// Measures a pilot for each entry of `ranks`, from the pilot `first` on.
 pub(crate) fn measure_all(
     samples: &[Sample],
     codes: &Codes,

@@ -8,10 +8,10 @@ use crate::rank::Rank;
 use std::cmp::Reverse;
 use std::marker::Model;
 
-/// How many pilots there are.
+/// The number of pilots.
 pub(crate) const PILOTS: usize = 512;
 
-/// The ranks of all 512 pilots, the strongest first. Contracts see their list.
+/// The ranks of all 512 pilots, the strongest first. Contracts see the list of the ranks.
 #[derive(Drop)]
 pub struct Survey {
     ranks: Vec<Rank>,
@@ -40,7 +40,7 @@ impl Survey {
         Survey { ranks }
     }
 
-    /// The rank at place `i`, of which 0 is the strongest pilot's.
+    /// Returns the rank at place `i`; place 0 has the strongest pilot.
     pub fn get(&self, i: u16) -> Rank
         requires { i < 512 }
         ensures { slice_get self.now i ≡ Some result }

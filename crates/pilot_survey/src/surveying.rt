@@ -14,7 +14,8 @@ use short_code::Codes;
 use std::alloc::Global;
 use std::thread::{Threads, join_mut};
 
-/// The first pilot of a worker: all pilots are parted among the workers as evenly as can be.
+/// Returns the first pilot of a worker. The pilots are divided among the workers as evenly as
+/// possible.
 fn start(worker: u8, workers: u8) -> u16
     requires worker { worker ≤ workers }
     requires workers { 0 < workers }
@@ -24,7 +25,7 @@ fn start(worker: u8, workers: u8) -> u16
     (PILOTS as u32 * u32::from(worker) / u32::from(workers)) as u16
 }
 
-/// Returns how many pilots the workers from the number `first` to before `end` have.
+/// Returns how many pilots the workers `first` to `end - 1` have.
 fn share(first: u8, end: u8, workers: u8) -> u16
     requires order { first ≤ end }
     requires all { end ≤ workers }
@@ -34,8 +35,8 @@ fn share(first: u8, end: u8, workers: u8) -> u16
     start(end, workers) - start(first, workers)
 }
 
-/// What the workers measure: samples, round the phases that a base gives the pilots, and among how
-/// many workers the pilots are parted.
+/// The work that is divided: the samples, the phase of the pilot of offset 0, the width around each
+/// pilot's phase, and the number of workers.
 #[derive(Drop)]
 struct Measurement<'a> {
     samples: &'a [Sample],
@@ -45,7 +46,7 @@ struct Measurement<'a> {
     workers: u8,
 }
 
-/// Measures the pilots of one worker, and tells the gate when it begins and ends.
+/// Measures the pilots of one worker, and calls the gate when it begins and when it ends.
 fn work<G: Gate>(task: &Measurement, worker: u8, gate: &G, ranks: &mut [Rank])
     requires lawful { (length task.now.samples.now ≤ 32768) × (task.now.width ≤ 31) }
     requires worker { worker < task.now.workers }
@@ -67,8 +68,7 @@ fn work<G: Gate>(task: &Measurement, worker: u8, gate: &G, ranks: &mut [Rank])
     gate.leave(worker, 0);
 }
 
-/// Runs the workers from the number `first` to before `end`, each in a thread and with a part of
-/// the ranks.
+/// Runs the workers `first` to `end - 1`, each in a thread with its part of the ranks.
 fn run<R: Threads + Sync, G: Gate + Sync>(
     rt: &R,
     task: &Measurement,
@@ -121,16 +121,16 @@ fn run<R: Threads + Sync, G: Gate + Sync>(
     );
 }
 
-/// The ranks of all 512 pilots, by so many workers at once: the same whatever their number.
+/// Returns the ranks of all 512 pilots. They do not depend on the number of workers.
 ///
-/// `base` is the phase of the pilot of offset 0. The pilot of offset p has its own phase 64 p chips
-/// below it, modulo 32,768. Its energy is the largest of the phases from `width` chips below that
-/// one to `width` above, at least delta on a tie. The ranks come by greater energy, then by lesser
-/// pilot. Worker k of w measures the pilots from floor(512 k / w) to before floor(512 (k + 1) / w).
-/// Each calls [`Gate::arrive`] once before its first pilot, and [`Gate::leave`] once after its
-/// last, with 0: it leaves no phase.
+/// `base` is the phase of the pilot of offset 0. The own phase of the pilot of offset p is 64 p
+/// chips below it, modulo 32,768. A pilot's energy is the largest at the phases from `width` chips
+/// below its own phase to `width` above, with the least delta on a tie. The ranks are sorted by
+/// greater energy, then by lesser pilot. Worker k of w measures the pilots from floor(512 k / w) to
+/// floor(512 (k + 1) / w) - 1. Each worker calls [`Gate::arrive`] once before its first pilot, and
+/// [`Gate::leave`] once after its last, with 0, because it leaves no phase early.
 ///
-/// [`OutOfMemory`]: there was no memory for the ranks. Nothing else allocates.
+/// Returns [`OutOfMemory`] if there is no memory for the ranks. Nothing else allocates.
 pub fn survey<R: Threads + Sync, G: Gate + Sync>(
     rt: &R,
     alloc: Global,

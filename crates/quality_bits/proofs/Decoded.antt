@@ -122,7 +122,7 @@ tells_none {of_capsule = of_capsule} bits fault are never =
           never m is.0 is.1);
     }
 
--- a fault is no value
+-- a fault is not a value
 err_is_no_ok : {A E : Type 0} {value : A} {fault : E} → ¬ (Err fault ≡ Ok value)
 err_is_no_ok same = cc
 

@@ -1,4 +1,4 @@
--- Numbers and their digits: the low ones alone, and inversions.
+-- Numbers and their digits: only the low ones, and inversions.
 use Rattle.quality_bits.proofs.Common.{◌≡◌, ℕ, zero, suc, ◌+◌, ◌*◌, ◌%◌, ◌^◌, Bool, true, false, not, List, [], ◌∷◌, length, map, replicate}
 use Rattle.quality_bits.proofs.Common.{sym, ap, ◌∙◌, arith, number, number_from, binary, binary-low}
 use Rattle.chip_core.proofs.Numerals.{binary-number_from}

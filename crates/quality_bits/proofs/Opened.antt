@@ -134,8 +134,8 @@ over-awaits bits more h =
           (omega (arith, length-append bits more, stated-more bits more w.0))
     ]
 
--- Once bits await no more, further bits don't change the capsule at their front: the length that
--- they state is told, and either it is no lawful one or the whole capsule is there already.
+-- Once bits await no more, further bits don't change the capsule at their front: they state a
+-- length, and either it is not lawful or the whole capsule is there already.
 pub over-front : (bits more : List Bool) → awaits_more bits ≡ false →
     front_capsule (bits ++ more) ≡ front_capsule bits
 over-front bits more h =

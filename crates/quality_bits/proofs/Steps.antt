@@ -111,7 +111,7 @@ next_else degree below value x bit most fits test is =
     ∙ ap (λ (b : Bool). cond b (bit_xor (2 * value % 2 ^ degree) below) (2 * value % 2 ^ degree))
     (sym (lead_is degree value bit false test))
 
--- the digits of the number that a list of so many bits spells
+-- the digits of the number that a list of k bits spells
 digits_of : (k n : ℕ) (bs : List Bool) → n ≡ number bs → length bs ≡ k → binary k n ≡ bs
 digits_of k n bs is long =
     ap (binary k) is ∙ ap (λ (w : ℕ). binary w (number bs)) (sym long) ∙ binary-number bs

@@ -55,7 +55,7 @@ abbrev pub chosen : List Bool → List Bool → Option (List Bool)
 chosen before bits = cond (nat_le (stated_bits bits) (length before)) None (front_capsule bits)
 
 -- Where the bits before awaited more, a capsule at the front of all bits ends in the new ones: a
--- stated length within the bits before is no lawful one, so there is no capsule at the front then.
+-- stated length within the bits before is not lawful, so there is no capsule at the front then.
 chosen_awaiting : (before more : List Bool) → awaits_more before ≡ true →
     chosen before (before ++ more) ≡ front_capsule (before ++ more)
 chosen_awaiting before more h =
@@ -118,9 +118,9 @@ ending-start pieces p h =
     rw (e, bits) (chosen_started p.body)
 
 -- A PIECE THAT GOES ON
--- A piece that starts no message goes on with what is under way: where no message is, nothing is
--- after it either, else the piece belongs to that message, which stays open where its bits still
--- await more, and once they don't, no further bits open it again.
+-- A piece that starts no message goes on with what is under way: if no message is open, none is
+-- open after it; otherwise the piece belongs to that message, which stays open while its bits await
+-- more, and no further bits open it again.
 under_way-on : (pieces : List Piece) (p : Piece) (message : List Piece) → p.starts ≡ false →
     from_last_start pieces ≡ message →
     under_way (pieces ++ p ∷ []) ≡ continued (under_way pieces) p.body
@@ -145,9 +145,9 @@ under_way-on pieces p (q ∷ message) h e =
     ] in
     rw (all, e, some, was, b) now
 
--- A piece that starts no message ends the capsule that it completes: where no message is under way
--- there is none, else the piece belongs to that message, and a capsule ends in it where the bits
--- before awaited more and those with it have a whole one.
+-- A piece that starts no message ends the capsule that it completes: if no message is open there is
+-- none; otherwise the piece belongs to that message, and a capsule ends in it if the bits before
+-- awaited more and those with it have a whole one.
 ending-on : (pieces : List Piece) (p : Piece) (message : List Piece) → p.starts ≡ false →
     from_last_start pieces ≡ message →
     capsule_ending (pieces ++ p ∷ []) ≡ completed (under_way pieces) p.body

@@ -14,7 +14,7 @@ use crate::kind::Kind;
 use chip_core::{BitReader, Bits, CheckForm};
 use thiserror::Error;
 
-/// Why a list of bits is no capsule.
+/// Why a list of bits is not a capsule.
 #[derive(Clone, Copy, PartialEq, Eq, Debug, Error)]
 pub enum CapsuleFault {
     /// Its number of bits differs from its MSG_LENGTH, or that is outside 5 to 148 octets.

@@ -1,9 +1,9 @@
-//! Why a list of bits is no message.
+//! Why a list of bits is not a message.
 
 use crate::capsule::CapsuleFault;
 use thiserror::Error;
 
-/// Why a list of bits is no message of a channel.
+/// Why a list of bits is not a message of a channel.
 #[derive(Clone, Copy, PartialEq, Eq, Debug, Error)]
 pub enum MessageFault {
     /// Its number of bits differs from its MSG_LENGTH, or that is outside 5 to 148 octets.

@@ -84,7 +84,7 @@ total_more f xs i x got =
     ap (λ (y : Finger). take i xs ++ y ∷ []) read)
     ∙ ap total (map-append f (take i xs) (x ∷ [])) ∙ total-push (map f (take i xs)) (f x)
 
--- the entries are the sums over the first so many fingers
+-- the entries are the sums over the first `count` fingers
 pub record IsSummed (ring : Held) (fingers : List Finger) (form : Form) (start count : ℕ)
     (out : List ℤ) : Type 0 where
   pub values : (samples : List Sample) → HoldsLast ring samples → (j : ℕ) → j < symbols form →

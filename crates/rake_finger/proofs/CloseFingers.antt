@@ -14,7 +14,7 @@ most_chips Sync = omega arith
 most_chips Data = omega arith
 
 -- ONE FINGER
--- the end of one finger's frame of so many chips
+-- the end of one finger's frame
 abbrev pub end_at : ℕ → ℕ → ℤ → ℕ
 end_at m u d = unsigned_abs ((pos u -ℤ d) +ℤ pos m)
 
@@ -89,7 +89,7 @@ later_more form u n f (g ∷ fingers) h =
     let rest = later_more form u n g fingers is.1 in
     omega (arith, one, rest)
 
--- so many samples later it ends so many later
+-- if it begins n samples later, it ends n samples later
 pub later_by : (form : Form) (u n : ℕ) (fingers : List Finger) → AreClose fingers →
     frame_end fingers form (u + n) ≡ frame_end fingers form u + n
 later_by form u n [] h = absurd (omega (arith, h.some))

@@ -1,4 +1,5 @@
--- What is read of a frame depends on its fingers' samples alone, and so stays where more samples follow.
+-- What is read of a frame depends only on its fingers' samples, and so stays when more samples
+-- follow.
 use Rattle.rake_finger.proofs.Common.{◌≡◌, ℕ, ◌+◌, ◌*◌, ◌/◌, ◌<◌, ◌≤◌, true, ◌&&◌, List, [], ◌∷◌, ◌++◌, map, length, take, drop, refl, ap}
 use Rattle.rake_finger.proofs.Common.{arith, ℤ, pos, ◌+ℤ◌, ◌-ℤ◌, length-drop, unsigned_abs, int_le, ints, and_parts, take-append-le, sum_of}
 use Rattle.rake_finger.proofs.Common.{drop-append-le, total, Sample, despread, symbol_chips, window_chips, symbols, frame_chips, pilot_sum}

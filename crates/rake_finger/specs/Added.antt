@@ -5,7 +5,7 @@ use Rattle.rake_finger.specs.Held.{Held, HoldsLast}
 use Rattle.rake_finger.specs.Soft.{soft, soft_bound}
 use Rattle.rake_finger.specs.declared.finger.Finger.{Finger}
 
--- the new entries are the old ones, and the finger's soft values are added to the first so many
+-- the new entries are the old ones with the finger's soft values added to the first `done`
 pub record IsAdded (ring : Held) (finger : Finger) (form : Form) (start done : ℕ)
     (old new : List ℤ) : Type 0 where
   pub values : (samples : List Sample) → HoldsLast ring samples → (j : ℕ) → j < done →

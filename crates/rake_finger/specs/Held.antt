@@ -2,7 +2,7 @@
 use Rattle.rake_finger.specs.Common.{Sample}
 use Rattle.std.specs.Prelude.{◌≡◌, ℕ, ◌+◌, ◌%◌, ◌<◌, ◌≤◌, List, length, get_or}
 
--- A ring with room for so many samples, which has taken so many. Sample i stands in cell i modulo
+-- A ring: its room, in samples, and how many samples it has taken. Sample i stands in cell i modulo
 -- the room.
 pub record Held : Type 0 where
   pub room : ℕ

@@ -5,7 +5,7 @@ use Rattle.rake_finger.specs.Held.{Held}
 use Rattle.rake_finger.specs.Soft.{frame_chips, finger_place}
 use Rattle.rake_finger.specs.declared.finger.Finger.{Finger}
 
--- the ring still holds the samples from a place on, so many, and has taken them all
+-- the ring has taken `count` samples from `place` on, and still holds them all
 pub record IsHeldInRing (ring : Held) (place count : ℕ) : Type 0 where
   pub kept : ring.taken ≤ place + ring.room
   pub taken : place + count ≤ ring.taken

@@ -44,7 +44,7 @@ covered_from row k [] = []
 covered_from row k (s ∷ samples) =
     times (record { i = sign (walsh row (k % 64)); q = pos 0 }) s ∷ covered_from row (suc k) samples
 
--- so many samples from a place on, despread by the code whose chip of this phase falls on sample 0
+-- n samples from a place on, despread by the code whose chip of this phase falls on sample 0
 abbrev pub despread_at : List Sample → ℕ → ℕ → ℕ → List Pair
 despread_at samples phase place count = despread (phase + place) (take count (drop place samples))
 

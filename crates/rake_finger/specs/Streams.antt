@@ -39,7 +39,7 @@ pub record StreamOf (C : Type 0) : Type 0 where
 abbrev pub frame_start : {C : Type 0} → StreamOf C → ℕ → ℕ
 frame_start s k = s.first + frame_chips s.form * k
 
--- whether frame k lies in a file of so many samples
+-- whether frame k lies in a file of `count` samples
 abbrev pub is_in_file : {C : Type 0} → ℕ → StreamOf C → ℕ → Bool
 is_in_file count s k = is_within count s.fingers s.form (frame_start s k)
 
@@ -69,13 +69,13 @@ span_softs count samples s k =
     let first = span_first count s k in
     flat_map (λ j. frame_softs samples s (first + j)) (places (span_frames count s k))
 
--- the frames that are known when just so many samples have been taken; bound is a number of frames
--- that is enough
+-- the frames that become known when exactly n samples have been taken; `bound` is a number of
+-- frames that is large enough
 abbrev pub known_now : {C : Type 0} → ℕ → StreamOf C → ℕ → ℕ → List ℕ
 known_now count s n bound =
     filter (λ k. is_in_file count s k && known_at count s k == n) (places bound)
 
--- the frames that are known within so many samples
+-- the frames that are known within n samples
 abbrev pub known_by : {C : Type 0} → ℕ → StreamOf C → ℕ → ℕ → List ℕ
 known_by count s n bound =
     filter (λ k. is_in_file count s k && nat_le (known_at count s k) n) (places bound)

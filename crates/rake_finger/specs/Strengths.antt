@@ -36,7 +36,8 @@ strength_before samples phase window end =
 abbrev pub sample_power : List Sample → ℕ
 sample_power samples = sum_by (λ (s : Sample). norm (of_sample s)) samples
 
--- of so many phases from one on, the place of greatest energy, the least on a tie, with its energy
+-- the place of greatest energy among `count` phases from `lowest` on, the least on a tie, with its
+-- energy
 pub record IsStrongest (samples : List Sample) (lowest count place most : ℕ) : Type 0 where
   pub first : IsFirstGreatest (λ i. pos (energy samples (lowest + i))) count place
   pub measured : most ≡ energy samples (lowest + place)

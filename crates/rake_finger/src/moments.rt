@@ -54,8 +54,8 @@ fn power_of(samples: &[Sample]) -> u64
 
 /// The power of the 512 samples before `end`, counted from sample 0: the sum of i² + q².
 ///
-/// The ring still holds these samples. Beside it, a pilot's strength tells how much of what is
-/// received is this pilot.
+/// The ring still holds these samples. Compared with it, a pilot's strength gives the share of this
+/// pilot in what is received.
 pub fn power(ring: &SampleRing, end: u64) -> u64
     requires { HoldsBefore ring.now end }
     ensures value { (samples : List Sample) → HoldsLast ring.now samples →

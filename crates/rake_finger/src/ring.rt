@@ -68,7 +68,7 @@ impl SampleRing {
         self.taken += 1;
     }
 
-    /// Takes another sample, in place of the oldest if the room is full.
+    /// Takes another sample, which replaces the oldest if the ring is full.
     pub fn push(&mut self, s: Sample)
         requires { self.old.taken < 2 ^ 63 }
         ensures room { self.new.room ≡ self.old.room }
@@ -121,7 +121,7 @@ impl SampleRing {
         self.cells.len() - cell
     }
 
-    /// The samples in so many cells from a cell on.
+    /// The samples in `count` cells from `cell` on.
     pub(crate) fn run(&self, cell: usize, count: usize) -> &[Sample]
         requires { cell + count ≤ self.now.room }
         ensures value { result.now ≡ take count (drop cell self.now.cells) }

@@ -5,7 +5,7 @@
 //! is that of rate set 1: the convolutional code (TIA/EIA-95-B, 7.1.3.1.3), the interleaver
 //! (7.1.3.1.5) and the places of power control bits (7.1.3.1.7).
 //!
-//! A frame has 576 repeated symbols. Of each six the third and the fifth are dropped, and the other
+//! A frame has 576 repeated symbols. The third and the fifth of each six are dropped, and the other
 //! 384 are sent in the order of rate set 1.
 #![tactic(auto)]
 

@@ -26,11 +26,11 @@ pub struct Decoded2 {
 ///
 /// `softs` has the soft values of a frame's 384 symbols in the sent order, turned by the
 /// scrambling, and `places` the places of the power control bits, whose soft values count as 0, as
-/// those of dropped symbols do. Of each rate the best codeword is found, of those that start from
-/// eight zeros and end with eight zeros, and is a candidate where its quality indicator is right.
-/// The candidate of the largest score is taken, the higher rate on a tie, and is good exactly if
-/// that score is above 0. If it isn't, and if there is no candidate, the rate is 14,400, with the
-/// information bits of the best codeword at that rate.
+/// those of dropped symbols do. The best codeword of each rate, among those that start and end with
+/// eight zeros, is a candidate if its quality indicator is right. The candidate of the largest
+/// score is taken, the higher rate on a tie, and is good exactly if that score is above 0. If it
+/// isn't, and if there is no candidate, the rate is 14,400, with the information bits of the best
+/// codeword at that rate.
 pub fn traffic2_frame(decoder: &mut Decoder, softs: &FrameSofts, places: &PowerPlaces) -> Decoded2
     requires room { 288 ≤ decoder.old }
     requires bound { sum_by unsigned_abs softs.now ≤ 2 ^ 62 }

@@ -1,5 +1,5 @@
 //! The work of the decoders that `tools/bench` times: the best codeword of what was sent, and the
-//! first four codewords of any soft values. What they answer is their contracts' alone.
+//! first four codewords of any soft values. Only their contracts say what they return.
 
 ghost use Rattle.std.specs.Prelude.{◌≡◌, ◌<◌, ◌≤◌, ◌^◌, IsTrue, sum_by, unsigned_abs};
 
@@ -82,7 +82,7 @@ fn sent_into(rt: &impl Abort, count: u16, ends: Ends, softs: &mut [i64]) -> Code
     Codeword { start, bits }
 }
 
-/// A codeword of so many bits that was sent.
+/// A codeword of `bits` bits that was sent.
 fn sent(rt: &impl Abort, bits: u16, ends: Ends) -> Sending {
     let mut softs = [0; 1152];
     let count = 2 * usize::from(bits);
@@ -96,7 +96,7 @@ fn sent(rt: &impl Abort, bits: u16, ends: Ends) -> Sending {
     }
 }
 
-/// Decodes what was sent so many times, and sees that the decoder finds the sent codeword.
+/// Decodes what was sent `turns` times, and checks that the decoder finds the sent codeword.
 fn decode(rt: &impl Abort, decoder: &mut Decoder, sent: &Sending, turns: u16)
     requires { decoder.old ≡ 576 }
 {
@@ -138,7 +138,7 @@ fn decodes_192_bits_between_zeros_300_times(rt: HostRuntime) -> Result<(), Fail>
     Ok(())
 }
 
-/// Lists the first four codewords of 192 bits so many times.
+/// Lists the first four codewords of 192 bits `turns` times.
 fn list_four(rt: &impl Abort, decoder: &mut ListDecoder, softs: &[i64], turns: u16)
     requires { decoder.old ≡ 576 }
 {

@@ -12,7 +12,7 @@ fn flag_of(worker: u8) -> u64 {
     1 << (worker % 64)
 }
 
-/// Waits until a word has a value, or so many turns are spent.
+/// Waits until a word has a value, or the turns are used up.
 fn wait_for(word: &AtomicU64, value: u64) {
     for _ in 0..10_000_000_000u64 {
         if word.load(Ordering::SeqCst) == value {
@@ -55,7 +55,7 @@ impl Gate for Counting {
     }
 }
 
-/// Where workers wait until all are there, or so many turns are spent.
+/// A gate at which workers wait until all have arrived, or the turns are used up.
 #[derive(Drop)]
 pub struct Meeting {
     /// The flags of the workers that are waited for.
@@ -117,8 +117,8 @@ impl Gate for Meeting {
     }
 }
 
-/// Where each of four workers waits until those after it have left, or so many turns are spent. It
-/// keeps the number of phases that each reports.
+/// A gate at which each of four workers waits until those after it have left, or the turns are used
+/// up. It keeps the number of phases that each reports.
 #[derive(Drop)]
 pub struct Queue {
     /// How many workers have left.

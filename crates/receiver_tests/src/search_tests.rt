@@ -11,7 +11,7 @@ use std::sync::atomic::Ordering;
 use std::test::Fail;
 use std::thread::Threads;
 
-/// Searches these samples with so many workers, which pass this gate.
+/// Searches these samples with `workers` workers, which pass this gate.
 fn search_by<R: AllocGlobal + Threads + Sync, G: Gate + Sync>(
     rt: &R,
     samples: &[Sample],

@@ -11,7 +11,7 @@ use std::sync::atomic::Ordering;
 use std::test::Fail;
 use std::thread::Threads;
 
-/// Surveys these samples from phase 0 on with so many workers, which pass this gate.
+/// Surveys these samples from phase 0 on with `workers` workers, which pass this gate.
 fn survey_by<R: AllocGlobal + Threads + Sync, G: Gate + Sync>(
     rt: &R,
     samples: &[Sample],

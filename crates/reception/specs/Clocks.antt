@@ -49,7 +49,7 @@ IsDueAt count c =
 abbrev pub span_from : FrameClock → ℕ
 span_from c = if nat_lt c.low c.next then c.next - 1 else c.next
 
--- the clock shows how far the frames of a stream have come in a file, after so many samples
+-- the clock shows the next frame of a stream in a file of `count` samples, after `taken` of them
 pub record IsAt {C : Type 0} (count : ℕ) (s : StreamOf C) (c : FrameClock) (taken : ℕ) :
     Type 0 where
   pub timed : IsTimed count s c.low

@@ -5,7 +5,8 @@ use Rattle.std.specs.Prelude.{ℕ, ◌*◌, ◌-◌, ◌^◌, ◌≤◌, List, �
 abbrev pub frame_most : ℕ
 frame_most = 9 * 2 ^ 57
 
--- those of the last frames, of so many symbols each, where there is room for 1,152
+-- the soft values of the last `frames` frames, of `symbols` symbols each, at the end of 1,152
+-- places
 abbrev pub last_softs : ℕ → ℕ → List ℤ → List ℤ
 last_softs symbols frames softs = drop (1152 - symbols * frames) softs
 

@@ -1,4 +1,4 @@
-//! A continued channel as it is received: a sync or a paging channel.
+//! Receives a continued channel: a sync or a paging channel.
 
 use crate::fingers::frame_symbols;
 use crate::frame_clock::FrameClock;
@@ -11,13 +11,12 @@ use short_code::Codes;
 use viterbi::Decoder;
 
 /// The receiver of a channel whose encoder continues from frame to frame: each frame is decoded
-/// together with the previous and the next one, as far as these are in the file (TIA/EIA-95-B,
-/// 7.1.3.1.3).
+/// together with the previous and the next one, if these are in the file (TIA/EIA-95-B, 7.1.3.1.3).
 #[derive(Drop)]
 pub struct Continued {
-    /// If the frames lie, and how far they have come.
+    /// The places of the frames in the file, and which of them have come.
     pub clock: FrameClock,
-    /// The paths that it is received on.
+    /// The paths on which the channel is received.
     pub fingers: Fingers,
     /// The soft values of the last three frames, the last at the end. A sync frame has 128 of them,
     /// and a frame of a paging channel 384.
@@ -38,7 +37,8 @@ impl Continued {
     ghost use Rattle.rake_finger.specs.Soft.{symbols};
     ghost use Rattle.symbol_path.specs.SentOrder.{size};
 
-    /// A channel whose frame 0 begins at a reference sample, before any frame has come.
+    /// Returns the receiver of a channel whose frame 0 begins at reference sample `first`, before
+    /// any frame has come.
     pub fn new(fingers: Fingers, form: Form, first: u64) -> Continued
         requires near { AreNear fingers }
         requires rows { have_rows fingers ≡ true }
@@ -86,7 +86,7 @@ impl Continued {
         clock.advance();
     }
 
-    /// The own bits of the next frame, if it has come.
+    /// Returns the bits of the next frame, which must have come.
     pub fn own_bits(&self, decoder: &mut Decoder, kind: FrameKind) -> Bits
         requires sound { IsSoundChannel self.now }
         requires come { self.now.clock.next < self.now.clock.have }

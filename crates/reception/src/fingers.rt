@@ -1,4 +1,5 @@
-//! The fingers that receive a channel of the reference base station, and where their frames lie.
+//! The fingers that receive a channel of the reference base station, and the places of their
+//! frames.
 
 ghost use Rattle.std.specs.Prelude.{◌≡◌, ◌<◌, ◌≤◌, ◌^◌, true, pos, int_le, slice_get, Some, length};
 ghost use Rattle.std.specs.Prelude.{take};
@@ -35,7 +36,7 @@ pub(crate) fn frame_symbols(form: Form) -> usize
     }
 }
 
-/// The fingers that receive a row at a phase and near it.
+/// Returns the fingers that receive a Walsh row at a phase and at the paths near it.
 pub fn reference_fingers(row: u8, phase: Phase, near: &Near) -> Fingers
     requires row { row < 64 }
     requires least { 1 ≤ near.now.count }
@@ -56,7 +57,8 @@ pub fn reference_fingers(row: u8, phase: Phase, near: &Near) -> Fingers
     fingers
 }
 
-/// Whether a finger's frame that begins at a reference sample doesn't begin before the file.
+/// Returns whether a finger's frame that begins at a reference sample does not begin before the
+/// file.
 fn has_begun(finger: &Finger, start: u64) -> bool
     requires { start < 2 ^ 30 }
     ensures { result ≡ int_le finger.now.delta (pos start) }
@@ -64,7 +66,7 @@ fn has_begun(finger: &Finger, start: u64) -> bool
     i64::from(finger.delta) <= start as i64
 }
 
-/// Whether no finger's frame that begins at a reference sample begins before the file.
+/// Returns whether no finger's frame that begins at a reference sample begins before the file.
 pub(crate) fn are_begun(fingers: &Fingers, start: u64) -> bool
     requires { start < 2 ^ 30 }
     ensures { result ≡ all_begun start fingers.now }

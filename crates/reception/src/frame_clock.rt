@@ -1,14 +1,14 @@
-//! If the frames of a channel lie in a file, and how far they have come.
+//! The places of a channel's frames in a file, and which of them have come.
 
 use crate::fingers::{are_begun, frame_chips, frames_end};
 use rake_finger::{Fingers, Form};
 
-/// If the frames of a channel lie in a file, and how far they have come.
+/// The places of a channel's frames in a file, and which of them have come.
 #[derive(Clone, Copy)]
 pub struct FrameClock {
-    /// How the channel's frames are cut.
+    /// The form of the channel's frames.
     pub form: Form,
-    /// Whether a frame waits for the one after it, with which it is decoded.
+    /// Whether a frame is decoded together with the one after it, and so waits for it.
     pub waits: bool,
     /// The number of the first frame in the file.
     pub low: u64,
@@ -18,16 +18,16 @@ pub struct FrameClock {
     pub have: u64,
     /// The reference sample at which that frame begins.
     pub start: u64,
-    /// How many samples have been taken when that frame ends on every finger.
+    /// The number of samples that have been taken when that frame has ended on every finger.
     pub end: u64,
 }
 
-/// The frames that a frame is decoded with.
+/// The frames that are decoded together, for the bits of one of them.
 #[derive(Clone, Copy)]
 pub struct Span {
-    /// How many there are, 1 to 3.
+    /// The number of frames, 1 to 3.
     pub frames: u8,
-    /// Which of them the frame is, counted from 0.
+    /// The index of the frame whose bits are wanted, from 0.
     pub own: u8,
 }
 
@@ -39,7 +39,8 @@ impl FrameClock {
     ghost use Rattle.reception.specs.Sound.{IsSoundClock};
     ghost use Rattle.rake_finger.specs.Soft.{frame_chips};
 
-    /// The clock of a channel whose frame 0 begins at a reference sample, before any has come.
+    /// Returns the clock of a channel whose frame 0 begins at reference sample `first`, before any
+    /// frame has come.
     ///
     /// The first frame in the file is the first that begins in it on each finger.
     pub fn new(fingers: &Fingers, form: Form, waits: bool, first: u64) -> FrameClock
@@ -56,7 +57,7 @@ impl FrameClock {
         FrameClock::from_frame(fingers, form, waits, first, 1)
     }
 
-    /// The clock from frame 0 or 1 on.
+    /// Returns the clock from frame 0 or 1 on.
     fn from_frame(fingers: &Fingers, form: Form, waits: bool, first: u64, frame: u64) -> FrameClock
         requires close { AreClose fingers.now }
         requires first { first < 2 ^ 29 + 2 ^ 15 }
@@ -76,8 +77,8 @@ impl FrameClock {
         }
     }
 
-    /// Whether the frame that is decoded next is complete, in a file of this many samples: it has
-    /// come, and if it waits for the next frame, that has come too or is not in the file.
+    /// Returns whether the frame that is decoded next is complete, in a file of `count` samples: it
+    /// has come, and if it waits for the next frame, that has come too or is not in the file.
     pub fn is_due(&self, count: u64) -> bool
         requires { IsSoundClock self.now }
         ensures { IsTrue result ↔ IsDueAt count self.now }
@@ -85,7 +86,7 @@ impl FrameClock {
         self.next < self.have && (!self.waits || self.next + 1 < self.have || count < self.end)
     }
 
-    /// One frame more has come.
+    /// Notes that another frame has come.
     pub fn advance(&mut self)
         requires sound { IsSoundClock self.old }
         requires near { self.old.have ≤ self.old.next + 1 }
@@ -109,7 +110,7 @@ impl FrameClock {
         self.next += 1;
     }
 
-    /// The number of the first frame of the next frame's span.
+    /// Returns the number of the first frame of the next frame's span.
     fn span_first(&self) -> u64
         requires { IsSoundClock self.now }
         ensures value { result ≡ span_from self.now }
@@ -140,7 +141,7 @@ impl FrameClock {
         }
     }
 
-    /// The reference sample at which a frame begins that has come.
+    /// Returns the reference sample at which a frame that has come begins.
     pub fn start_of(&self, frame: u64) -> u64
         requires sound { IsSoundClock self.now }
         requires come { frame ≤ self.now.have }

@@ -1,4 +1,4 @@
-//! The frames of a channel, each as it is received by itself.
+//! Receives the frames of a channel, each by itself.
 
 use crate::fingers::frames_end;
 use crate::frame_clock::FrameClock;
@@ -9,11 +9,11 @@ use frame_decoder::FrameSofts;
 use rake_finger::{Fingers, Form, SampleRing, combine_into};
 use short_code::Codes;
 
-/// The receiver of a channel's frames, each received by itself: where they lie, the fingers for the
-/// next one, and how they are scrambled (TIA/EIA-95-B, 7.1.3.1.6).
+/// The receiver of a channel's frames, each received by itself: their places, the fingers for the
+/// next one, and their scrambling (TIA/EIA-95-B, 7.1.3.1.6).
 #[derive(Drop)]
 pub struct FrameReceiver {
-    /// If the frames lie, and how far they have come.
+    /// The places of the frames in the file, and which of them have come.
     pub clock: FrameClock,
     /// The fingers of the frame that comes next.
     pub fingers: Fingers,
@@ -37,7 +37,8 @@ impl FrameReceiver {
     ghost use Rattle.reception.specs.Sound.{IsSoundReceiver};
     ghost use Rattle.symbol_path.specs.Scrambling.{scrambling};
 
-    /// The receiver of a channel whose frame 0 begins at a reference sample, before any has come.
+    /// Returns the receiver of a channel whose frame 0 begins at reference sample `first`, before
+    /// any frame has come.
     pub fn new(fingers: Fingers, scrambling: Scrambling, first: u64) -> FrameReceiver
         requires close { AreClose fingers }
         requires rows { have_rows fingers ≡ true }
@@ -108,7 +109,7 @@ impl FrameReceiver {
         self.clock.hear();
     }
 
-    /// Takes other fingers for the frame that comes next.
+    /// Uses other fingers for the frame that comes next.
     pub fn tune(&mut self, fingers: Fingers)
         requires sound { IsSoundReceiver self.old }
         requires close { AreClose fingers }

@@ -19,7 +19,7 @@ impl Scrambling {
     ghost use Rattle.long_code.specs.LongCode.{after};
     ghost use Rattle.symbol_path.specs.Scrambling.{scrambling};
 
-    /// The long code's state at a frame's first chip.
+    /// Returns the long code's state at a frame's first chip.
     pub fn state_at(&self, frame: u64) -> State
         requires { frame < 2 ^ 32 }
         ensures { result ≡ after self.now.state (24576 * frame) }
@@ -29,7 +29,7 @@ impl Scrambling {
         state
     }
 
-    /// The scrambling bits of a frame, one for each of its symbols.
+    /// Returns the scrambling bits of a frame, one for each of its symbols.
     pub fn frame_bits(&self, frame: u64) -> ScramblingBits
         requires mask { self.now.mask < 2 ^ 42 }
         requires frame { frame < 2 ^ 32 }

@@ -20,7 +20,7 @@ fn descrambled_value(bit: bool, soft: i64) -> i64
     if bit { -soft } else { soft }
 }
 
-/// Turns each soft value in sign whose scrambling bit is 1, if there are any (TIA/EIA-95-B,
+/// Negates each soft value whose scrambling bit is 1, if the channel is scrambled (TIA/EIA-95-B,
 /// 7.1.3.1.6).
 pub fn unscramble(bits: &[bool], softs: &mut [i64])
     requires bits { Scrambles bits.now (length softs.old) }
@@ -33,7 +33,7 @@ pub fn unscramble(bits: &[bool], softs: &mut [i64])
     }
 }
 
-/// Takes the values of one frame more, in place of the oldest.
+/// Adds the values of another frame, which replace the oldest ones.
 pub(crate) fn shift_in(softs: &mut SpanSofts, fresh: &[i64])
     requires few { length fresh.now ≤ 384 }
     requires small { AreSmall (length fresh.now) softs.old }

@@ -215,8 +215,7 @@ begun draft k n (suc m) (line ∷ more) fault before =
 -- ---- the law
 
 -- Where a script has its fault at line n, no other script with the same first n lines names a plan:
--- a script is read line by line, and what is read of it up to a line depends on the lines up to
--- there alone.
+-- a script is read line by line, and what is read up to a line depends only on the lines up to it.
 pub refused : (script other : List ℕ) (n : ℕ) → stated_plan script ≡ Err n →
     n ≤ length (lines script) → IsOk (stated_plan other) →
     take n (lines other) ≢ take n (lines script)

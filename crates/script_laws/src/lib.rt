@@ -2,7 +2,7 @@
 //! line of a script is at fault, that a number has one spelling, that a named plan can be sent and
 //! received, and that the script which is written of a plan names it.
 //!
-//! No function needs them: they stand beside the reading of scripts.
+//! No function needs them: they are separate from the reading of scripts.
 #![tactic(auto)]
 
 pub mod laws;

@@ -4,14 +4,16 @@ use Rattle.std.specs.Prelude.{ℕ, zero, suc, ◌-◌, Bool, true, false, cond, 
 use Rattle.std.specs.Prelude.{◌==◌, map}
 use Rattle.chip_core.specs.Bits.{parity, places, sign}
 
--- I(n) is the sum of the chips that lie so many places back, and Q(n) likewise
+-- the delays of the recursions, in chips: I(n) is the sum of the earlier chips at these distances,
+-- and Q(n) likewise
 abbrev pub i_lags : List ℕ
 i_lags = 15 ∷ 10 ∷ 8 ∷ 7 ∷ 6 ∷ 2 ∷ []
 
 abbrev pub q_lags : List ℕ
 q_lags = 15 ∷ 12 ∷ 11 ∷ 10 ∷ 9 ∷ 5 ∷ 4 ∷ 3 ∷ []
 
--- the chip so many places back, of the chips before, the newest first; zeros stand before chip 0
+-- the chip at this distance before the next one, in a list with the newest first; zeros stand
+-- before chip 0
 abbrev pub chip_back : List Bool → ℕ → Bool
 chip_back before lag = get_or before (lag - 1) false
 

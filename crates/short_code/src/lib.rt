@@ -1,4 +1,4 @@
-//! The pilot's two codes, as a table of 32,768 chips.
+//! The two pilot codes, as a table of 32,768 chips.
 //!
 //! Each sector of a cell spreads its signal by one sequence on the in-phase branch and by another
 //! on the quadrature branch (TIA/EIA-95-B, 7.1.3.1.9). Both have a period of 2^15 chips: a maximal

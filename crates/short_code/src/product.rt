@@ -1,11 +1,11 @@
-//! Samples times the conjugate of the pilot's codes.
+//! Multiplies samples by the conjugate of the pilot codes.
 
 ghost use Rattle.std.specs.Prelude.{◌≡◌, ◌≤◌, unsigned_abs, ◌*ℤ◌};
 ghost use Rattle.short_code.specs.Despread.{IsUnit, turned};
 
 use chip_core::{Pair, Sample};
 
-/// One branch of a sample, turned by a sign.
+/// Returns one branch of a sample, multiplied by a sign.
 fn signed(branch: i16, sign: i8) -> i32
     requires { unsigned_abs sign ≤ 1 }
     ensures value { result ≡ branch *ℤ sign }
@@ -14,11 +14,11 @@ fn signed(branch: i16, sign: i8) -> i32
     i32::from(branch) * i32::from(sign)
 }
 
-/// A sample times the conjugate of the codes' point with these signs: +1 for a chip 0 and -1 for a
-/// 1.
+/// Returns a sample times the conjugate of the QPSK point of two chips, given by their signs: +1
+/// for a chip 0 and -1 for a chip 1.
 ///
-/// TIA/EIA-95-B, 7.1.3.1.9: a cell multiplies what it sends by the point, so the product takes the
-/// codes off again.
+/// TIA/EIA-95-B, 7.1.3.1.9: a cell multiplies its signal by this point, so the product removes the
+/// codes.
 pub fn despread(sample: Sample, signs: (i8, i8)) -> Pair
     requires { IsUnit signs }
     ensures value { result ≡ turned sample signs }

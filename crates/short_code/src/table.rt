@@ -9,7 +9,7 @@ use chip_core::{OutOfMemory, parity_at};
 use std::alloc::Global;
 use std::marker::Model;
 
-/// The 32,768 chips of the pilot's two codes, in-phase and quadrature.
+/// The 32,768 chips of the two pilot codes, in-phase and quadrature.
 ///
 /// All values of this type hold the same chips. Contracts see the table of their signs.
 #[derive(Drop)]
@@ -28,7 +28,7 @@ impl Model for Codes {
     ghost invariant = { λ codes. codes.signs.items ≡ pilot_signs };
 }
 
-/// The signs of two chips on the air, in-phase and quadrature: +1 for a 0 and -1 for a 1.
+/// Returns the signs of two chips on the air, in-phase and quadrature: +1 for a 0 and -1 for a 1.
 pub fn signs_of(i: bool, q: bool) -> (i8, i8)
     ensures { result ≡ chip_signs (i, q) }
 {
@@ -36,9 +36,9 @@ pub fn signs_of(i: bool, q: bool) -> (i8, i8)
 }
 
 impl Codes {
-    /// Computes the table by two shift registers.
+    /// Computes the table with two shift registers.
     ///
-    /// It allocates 65,536 bytes, and that is all that can fail.
+    /// Returns [`OutOfMemory`] if its 65,536 bytes cannot be allocated; nothing else can fail.
     pub fn new(alloc: Global) -> Result<Codes, OutOfMemory>
         ensures { IfOk result (λ codes. codes ≡ pilot_signs) }
     {
@@ -57,7 +57,7 @@ impl Codes {
         Ok(Codes { signs })
     }
 
-    /// Chip `n` of the in-phase code, and then of the quadrature code.
+    /// Returns chip `n` of the in-phase code and of the quadrature code.
     pub fn chip(&self, n: u16) -> (bool, bool)
         requires { n < 32768 }
         ensures { result ≡ pilot_chip n }
@@ -66,7 +66,7 @@ impl Codes {
         (i < 0, q < 0)
     }
 
-    /// The signs of chip `n` of both codes: +1 for a 0 and -1 for a 1.
+    /// Returns the signs of chip `n` of both codes: +1 for a 0 and -1 for a 1.
     pub fn signs(&self, n: u16) -> (i8, i8)
         requires { n < 32768 }
         ensures { result ≡ chip_signs (pilot_chip n) }
@@ -74,7 +74,7 @@ impl Codes {
         self.signs[n as usize]
     }
 
-    /// The signs of all 32,768 chips, in order, for sums over many chips.
+    /// Returns the signs of all 32,768 chips, in order, for sums over many chips.
     pub fn table(&self) -> &[(i8, i8)]
         ensures value { result.now ≡ pilot_signs }
         ensures len { length result.now ≡ 32768 }

@@ -15,7 +15,7 @@ use paging_message::HalfBits;
 use symbol_path::Rate;
 use viterbi::Decoder;
 
-/// The first frame of the span of a slot's frame: the one before it, if there is one.
+/// Returns the first frame of the span of a slot's frame: the frame before it, if the slot has one.
 fn span_first(frame: u8) -> u8
     ensures { result ≡ slot_span_first frame }
 {
@@ -34,7 +34,7 @@ fn span_end(frame: u8) -> u8
     }
 }
 
-/// The bits of a slot's frame.
+/// Returns the bits of a slot's frame.
 fn frame_bits(decoder: &mut Decoder, rate: Rate, softs: &[i64; 1536], frame: u8) -> Bits
     requires frame { frame < 4 }
     requires room { (paging_channel rate).bits * 3 ≤ decoder.old }
@@ -59,14 +59,14 @@ fn append_all(out: &mut HalfBits, bits: &Bits)
     }
 }
 
-/// The bits of the slot of a time at which a handset is awake, frame after frame: eight
-/// half-frames, of 96 bits each at 9,600 bits a second and of 48 at 4,800.
+/// Returns the bits of the slot at which a handset is awake, frame after frame: eight half-frames,
+/// of 96 bits each at 9,600 bits a second and of 48 at 4,800.
 ///
-/// `softs` has the soft values of the slot's four frames in the sent order, 384 a frame, turned by
-/// the scrambling; a soft value is positive where its symbol is more likely a 0. Each frame's bits
-/// are its own bits of a span (`paging_span`) of itself and its neighbours among these four. So the
-/// first frame has none before it, the last has none after it, and no frame of another slot is
-/// used. The decoder takes three frames' bits.
+/// `softs` has the soft values of the slot's four frames in the sent order, 384 a frame, with the
+/// scrambling removed; a soft value is positive if its symbol is more likely a 0. Each frame is
+/// decoded in a span (`paging_span`) of itself and its neighbors among these four. So the span of
+/// the first frame has no frame before it, that of the last has none after it, and no frame of
+/// another slot is used. The decoder must have room for the bits of three frames.
 ///
 /// TIA/EIA-95-B, 6.6.2.1.1.3: a handset in slotted mode receives its slots; 7.1.3.4: a slot of 80
 /// ms has four frames.

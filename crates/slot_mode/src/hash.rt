@@ -1,4 +1,4 @@
-//! Which slot is a handset's.
+//! The slot of a handset, by a hash of its key.
 
 ghost use Rattle.std.specs.Prelude.{◌≡◌, ◌<◌};
 ghost use Rattle.slot_mode.specs.Slots.{slot_of};
@@ -6,11 +6,11 @@ ghost use Rattle.slot_mode.specs.Slots.{slot_of};
 /// The factor of the hash.
 const HASH_FACTOR: u64 = 40_503;
 
-/// The slot of the handset that has a key, 0 to 2,047: of the longest cycle's 2,048 slots the one
-/// that it monitors, and of a shorter cycle's the one of the same remainder.
+/// Returns the slot, 0 to 2,047, of the handset with this key: the one that it monitors of the
+/// longest cycle's 2,048 slots. In a shorter cycle it monitors the slot of the same remainder.
 ///
 /// TIA/EIA-95-B, 6.6.7.1: the hash of a 32-bit key to one of 2,048 values, which is decorrelated by
-/// six times the key's lowest 12 bits. The hash, as it is written down here, is this project's own.
+/// six times the key's lowest 12 bits. The hash as written here is this project's own.
 pub fn slot_of(key: u32) -> u16
     ensures value { result ≡ slot_of key }
     ensures below { result < 2048 }

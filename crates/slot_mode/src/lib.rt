@@ -1,4 +1,4 @@
-//! The slots of a sleeping handset: the times at which it wakes, and the bits that it then decodes.
+//! Slotted mode: the times at which a handset wakes, and the bits that it then decodes.
 //!
 //! A handset in slotted mode receives its paging channel in one slot of each cycle and sleeps
 //! through the others (TIA/EIA-95-B, 6.6.2.1.1.3). A slot is 80 ms, one unit of the system time:

@@ -6,7 +6,7 @@ ghost use Rattle.slot_mode.specs.Slots.{slot_period, is_monitored};
 use crate::hash::slot_of;
 use std::marker::Model;
 
-/// How many slots the shortest cycle has, 1.28 seconds.
+/// The number of slots of the shortest cycle, which lasts 1.28 seconds.
 const SHORTEST_CYCLE: u64 = 16;
 
 /// Returns how many slots a cycle of this index has.
@@ -17,12 +17,12 @@ fn period(cycle: u8) -> u64
     SHORTEST_CYCLE << cycle
 }
 
-/// Whether a handset that has a key monitors the slot of a time.
+/// Returns whether the handset with this key monitors the slot at a time.
 ///
-/// `time` is the system time in units of 80 ms, of which each is a slot, `key` the key of the
-/// handset, and `cycle` the index of its cycle, 0 to 7: every so many slots, 16 for index 0 and
-/// twice as many for each index more, it monitors one. TIA/EIA-95-B, 6.6.2.1.1.3: it does where the
-/// time and its slot are equal modulo the cycle's length.
+/// `time` is the system time in units of 80 ms, each of which is a slot, `key` the key of the
+/// handset, and `cycle` the index of its cycle, 0 to 7. A cycle of index 0 has 16 slots, and each
+/// next index doubles that. TIA/EIA-95-B, 6.6.2.1.1.3: the handset monitors the slot if the time
+/// and its slot number are equal modulo the cycle's length.
 pub fn monitored(time: u64, key: u32, cycle: u8) -> bool
     requires { cycle ≤ 7 }
     ensures { result ≡ is_monitored time key cycle }
@@ -31,8 +31,8 @@ pub fn monitored(time: u64, key: u32, cycle: u8) -> bool
     time % slots == u64::from(slot_of(key)) % slots
 }
 
-/// A time at which a handset is awake: the slot of this time is one that it monitors. There is none
-/// of any other time.
+/// A time at which a handset is awake: it monitors the slot of this time. Other times have no value
+/// of this type.
 ///
 /// Contracts see the time, the handset's key and the index of its cycle.
 #[derive(Clone, Copy)]
@@ -56,8 +56,8 @@ impl Model for Wake {
 }
 
 impl Wake {
-    /// The handset of a key, awake at a time; `None` exactly if it doesn't monitor the slot of this
-    /// time in its cycle, whose index is 0 to 7.
+    /// Returns the handset of a key, awake at a time. Returns `None` exactly if it does not monitor
+    /// the slot of this time in its cycle. `cycle` is its index, 0 to 7.
     pub fn new(time: u64, key: u32, cycle: u8) -> Option<Wake>
         requires { cycle ≤ 7 }
         ensures { SomeIff result (IsTrue (is_monitored time key cycle))
@@ -70,7 +70,7 @@ impl Wake {
         }
     }
 
-    /// The time, in units of 80 ms of the system time.
+    /// Returns the system time, in units of 80 ms.
     pub fn time(&self) -> u64
         ensures value { result ≡ self.now.time }
         ensures monitored { IsTrue (is_monitored result self.now.key self.now.cycle) }

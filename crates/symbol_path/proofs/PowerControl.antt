@@ -1,4 +1,4 @@
--- Power control bits in place of symbols.
+-- Power control bits that replace symbols.
 use Rattle.symbol_path.proofs.Common.{◌≡◌, ℕ, ◌/◌, Bool, true, false, List, get_or, refl, sym, nat_eq, Some, list_any, slice_get}
 use Rattle.symbol_path.proofs.Common.{get_or_from_slice_get, symbol_or_power_bit}
 

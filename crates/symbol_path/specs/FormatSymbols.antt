@@ -15,7 +15,7 @@ abbrev pub sent_count : SentSymbols → ℕ
 sent_count (Every kind) = size (shape_of kind)
 sent_count Kept = 384
 
--- of so many repeated ones
+-- the number of repeated symbols that they are taken from
 abbrev pub repeated_count : SentSymbols → ℕ
 repeated_count (Every kind) = size (shape_of kind)
 repeated_count Kept = 576

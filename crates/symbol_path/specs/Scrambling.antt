@@ -5,15 +5,15 @@ use Rattle.std.specs.List.{flat_map, list_any}
 use Rattle.chip_core.specs.Bits.{places, digit}
 use Rattle.long_code.specs.LongCode.{after, before, long_chip}
 
--- the long-code chips at the first chips of so many symbols of 64 chips
+-- the long-code chips at the first chips of n symbols of 64 chips
 unfoldable pub scrambling_chips : ℕ → ℕ → ℕ → List Bool
 scrambling_chips state mask count = map (λ i. long_chip state mask (64 * i)) (places count)
 
--- of a frame of 384 symbols
+-- the scrambling bits of a frame of 384 symbols
 abbrev pub scrambling : ℕ → ℕ → List Bool
 scrambling state mask = scrambling_chips state mask 384
 
--- of a power control group of 24 symbols
+-- the scrambling bits of a power control group of 24 symbols
 abbrev pub group_scrambling : ℕ → ℕ → List Bool
 group_scrambling state mask = scrambling_chips state mask 24
 
@@ -42,7 +42,7 @@ symbol_or_power_bit replaced power_bits symbols i =
     if list_any (λ place. place == i) replaced then get_or power_bits (i / 24) false
     else get_or symbols i false
 
--- the symbols of a frame with its 16 power control bits, each in place of two of them
+-- the symbols of a frame with its 16 power control bits, each of which replaces two of them
 unfoldable pub with_power_bits : ℕ → ℕ → List Bool → List Bool → List Bool
 with_power_bits state mask power_bits symbols =
     map (symbol_or_power_bit (power_places state mask) power_bits symbols) (places 384)

@@ -38,17 +38,17 @@ abbrev pub place : Shape → ℕ → ℕ
 place s a = s.columns * reversed s.width (a % 2 ^ s.width) + a / 2 ^ s.width
 
 -- the code symbols in the order in which they are sent, where a key gives the number of the code
--- symbol that is sent at each of so many places
+-- symbol that is sent at each of n places
 unfoldable pub sent_by : (ℕ → ℕ) → ℕ → List Bool → List Bool
 sent_by key count symbols = map (λ i. get_or symbols (key i) false) (places count)
 
--- for each of so many code symbols the sum of the soft values of the symbols that are sent for it
+-- for each of n code symbols, the sum of the soft values of the symbols that are sent for it
 unfoldable pub gathered_by : (ℕ → ℕ) → ℕ → ℕ → List ℤ → List ℤ
 gathered_by key count code_symbols softs =
     map (λ c. total (map (λ i. get_or softs i (pos 0)) (filter (λ i. key i == c) (places count))))
     (places code_symbols)
 
--- which code symbol is sent as symbol i, where each of them is sent so many times
+-- which code symbol is sent as symbol i, where each is repeated equally often
 abbrev pub code_symbol : Shape → ℕ → ℕ → ℕ
 code_symbol s repeats i = address s i / repeats
 

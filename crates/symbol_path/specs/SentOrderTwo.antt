@@ -1,4 +1,4 @@
--- Repetition, dropping and interleaving: which code symbol is sent when.
+-- Repetition, dropping and interleaving: the order in which code symbols are sent.
 use Rattle.std.specs.Prelude.{◌≡◌, ℕ, ◌+◌, ◌*◌, ◌/◌, ◌%◌, ◌<◌, ◌==◌, ◌||◌, Bool, false, List, []}
 use Rattle.std.specs.Prelude.{◌∷◌, get_or}
 use Rattle.symbol_path.specs.SentOrder.{data_shape, address, sent_by}

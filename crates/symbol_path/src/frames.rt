@@ -1,5 +1,5 @@
-//! From the information bits of a frame to its symbols, and from soft values to the sums for its
-//! code symbols, by the format of its rate.
+//! Encodes the information bits of a frame into its symbols, and gathers soft values for its code
+//! symbols, by the format of its rate.
 
 ghost use Rattle.std.specs.Prelude.{◌≡◌, ◌*◌, ◌≤◌, ◌^◌, ℕ, get_or, length, pos, sum_by};
 ghost use Rattle.std.specs.Prelude.{unsigned_abs};
@@ -16,7 +16,7 @@ use chip_core::air::DATA_SYMBOLS;
 use conv_code::encode_into;
 use quality_bits::FrameFormat;
 
-/// Which of its repeated symbols a frame of a format sends.
+/// Returns which of its repeated symbols a frame of a format sends.
 fn sent_symbols<R: Copy>(format: &FrameFormat<R>) -> SentSymbols
     ensures { result ≡ which_sent format.now.drops }
 {
@@ -28,10 +28,10 @@ fn sent_symbols<R: Copy>(format: &FrameFormat<R>) -> SentSymbols
 }
 
 /// Encodes a frame of a format: `out` becomes its 384 symbols in the sent order before scrambling,
-/// whatever it held.
+/// replacing its content.
 ///
-/// After the information bits stand the quality indicator, where the format has one, and eight tail
-/// bits (TIA/EIA-95-B, 7.1.3.5). The encoder starts each frame in state zero (7.1.3.1.3).
+/// The information bits are followed by the quality indicator, if the format has one, and by eight
+/// tail bits (TIA/EIA-95-B, 7.1.3.5). The encoder starts each frame in state zero (7.1.3.1.3).
 pub fn encode_frame_into<R: Copy>(format: &FrameFormat<R>, information: &Bits, out: &mut Bits)
     requires format { IsFormat format.now }
     requires count { length information.now ≡ format.now.information }
@@ -43,12 +43,11 @@ pub fn encode_frame_into<R: Copy>(format: &FrameFormat<R>, information: &Bits, o
     place_sent(sent_symbols(format), format.repeats, &code, out);
 }
 
-/// Encodes a frame: `out` becomes its 384 symbols in the sent order before scrambling, whatever it
-/// held.
+/// Encodes a frame: `out` becomes its 384 symbols in the sent order before scrambling, replacing
+/// its content.
 ///
-/// `info` has the rate's information bits, the first of which is the reserved bit. After them
-/// stand the quality indicator and eight tail bits. The encoder starts each frame in state zero
-/// (TIA/EIA-95-B, 7.1.3.1.3).
+/// `info` has the rate's information bits, the reserved bit first. The quality indicator and eight
+/// tail bits follow them. The encoder starts each frame in state zero (TIA/EIA-95-B, 7.1.3.1.3).
 pub fn encode2_into(rate: Rate2, info: &Bits, out: &mut Bits)
     requires { length info.now ≡ information_of2 rate }
     ensures value { out.new ≡ sent_frame2 rate info.now }
@@ -57,11 +56,11 @@ pub fn encode2_into(rate: Rate2, info: &Bits, out: &mut Bits)
     encode_frame_into(&format_of2(rate), info, out);
 }
 
-/// Adds to zeros, one for each code symbol of a frame of a format, the soft values of the symbols
-/// that are sent for it. So a code symbol for which none is sent keeps 0.
+/// Adds the soft values of the sent symbols to `out`, which has a zero for each code symbol of a
+/// frame of the format. A code symbol for which no symbol is sent keeps 0.
 ///
-/// No sum wraps where the absolute values add up to at most 2^62, and those of the sums add up to
-/// no more.
+/// No sum wraps if the absolute values of the soft values add up to at most 2^62. The absolute
+/// values of the sums add up to no more than those of the soft values.
 pub fn gather_frame_into<R: Copy>(
     format: &FrameFormat<R>,
     softs: &[i64; DATA_SYMBOLS],

@@ -1,6 +1,6 @@
 //! The forms of a frame.
 
-/// The two forms of a frame, by the interleaver that it goes through.
+/// The form of a frame, by the interleaver that it goes through.
 ///
 /// TIA/EIA-95-B, 7.1.3.1.5.
 #[derive(Clone, Copy, PartialEq, Eq, Debug)]

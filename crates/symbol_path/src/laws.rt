@@ -6,8 +6,8 @@ ghost use Rattle.symbol_path.specs.declared.kinds.Kind.{Kind};
 ghost use Rattle.chip_core.specs.Agreement.{agreement};
 ghost use Rattle.symbol_path.specs.SentOrder.{shape_of, size, address, place, sent, gathered};
 
-/// A frame sends each of its repeated symbols exactly once: every place of the first order is the
-/// address of one sent symbol, and of no other.
+/// A frame sends each of its repeated symbols exactly once: every repeated symbol is sent at
+/// exactly one place.
 pub fn order_is_a_permutation()
     ensures below { (kind : Kind) (i : ℕ) → i < size (shape_of kind) →
         address (shape_of kind) i < size (shape_of kind) }
@@ -21,8 +21,8 @@ pub fn order_is_a_permutation()
         (i : ℕ) × (i < size (shape_of kind)) × (address (shape_of kind) i ≡ a) }
 {}
 
-/// Gathered soft values agree with code symbols exactly as well as the soft values agree with what
-/// is sent for them.
+/// The score of gathered soft values against code symbols equals the score of the soft values
+/// against the symbols that are sent for them.
 pub fn gathering_keeps_agreement()
     ensures { (kind : Kind) (repeats : ℕ) (softs : List ℤ) (code : List Bool) →
         length softs ≡ size (shape_of kind) →

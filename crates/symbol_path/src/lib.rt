@@ -5,8 +5,8 @@
 //! a paging or traffic channel.
 //!
 //! The rates of rate set 2, their quality indicators and the dropped symbols are this project's
-//! profile; the rest is that of rate set 1. A frame has 576 repeated symbols. Of each six the third
-//! and the fifth are dropped, and the other 384 are sent in the order of rate set 1.
+//! profile; the rest is that of rate set 1. A frame has 576 repeated symbols. The third and the
+//! fifth of each six are dropped, and the other 384 are sent in the order of rate set 1.
 #![tactic(auto)]
 
 mod frames;

@@ -1,14 +1,14 @@
-//! Interleaving: which of the repeated symbols is sent when.
+//! Interleaving: the order in which the repeated symbols are sent.
 //!
-//! TIA/EIA-95-B, 7.1.3.1.5: the repeated symbols are sent in another order, in which neighbours
-//! stand far apart.
+//! TIA/EIA-95-B, 7.1.3.1.5: the repeated symbols are sent in another order, which moves neighbors
+//! far apart.
 
 ghost use Rattle.std.specs.Prelude.{◌≡◌, ◌+◌, ◌*◌, ◌<◌, ◌^◌};
 ghost use Rattle.symbol_path.specs.SentOrder.{shape_of, size, reversed, address};
 
 use crate::kinds::Kind;
 
-/// The lowest `width` bits of a number in reverse.
+/// Returns the lowest `width` bits of a number in reverse order.
 fn reversed(width: u8, number: u16) -> u16
     requires { width < 16 }
     ensures value { result ≡ reversed width number }
@@ -23,10 +23,11 @@ fn reversed(width: u8, number: u16) -> u16
     turned
 }
 
-/// Which of the repeated symbols, in their first order, a frame sends as its symbol `i`.
+/// Returns which of the repeated symbols, in the order before interleaving, a frame sends as its
+/// symbol `i`.
 ///
-/// TIA/EIA-95-B, 7.1.3.1.5: with m 7 and J 1 on the sync channel, and m 6 and J 6 on the others, it
-/// is 2^m (i mod J) and the m bits of floor(i / J) in reverse.
+/// TIA/EIA-95-B, 7.1.3.1.5: with m = 7 and J = 1 on the sync channel, and m = 6 and J = 6 on the
+/// others, it is 2^m (i mod J) plus the m bits of floor(i / J) in reverse order.
 pub fn address(kind: Kind, i: u16) -> u16
     requires { i < size (shape_of kind) }
     ensures value { result ≡ address (shape_of kind) i }

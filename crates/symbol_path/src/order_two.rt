@@ -1,4 +1,4 @@
-//! Repetition, dropping and interleaving of rate set 2: which code symbol is sent when.
+//! Repetition, dropping and interleaving of rate set 2: the order in which code symbols are sent.
 
 ghost use Rattle.std.specs.Prelude.{◌≡◌, ◌<◌};
 ghost use Rattle.symbol_path.specs.RatesTwo.{symbols_of};
@@ -8,8 +8,8 @@ use crate::kinds::Kind;
 use crate::order::address;
 use crate::rate_two::Rate2;
 
-/// Which of the repeated symbols is kept as symbol `a`: of each six the third and the fifth are
-/// dropped.
+/// Returns which of the repeated symbols is kept as symbol `a`: the third and the fifth of each six
+/// are dropped.
 fn kept_symbol(a: u16) -> u16
     requires { a < 384 }
     ensures value { result ≡ kept_symbol a }
@@ -24,9 +24,9 @@ fn kept_symbol(a: u16) -> u16
     6 * (a / 4) + kept
 }
 
-/// Which of the repeated symbols a frame sends as its symbol `i`.
+/// Returns which of the repeated symbols a frame sends as its symbol `i`.
 ///
-/// Of the kept symbols it sends them in the order of rate set 1 (TIA/EIA-95-B, 7.1.3.1.5).
+/// A frame sends its kept symbols in the order of rate set 1 (TIA/EIA-95-B, 7.1.3.1.5).
 pub fn repeated_symbol(i: u16) -> u16
     requires { i < 384 }
     ensures value { result ≡ repeated_symbol i }
@@ -35,7 +35,7 @@ pub fn repeated_symbol(i: u16) -> u16
     kept_symbol(address(Kind::Data, i))
 }
 
-/// Which code symbol a frame sends as its symbol `i`: that of the repeated symbol.
+/// Returns which code symbol a frame sends as its symbol `i`.
 pub fn place2(rate: Rate2, i: u16) -> u16
     requires { i < 384 }
     ensures value { result ≡ place2 rate i }

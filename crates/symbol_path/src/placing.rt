@@ -15,12 +15,12 @@ use crate::order_two::repeated_symbol;
 use chip_core::Bits;
 use chip_core::air::{DATA_SYMBOLS, SYNC_SYMBOLS};
 
-/// Which of its repeated symbols a frame sends, and in which order.
+/// The repeated symbols that a frame sends, and their order.
 #[derive(Clone, Copy)]
 pub(crate) enum SentSymbols {
-    /// Every one, in the order of a form of a frame.
+    /// Every symbol, in the order of a frame's form.
     Every(Kind),
-    /// Of each six all but the third and the fifth, in the order of a frame of data.
+    /// Of each six symbols all but the third and the fifth, in the order of a frame of data.
     Kept,
 }
 
@@ -35,7 +35,7 @@ impl SentSymbols {
         }
     }
 
-    /// Which of the repeated symbols a frame sends as its symbol `i`.
+    /// Returns which of the repeated symbols a frame sends as its symbol `i`.
     fn repeated(self, i: u16) -> u16
         requires { i < sent_count self }
         ensures value { result ≡ repeated_as self i }
@@ -48,8 +48,8 @@ impl SentSymbols {
     }
 }
 
-/// Writes the symbols that a frame sends: those of each code symbol, which is repeated so many
-/// times, in the sent order.
+/// Writes the symbols that a frame sends, in the sent order: each code symbol is repeated `repeats`
+/// times.
 pub(crate) fn place_sent(symbols: SentSymbols, repeats: u8, code: &Bits, out: &mut Bits)
     requires { length code.now * repeats ≡ repeated_count symbols }
     ensures value { out.new ≡
@@ -62,10 +62,10 @@ pub(crate) fn place_sent(symbols: SentSymbols, repeats: u8, code: &Bits, out: &m
     }
 }
 
-/// Writes the symbols that a frame sends, 128 or 384: each code symbol so many times, in the sent
-/// order.
+/// Writes the 128 or 384 symbols that a frame sends, in the sent order: each code symbol is
+/// repeated `repeats` times.
 ///
-/// On the sync channel a code symbol is sent twice, and on the others 1, 2, 4 or 8 times.
+/// A code symbol is sent twice on the sync channel, and 1, 2, 4 or 8 times on the other channels.
 pub fn place_into(kind: Kind, repeats: u8, code: &Bits, out: &mut Bits)
     requires { length code.now * repeats ≡ size (shape_of kind) }
     ensures value { out.new ≡ sent (shape_of kind) repeats code.now }
@@ -74,7 +74,7 @@ pub fn place_into(kind: Kind, repeats: u8, code: &Bits, out: &mut Bits)
     place_sent(SentSymbols::Every(kind), repeats, code, out);
 }
 
-/// Sets each of them to 0.
+/// Sets each value to 0.
 fn clear(values: &mut [i64])
     ensures sums { (i : ℕ) → get_or values.new i (pos 0) ≡ pos 0 }
     ensures size { sum_by unsigned_abs values.new ≡ 0 }
@@ -84,11 +84,11 @@ fn clear(values: &mut [i64])
     }
 }
 
-/// Adds to zeros, one for each code symbol of a frame, the soft values of the symbols that are sent
-/// for it.
+/// Adds the soft values of the sent symbols to `out`, which has a zero for each code symbol of a
+/// frame.
 ///
-/// No sum wraps where the absolute values add up to at most 2^62, and those of the sums add up to
-/// no more.
+/// No sum wraps if the absolute values of the soft values add up to at most 2^62. The absolute
+/// values of the sums add up to no more than those of the soft values.
 pub(crate) fn gather_sent(symbols: SentSymbols, repeats: u8, softs: &[i64], out: &mut [i64])
     requires sent { length softs.now ≡ sent_count symbols }
     requires code { length out.old * repeats ≡ repeated_count symbols }
@@ -104,10 +104,11 @@ pub(crate) fn gather_sent(symbols: SentSymbols, repeats: u8, softs: &[i64], out:
     }
 }
 
-/// For each code symbol of a frame the sum of the soft values of the symbols that were sent for it.
+/// Computes, for each code symbol of a frame, the sum of the soft values of the symbols that were
+/// sent for it.
 ///
-/// No sum wraps where the absolute values add up to at most 2^62, and those of the sums add up to
-/// no more.
+/// No sum wraps if the absolute values of the soft values add up to at most 2^62. The absolute
+/// values of the sums add up to no more than those of the soft values.
 pub fn gather_into(kind: Kind, repeats: u8, softs: &[i64], out: &mut [i64])
     requires sent { length softs.now ≡ size (shape_of kind) }
     requires code { length out.old * repeats ≡ size (shape_of kind) }

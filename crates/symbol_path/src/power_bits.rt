@@ -1,4 +1,4 @@
-//! Power control bits in place of symbols.
+//! Replaces symbols by power control bits.
 
 ghost use Rattle.std.specs.Prelude.{◌≡◌, ◌<◌, ◌^◌, length};
 ghost use Rattle.symbol_path.specs.Scrambling.{symbol_or_power_bit, with_power_bits};
@@ -8,8 +8,8 @@ use chip_core::air::{DATA_SYMBOLS, POWER_GROUP_SYMBOLS};
 use chip_core::{Bits, PowerBits};
 use long_code::State;
 
-/// Symbol `i` of a frame with its power control bits: that of the symbol's group, where the symbol
-/// is at one of these places.
+/// Returns symbol `i` of a frame with power control bits: the bit of its group if `i` is one of the
+/// places, otherwise the symbol itself.
 fn symbol_or_power_bit(
     replaced: &PowerPlaces,
     power_bits: &PowerBits,
@@ -27,11 +27,11 @@ fn symbol_or_power_bit(
     }
 }
 
-/// The 384 symbols of the frame that begins at a state, with its 16 power control bits, each in
-/// place of two of them.
+/// Returns the 384 symbols of the frame that begins at a state of the long code, with 16 power
+/// control bits, each of which replaces two symbols.
 ///
-/// TIA/EIA-95-B, 7.1.3.1.7: the bits replace symbols that are scrambled already. A 1 tells the
-/// handset to lower its power.
+/// TIA/EIA-95-B, 7.1.3.1.7: the bits replace symbols after scrambling. A 1 commands the handset to
+/// lower its power.
 pub fn with_power_bits(state: &State, mask: u64, power_bits: &PowerBits, symbols: &Bits) -> Bits
     requires mask { mask < 2 ^ 42 }
     requires symbols { length symbols.now ≡ 384 }

@@ -1,4 +1,4 @@
-//! The rates of rate set 2, and what a frame of each has.
+//! The rates of rate set 2, and the formats of their frames.
 
 ghost use Rattle.std.specs.Prelude.{◌≡◌, ◌*◌, ◌≤◌};
 ghost use Rattle.quality_bits.specs.Formats.{IsFormat};
@@ -6,8 +6,8 @@ ghost use Rattle.symbol_path.specs.RatesTwo.{format_of2};
 
 use quality_bits::{FrameFormat, Kind, REPEATED_SYMBOLS};
 
-/// A data rate of a traffic channel of rate set 2, in bits a second: the lower the rate, the more
-/// often each code symbol is repeated.
+/// A data rate of a traffic channel of rate set 2. The lower the rate, the more often each code
+/// symbol is repeated.
 #[derive(Clone, Copy, PartialEq, Eq, Debug)]
 pub enum Rate2 {
     /// 14,400 bits a second.
@@ -20,7 +20,8 @@ pub enum Rate2 {
     R1800,
 }
 
-/// What the frames of a rate of rate set 2 are made of, the reserved bit first.
+/// Returns the format of the frames of a rate of rate set 2. The reserved bit counts as an
+/// information bit.
 pub fn format_of2(rate: Rate2) -> FrameFormat<Rate2>
     ensures format { IsFormat result }
     ensures value { result ≡ format_of2 rate }
@@ -37,7 +38,7 @@ impl Rate2 {
     ghost use Rattle.symbol_path.specs.RatesTwo.{repeats_of2, information_of2, quality_of2};
     ghost use Rattle.symbol_path.specs.RatesTwo.{symbols_of};
 
-    /// How often each code symbol is repeated: 1, 2, 4 or 8 times.
+    /// Returns how often each code symbol is sent: 1, 2, 4 or 8 times.
     pub fn repeats(&self) -> u8
         ensures value { result ≡ repeats_of2 self.now }
         ensures some { 1 ≤ result }
@@ -69,7 +70,7 @@ impl Rate2 {
         format_of2(*self).information
     }
 
-    /// The quality indicator of the frames, of 12, 10, 8 or 6 bits.
+    /// Returns the quality indicator of the frames, of 12, 10, 8 or 6 bits.
     pub fn quality(&self) -> Option<Kind>
         ensures { result ≡ quality_of2 self.now }
     {

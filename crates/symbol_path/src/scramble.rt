@@ -13,15 +13,15 @@ use long_code::State;
 /// `true` is sent inverted (TIA/EIA-95-B, 7.1.3.1.6).
 pub type ScramblingBits = [bool; DATA_SYMBOLS];
 
-/// The places of the 32 symbols of a frame that its power control bits replace, two a bit, each
-/// from 0 to 383, in rising order (TIA/EIA-95-B, 7.1.3.1.7).
+/// The places, from 0 to 383 in rising order, of the 32 symbols of a frame that its power control
+/// bits replace, two for each bit (TIA/EIA-95-B, 7.1.3.1.7).
 pub type PowerPlaces = [u16; 32];
 
-/// The chips after which each state of the long code returns.
+/// The period of the long code, in chips.
 const PERIOD: u64 = 4_398_046_511_103;
 
-/// The chips of a mask of 42 bits at the first chips of the symbols from a state on, which goes on
-/// after them.
+/// Writes the long-code chip under a 42-bit mask at the first chip of each symbol, and moves the
+/// state past these symbols.
 fn symbol_chips(state: &mut State, mask: u64, out: &mut [bool])
     requires { mask < 2 ^ 42 }
     ensures chips { out.new ≡ scrambling_chips state.old mask (length out.old) }
@@ -34,11 +34,11 @@ fn symbol_chips(state: &mut State, mask: u64, out: &mut [bool])
     }
 }
 
-/// The scrambling bits of the frame of 384 symbols that begins at a state of the long code, under a
-/// mask of 42 bits.
+/// Computes the scrambling bits of the frame of 384 symbols that begins at a state of the long
+/// code, under a mask of 42 bits.
 ///
-/// TIA/EIA-95-B, 7.1.3.1.6: each symbol is added modulo 2 to the long code's first chip of the 64
-/// that it lasts.
+/// TIA/EIA-95-B, 7.1.3.1.6: each symbol lasts 64 chips, and is added modulo 2 to the first
+/// long-code chip of them.
 pub fn scramble_bits(state: &State, mask: u64, out: &mut ScramblingBits)
     requires { mask < 2 ^ 42 }
     ensures { out.new ≡ scrambling state.now mask }
@@ -47,10 +47,11 @@ pub fn scramble_bits(state: &State, mask: u64, out: &mut ScramblingBits)
     symbol_chips(&mut at, mask, out);
 }
 
-/// Where in its group of 24 symbols a power control bit begins, 0 to 15, from the scrambling bits
-/// of the group before.
+/// Returns the symbol, 0 to 15 of its group of 24, at which a power control bit begins, from the
+/// scrambling bits of the group before.
 ///
-/// TIA/EIA-95-B, 7.1.3.1.7: the last four of them, the very last being the most significant.
+/// TIA/EIA-95-B, 7.1.3.1.7: it is the number of the last four of these bits, the last of which is
+/// the most significant.
 pub fn power_start(previous: &[bool; 24]) -> u8
     ensures value { result ≡ power_start previous.now }
     ensures below { result < 16 }
@@ -61,7 +62,8 @@ pub fn power_start(previous: &[bool; 24]) -> u8
         + u8::from(previous[20])
 }
 
-/// The scrambling bits of the power control group that begins at a state, which goes on after it.
+/// Returns the scrambling bits of the power control group that begins at a state, and moves the
+/// state past it.
 fn group_bits(state: &mut State, mask: u64) -> [bool; 24]
     requires { mask < 2 ^ 42 }
     ensures bits { result ≡ group_scrambling state.old mask }
@@ -72,12 +74,12 @@ fn group_bits(state: &mut State, mask: u64) -> [bool; 24]
     bits
 }
 
-/// Which 32 symbols of the frame that begins at a state are replaced by the 16 power control bits,
-/// in rising order.
+/// Returns which 32 symbols of the frame that begins at a state are replaced by its 16 power
+/// control bits, in rising order.
 ///
 /// TIA/EIA-95-B, 7.1.3.1.7: a frame has 16 groups of 24 symbols, and in each a power control bit
-/// takes the place of two symbols. If it begins, the scrambling bits of the group before say; that
-/// of the first group is in the frame before.
+/// replaces two symbols. The scrambling bits of the group before give the place at which it begins;
+/// the group before the first is the last of the frame before.
 pub fn power_places(state: &State, mask: u64) -> PowerPlaces
     requires { mask < 2 ^ 42 }
     ensures value { result ≡ power_places state.now mask }

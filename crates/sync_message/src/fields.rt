@@ -30,9 +30,9 @@ pub struct SyncFields {
     pub daylt: u8,
     /// PRAT, 2 bits: the data rate of the paging channel.
     pub prat: u8,
-    /// CDMA_FREQ, 11 bits; absent where the capsule has 25 octets.
+    /// CDMA_FREQ, 11 bits; absent if the capsule has 25 octets.
     pub freq: Option<u16>,
-    /// The bits after the fields: 3 where the capsule has 25 octets, else 8 for each octet past
+    /// The bits after the fields: 3 if the capsule has 25 octets, otherwise 8 for each octet past
     /// 26.
     pub rest: Bits,
 }

@@ -7,14 +7,14 @@ ghost use Rattle.chip_core.specs.declared.check_form.CheckForm.{CheckForm as The
 ghost use Rattle.sync_message.specs.Reading.{sync_reading};
 ghost use Rattle.sync_message.specs.SyncMessage.{IsSyncMessage, sync_body, sync_capsule};
 
-/// Two messages with one spelling are the same.
+/// Messages with the same spelling are equal.
 pub fn spelling_has_one_message()
     ensures { (form : TheForm) (m n : TheFields) → IsSyncMessage m → IsSyncMessage n →
         sync_capsule form m ≡ sync_capsule form n → m ≡ n }
 {}
 
-/// A message has 25 octets, and then no frequency and 3 bits of rest; or it has 26 and more, and
-/// then a frequency and 8 bits of rest for each octet past 26.
+/// A message of 25 octets has no frequency and 3 bits of rest. A message of 26 octets or more has a
+/// frequency, and 8 bits of rest for each octet past 26.
 pub fn octets_tell_the_rest()
     ensures least { (m : TheFields) → IsSyncMessage m → 25 ≤ octets M30 (sync_body m) }
     ensures shortest { (m : TheFields) → IsSyncMessage m → octets M30 (sync_body m) ≡ 25 →

@@ -1,4 +1,4 @@
-//! The layout of what stands after the message type, and the message as contents of it.
+//! The layout of the fields after the message type, and a message as contents of it.
 
 ghost use Rattle.sync_message.specs.Common.{in_widths, FieldsFit, IsOf};
 ghost use Rattle.std.specs.Prelude.{◌≡◌, ◌<◌, ◌≤◌, ◌^◌, drop, length, IfSome};
@@ -25,7 +25,7 @@ pub(crate) const SYNC_CHANNEL: MessageLayout = MessageLayout {
     ..ALL_BITS
 };
 
-/// What a body says after its type, which is 1.
+/// Reads the fields after the type of a body; the type must be 1.
 #[tactic(auto, unfolding(crate::specs::Layouts::sync_body_reading))]
 pub(crate) fn read_body(body: &BitSlice<'_>) -> Option<SyncFields>
     ensures { result ≡ sync_body_reading body.now }
@@ -38,7 +38,7 @@ pub(crate) fn read_body(body: &BitSlice<'_>) -> Option<SyncFields>
     Some(fields_from(&contents))
 }
 
-/// What the bits from a place on say by the layout.
+/// Reads the bits from a place on by the layout.
 fn read_contents(body: &BitSlice<'_>, from: u16) -> Option<Contents>
     requires { from ≤ length body.now }
     ensures found { IfSome result (λ c. IsOf sync_message_shape c) }
@@ -47,7 +47,7 @@ fn read_contents(body: &BitSlice<'_>, from: u16) -> Option<Contents>
     read_from(&SYNC_CHANNEL, body, from)
 }
 
-/// The fields as the layout has them.
+/// Returns the fields as contents of the layout.
 pub(crate) fn contents_of(fields: &SyncFields) -> Contents
     ensures { result ≡ sync_contents fields.now }
 {
@@ -67,7 +67,7 @@ pub(crate) fn values_of(fields: &SyncFields) -> [u64; 11]
     sync_fields!(values_of_fields, fields)
 }
 
-/// The frequency as the layout has it.
+/// Returns the frequency as the optional group of the layout.
 fn group_of(freq: Option<u16>) -> Option<FieldValues>
     ensures { result ≡ freq_group freq }
 {
@@ -77,7 +77,7 @@ fn group_of(freq: Option<u16>) -> Option<FieldValues>
     }
 }
 
-/// The fields of what was read.
+/// Returns the fields that were read.
 #[tactic(auto, unfolding(crate::specs::Layouts::sync_of))]
 fn fields_from(contents: &Contents) -> SyncFields
     requires fixed { FieldsFit (in_widths sync_widths (sync_values (sync_from contents.now))) }
@@ -89,7 +89,7 @@ fn fields_from(contents: &Contents) -> SyncFields
     sync_fields!(fields_of_values, SyncFields, contents.fixed, freq, rest)
 }
 
-/// The frequency that was read.
+/// Returns the frequency that was read, if there is one.
 fn freq_in(group: &Option<FieldValues>) -> Option<u16>
     requires { IfSome (freq_from group.now) (λ n. n < 2 ^ 11) }
     ensures { result ≡ freq_from group.now }

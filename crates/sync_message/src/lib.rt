@@ -1,5 +1,5 @@
-//! The Sync Channel Message (TIA/EIA-95-B, 7.7.1.3), spelled and read, and the framer that cuts its
-//! capsules out of the frames of the sync channel (7.7.1.2).
+//! Spells and reads the Sync Channel Message (TIA/EIA-95-B, 7.7.1.3), and defines the framer that
+//! cuts its capsules out of the frames of the sync channel (7.7.1.2).
 #![tactic(auto)]
 
 mod fields;

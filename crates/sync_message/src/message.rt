@@ -1,4 +1,4 @@
-//! The message, to and from its capsule.
+//! Converts the message to and from its capsule.
 
 ghost use Rattle.sync_message.specs.Common.{FillsCapsule, IsWhole, M30, SyncFields as TheFields};
 ghost use Rattle.std.specs.Prelude.{◌≡◌, ◌↔◌, IfOk, IsTrue, SomeIff};
@@ -18,9 +18,9 @@ use std::marker::Model;
 
 /// A Sync Channel Message: fields that have a spelling. Contracts see the fields.
 ///
-/// It is made by [`SyncMessage::new`] and [`SyncMessage::decode`] alone, so whatever it says has a
-/// capsule. [`SyncMessage::fields`] gives what it says, field by field, as a [`SyncFields`], which
-/// is the same record without that promise.
+/// Only [`SyncMessage::new`] and [`SyncMessage::decode`] make one, so every value has a capsule.
+/// [`SyncMessage::fields`] returns its content as a [`SyncFields`], which has the same fields
+/// without that guarantee.
 #[derive(Clone, Copy, PartialEq, Eq, Debug)]
 pub struct SyncMessage {
     fields: SyncFields,
@@ -40,9 +40,9 @@ impl Model for SyncMessage {
 }
 
 impl SyncMessage {
-    /// The message of these fields; `None` exactly if a value doesn't fit its width, or the rest
-    /// hasn't a length that is admitted: 3 bits without a frequency, and 0 to 976 in steps of 8
-    /// with one.
+    /// Makes the message of these fields. Returns `None` exactly if a value does not fit its width,
+    /// or the length of the rest is not admitted: 3 bits without a frequency, 0 to 976 in steps of
+    /// 8 with one.
     pub fn new(fields: SyncFields) -> Option<SyncMessage>
         ensures { SomeIff result (IsSyncMessage fields) fields }
     {
@@ -61,25 +61,25 @@ impl SyncMessage {
         self.fields
     }
 
-    /// The values of the fields that each message has, in the order of `SYNC_FIELDS`.
+    /// Returns the values of the fields that each message has, in the order of `SYNC_FIELDS`.
     pub fn values(&self) -> [u64; 11]
         ensures { result ≡ sync_values self.now }
     {
         values_of(&self.fields)
     }
 
-    /// The capsule that spells the message.
+    /// Returns the capsule that spells the message.
     pub fn encode(&self, form: CheckForm) -> Bits
         ensures { result ≡ sync_capsule form self.now }
     {
         capsule_of(Kind::M30, form, &self.body())
     }
 
-    /// The message that a capsule spells, as `sync_reading` defines it.
+    /// Returns the message that a capsule spells, as `sync_reading` defines it.
     ///
-    /// `BadLength` exactly if the list isn't as long as its MSG_LENGTH says, or that is outside 5
-    /// to 148 octets; else `BadCheck` exactly if the check differs; else `BadBody` exactly if the
-    /// body isn't that of a message.
+    /// Returns `BadLength` exactly if the list's length differs from its MSG_LENGTH, or if that is
+    /// outside 5 to 148 octets; otherwise `BadCheck` exactly if the check differs; otherwise
+    /// `BadBody` exactly if the body is not that of a message.
     pub fn decode(capsule: &Bits, form: CheckForm) -> Result<SyncMessage, MessageFault>
         ensures found { IfOk result (λ m. IsSyncMessage m × (capsule.now ≡ sync_capsule form m)) }
         ensures only { (m : TheFields) → IsSyncMessage m → capsule.now ≡ sync_capsule form m →
@@ -101,7 +101,7 @@ impl SyncMessage {
         }
     }
 
-    /// The body that spells the message.
+    /// Returns the body that spells the message.
     fn body(&self) -> Bits
         ensures value { result ≡ sync_body self.now }
         ensures fills { FillsCapsule M30 result }

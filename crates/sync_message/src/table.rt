@@ -5,8 +5,8 @@ ghost use Rattle.sync_message.specs.Rows.{sync_names, sync_widths};
 
 use message_layout::{FieldRow, field_rows, name_in, width_in};
 
-/// Hands a macro the fields that each Sync Channel Message has, in the order of transmission: of
-/// each its place, its name and its number of bits.
+/// Passes a macro the fields that each Sync Channel Message has, in the order of transmission: the
+/// place, the name and the number of bits of each.
 macro_rules! sync_fields {
     ($made:ident $(, $($with:tt)+)?) => {
         $made! {
@@ -20,15 +20,15 @@ macro_rules! sync_fields {
 pub(crate) use sync_fields;
 
 /// The names of the fields that each Sync Channel Message has, in the order of transmission, each
-/// with its number of bits. The message type, 8 bits, stands before them.
+/// with its number of bits. The message type, 8 bits, precedes them.
 ///
-/// TIA/EIA-95-B, 7.7.1.3. Whatever spells, reads or prints the message goes by this table.
+/// TIA/EIA-95-B, 7.7.1.3. Everything that spells, reads or prints the message uses this table.
 pub const SYNC_FIELDS: [FieldRow; 11] = sync_fields!(field_rows);
 
-/// CDMA_FREQ, which a message of more than 25 octets has after those fields.
+/// CDMA_FREQ, which follows those fields in a message of more than 25 octets.
 pub const FREQ_FIELD: FieldRow = ("freq", 11);
 
-/// The name of field `i` of the table, counted from 0.
+/// Returns the name of field `i` of the table, counted from 0.
 pub fn sync_name(i: usize) -> &'static str
     requires { i < 11 }
     ensures { result.now ≡ get_or sync_names i [] }
@@ -36,7 +36,7 @@ pub fn sync_name(i: usize) -> &'static str
     name_in(&SYNC_FIELDS, i)
 }
 
-/// The number of bits of field `i` of the table, counted from 0.
+/// Returns the number of bits of field `i` of the table, counted from 0.
 pub fn sync_width(i: usize) -> u8
     requires { i < 11 }
     ensures { result ≡ get_or sync_widths i 0 }

@@ -9,7 +9,7 @@ use Rattle.traffic_message.specs.declared.fields.DirectionFields.{DirectionField
 use Rattle.traffic_message.specs.declared.fields.Search.{Search}
 
 -- When it takes effect and its number; SEARCH_INCLUDED, and the search parameters where it is 1;
--- HARD_INCLUDED, which is 0; ADD_LENGTH and so many octets of additional fields; and as many
+-- HARD_INCLUDED, which is 0; ADD_LENGTH and that many octets of additional fields; and as many
 -- records as fit, one at least, each of a pilot's offset, the combination indicator and the row.
 abbrev pub direction_shape : MessageShape
 direction_shape = record {

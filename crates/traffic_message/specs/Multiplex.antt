@@ -10,8 +10,8 @@ abbrev pub primary_bits : Bool → Bool → ℕ
 primary_bits tm1 tm0 = cond tm1 (cond tm0 0 16) (cond tm0 40 80)
 
 -- At 9600 bits per second the mixed mode bit MM stands in front. Where it is 1, the traffic type
--- bit TT and two mode bits TM follow, then primary traffic, and then signaling where TT is 0, else
--- secondary traffic.
+-- bit TT and two mode bits TM follow, then primary traffic, and then signaling if TT is 0,
+-- otherwise secondary traffic.
 unfoldable pub split_9600 : List Bool → Mux
 split_9600 bits =
     let size = primary_bits (get_or bits 2 false) (get_or bits 3 false) in

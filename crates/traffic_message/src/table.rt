@@ -13,7 +13,7 @@ use message_layout::{field_rows, name_in};
 pub const HEAD_FIELDS: [(&str, u8); 4] = [("ack", 3), ("seq", 3), ("req", 1), ("enc", 2)];
 
 /// Hands a macro the fields of the In-Traffic System Parameters Message after the head, in the
-/// order of transmission: of each its place, its name and its number of bits.
+/// order of transmission: for each its place, its name and its number of bits.
 macro_rules! in_traffic_fields {
     ($made:ident $(, $($with:tt)+)?) => {
         $made! {

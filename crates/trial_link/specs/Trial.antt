@@ -29,12 +29,12 @@ past_draw state = (6364136223846793005 * state + 1442695040888963407) % 2 ^ 64
 abbrev pub drawn : ℕ → ℕ
 drawn state = past_draw state / 2 ^ 32
 
--- the state after so many draws
+-- the state after n draws
 unfoldable pub past_draws : ℕ → ℕ → ℕ
 past_draws state zero = state
 past_draws state (suc n) = past_draw (past_draws state n)
 
--- so many bits, each the lowest of a draw
+-- n bits, each the lowest of a draw
 unfoldable pub bits_drawn : ℕ → ℕ → List Bool
 bits_drawn state n = map (λ k. drawn (past_draws state k) % 2 == 1) (places n)
 
@@ -64,12 +64,12 @@ frame_drawn state = record {
 abbrev pub past_frame : ℕ → ℕ
 past_frame state = past_draws (past_draws (past_draw state) (bits_of_frame state)) 16
 
--- the state after so many frames
+-- the state after n frames
 unfoldable pub past_frames : ℕ → ℕ → ℕ
 past_frames state zero = state
 past_frames state (suc n) = past_frame (past_frames state n)
 
--- so many frames, one after another
+-- n frames, one after another
 unfoldable pub frames_drawn : ℕ → ℕ → List TrafficFrame
 frames_drawn state n = map (λ k. frame_drawn (past_frames state k)) (places n)
 
@@ -106,7 +106,7 @@ trial_page pn = record {
   body = binary 8 4 ++ (binary 9 pn ++ (binary 6 0 ++ binary 11 283));
 }
 
--- the frame of the two channels beside
+-- the frame of the two other traffic channels
 unfoldable pub other_frame : TrafficFrame
 other_frame = record {
   rate = SetOne R1200;
@@ -114,7 +114,7 @@ other_frame = record {
   power_bits = binary 16 0x5555;
 }
 
--- the channel that the handset follows, and the two beside
+-- the channel that the handset follows, and the two others
 abbrev pub followed_line : ℕ → TrafficLine
 followed_line esn = record { row = 8; esn = esn; offset = 0; gain = 40 }
 
@@ -142,7 +142,7 @@ traffic_plan_of line frames = record {
 abbrev pub trial_link : LinkPlan
 trial_link = record { factor = record { i = pos 1; q = pos 0 }; start = 0; samples = 2457600 }
 
--- the channels beside those of traffic
+-- the channels other than those of traffic
 abbrev pub trial_paging : ℕ → PagingPlan
 trial_paging pn = record { number = 1; gain = 60; pages = trial_page pn ∷ [] }
 

@@ -44,7 +44,7 @@ impl Draws {
         self.draw() % 2 == 1
     }
 
-    /// The next bits, so many.
+    /// Returns the next `count` bits.
     fn bits(&mut self, count: u16) -> Bits
         requires { count ≤ 1184 }
         ensures value { result ≡ trial.bits_drawn self.old.state count }
@@ -236,7 +236,7 @@ fn drawn_frames(alloc: Global, draws: &mut Draws) -> Result<Series<TrafficFrame>
     Ok(frames)
 }
 
-/// The channel that the handset follows, with these frames, and the two beside it.
+/// The channel that the handset follows, with these frames, and the two others.
 fn traffic_channels(
     alloc: Global,
     esn: u32,
@@ -265,7 +265,7 @@ fn traffic_channel(row: u8, esn: u32, offset: u8, frames: Series<TrafficFrame>) 
     }
 }
 
-/// The frame of each of the two channels beside.
+/// The frame of each of the two other channels.
 fn other_frames(alloc: Global) -> Result<Series<TrafficFrame>, OutOfMemory>
     ensures { IfOk result (λ frames. frames ≡ trial.other_frame ∷ []) }
 {
@@ -291,7 +291,7 @@ fn channel_list(pn: u16) -> Page
     }
 }
 
-/// The frame of the two channels beside.
+/// The frame of the two other channels.
 #[tactic(auto, unfolding(crate::specs::Trial::other_frame))]
 fn other_frame() -> TrafficFrame
     ensures { result ≡ trial.other_frame }

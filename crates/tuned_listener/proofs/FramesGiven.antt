@@ -49,7 +49,7 @@ module _ {t : Tuning} {channel : Channel} {m : Mark} {r : ChannelReceiver} {n : 
   none_due : ¬ IsDueAt t.count r.frames.clock
   none_due d = omega (arith, d.0, given)
 
-  -- where the next frame ends later, those that end within so many samples are those before it
+  -- if the next frame ends later, the frames that end within n samples are those before it
   all_given : (samples : List Sample) → n < r.frames.clock.end →
       frames_within t channel m samples n
       ≡ map (soft_frame t channel m samples)
@@ -72,7 +72,7 @@ module _ {t : Tuning} {channel : Channel} {m : Mark} {r : ChannelReceiver} {n : 
       (ranges.filter_none_places (is_in_file t.count s) r.frames.clock.next
       (λ k below. outside_low s has.clocked.timed k (omega (arith, below, first))))
 
-  -- so many more samples, up to the end of the next frame
+  -- n' samples instead of n, up to the end of the next frame
   given_more : (n' : ℕ) → n ≤ n' → n' ≤ t.count → n' ≤ r.frames.clock.end →
       HasGiven t channel m r n'
   given_more n' more most ends =

@@ -1,4 +1,4 @@
--- What is written of a sleeping handset's slots depends on the samples of these alone.
+-- What is written of a sleeping handset's slots depends only on the samples of these slots.
 use Rattle.tuned_listener.proofs.Common.{◌≡◌, ℕ, ◌+◌, ◌-◌, ◌*◌, ◌<◌, ◌≤◌, true, List, [], ◌∷◌, length, refl, sym, ap, ◌∙◌, subst, arith, ℤ}
 use Rattle.tuned_listener.proofs.Common.{inl, inr, pos, ◌-ℤ◌, Option, Some, None, take, drop, filter, length-take-le, int_le, unsigned_abs}
 use Rattle.tuned_listener.proofs.Common.{and_parts, cases_lt, ints, drop-drop, drop-take, take-append-drop, take-take, take_all, places}
@@ -95,7 +95,7 @@ module _ (t : Tuning) (near : AreNear (sync_stream t).fingers) (m : Mark) (one o
           sym (mark_stays t (low_of t) (timed_of t near) one m.sample (length one) found few is)
           ∙ marked
 
-  -- and depends on these alone
+  -- and depends only on these
   set_by_first : (samples : List Sample) → m.sample ≤ length samples →
       mark t samples m.sample ≡ mark t (take m.sample samples) m.sample
   set_by_first samples few =
@@ -124,8 +124,8 @@ module _ (t : Tuning) (near : AreNear (sync_stream t).fingers) (m : Mark) (one o
       ]
 
 -- Two files that agree up to the mark and in the slots that are heard have the same text: the mark
--- depends on the samples before it alone, so both set the same one, and the text is the lines of
--- the slots that are heard after it, each of which depends on its own slot's samples.
+-- depends only on the samples before it, so both set the same one, and the text is the lines of the
+-- slots that are heard after it, each of which depends on its own slot's samples.
 pub sleeps : SleepsThroughTheRest
 sleeps key cycle t number m one other near long marked same agree =
     let s = channel_stream t (Paging number) m in

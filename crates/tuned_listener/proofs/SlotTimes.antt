@@ -121,7 +121,7 @@ module _ (key cycle : ℕ) (check : CheckForm) (m : Mark) where
       ∙ text_of_next (a ∷ []) (a ∷ b ∷ []) b (c ∷ []) (more_second a b slot second)
       ∙ text_of_next (a ∷ b ∷ []) (a ∷ b ∷ c ∷ []) c [] (more_third a b c slot third)
 
-  -- Frames numbered in a row from a slot's first on: those of so many whole slots, and a few more.
+  -- Frames numbered in a row from a slot's first on: those of whole slots, and a few more.
   module _ (frame : ℕ → SoftFrame) (numbered : (k : ℕ) → (frame k).number ≡ k) where
     abbrev lines_at : ℕ → List ℕ
     lines_at slot =
@@ -172,7 +172,7 @@ module _ (key cycle : ℕ) (check : CheckForm) (m : Mark) where
     frames_by_slots n =
         slot_by_slot [] 0 n 0 (n / 4) (n % 4) (omega arith) (omega arith) (omega arith)
 
--- ---- frames within so many samples
+-- ---- frames within n samples
 -- A test that passes with a number each smaller one, and is passed by none from some number on, is
 -- passed by the numbers below one.
 pub record IsFront (p : ℕ → Bool) (bound count : ℕ) : Type 0 where

@@ -12,8 +12,8 @@ pub record IsSoundChannelReceiver (r : ChannelReceiver) : Type 0 where
   pub given : r.frames.clock.have ≡ r.frames.clock.next
   pub few : length r.frames.fingers ≤ 3
 
--- The receiver of this channel after this mark has given the frames that end within so many
--- samples of a file.
+-- The receiver of this channel after this mark has given the frames that end within `taken` samples
+-- of a file.
 pub record HasGiven (t : Tuning) (channel : Channel) (m : Mark) (r : ChannelReceiver) (taken : ℕ)
     : Type 0 where
   pub clocked : IsAt t.count (channel_stream t channel m) r.frames.clock taken

@@ -101,7 +101,7 @@ impl TunedListener {
     ghost use Rattle.event_tap.specs.TunedTexts.{IsLawfulTuned, tuned_text};
     ghost use Rattle.event_tap.specs.declared.tuned_text.TunedText.{TunedText as TheText};
 
-    /// The listener of a channel, for a base station at a phase and near it, in place of a handset
+    /// The listener of a channel, for a base station at a phase and near it, instead of a handset
     /// that has taken no sample of a file. `check` is the form of the check that the messages of a
     /// paging channel have.
     ///

@@ -1,5 +1,4 @@
--- What the entries are after so many stages: sums over the places of a block, with the signs of a
--- shorter row.
+-- The entries after n stages: sums over the places of a block, with the signs of a shorter row.
 use Rattle.walsh.proofs.Common.{◌≡◌, ℕ, zero, suc, ◌+◌, ◌-◌, ◌*◌, ◌%◌, ◌^◌, ◌<◌, ◌≤◌, Bool, true, false, not, List, [], ◌∷◌, length, get_or}
 use Rattle.walsh.proofs.Common.{refl, sym, ap, ◌∙◌, arith, ℤ, nat_eq, bit_and, if◌then◌else◌, pos, negsuc, ◌+ℤ◌, ◌-ℤ◌, ◌*ℤ◌, neg_ℤ, ints}
 use Rattle.walsh.proofs.Common.{and_block, and_le_l, and_mask, ones_cat, pow_pos, sign, bit_of, sum_below, walsh, walsh_sum_from}

@@ -128,7 +128,7 @@ moves_at bit l old new next x y p small clear h e f is =
     (e ∙ ap (λ (k : ℕ). plus (entry new l) (entry new k)) place) (f ∙
     ap (λ (k : ℕ). minus (entry new l) (entry new k)) place))
 
--- a place with its bit set is no lower place
+-- a place with its bit set is not a lower place
 pub skips : (bit l : ℕ) (old new : List Pair) → bit < 6 → bit_of l bit ≡ true →
     IsPartway bit l old new → IsPartway bit (l + 1) old new
 skips bit l old new p is_set h = record {

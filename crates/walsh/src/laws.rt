@@ -2,7 +2,8 @@
 
 ghost use Rattle.walsh.specs.Walsh.{AreOrthogonalRows};
 
-/// Over 64 chips a row agrees with itself everywhere, and with another row as often as not.
+/// Over 64 chips a row agrees with itself at every chip, and with another row at exactly half of
+/// them.
 pub fn rows_are_orthogonal()
     ensures { AreOrthogonalRows }
 {}

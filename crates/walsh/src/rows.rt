@@ -3,7 +3,8 @@
 ghost use Rattle.std.specs.Prelude.{◌≡◌, ◌<◌};
 ghost use Rattle.walsh.specs.Walsh.{walsh};
 
-/// Chip k of a row, both 0 to 63: the parity of the bits that both numbers have.
+/// Returns chip `k` of a row, both 0 to 63: the parity of the bits that both numbers have in
+/// common.
 pub fn chip(row: u8, k: u8) -> bool
     requires row { row < 64 }
     requires chip { k < 64 }

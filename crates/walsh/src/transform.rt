@@ -9,14 +9,14 @@ ghost use Rattle.chip_core.specs.Complex.{plus};
 use chip_core::Pair;
 use std::simd::prelude::*;
 
-/// Replaces 64 complex sums, one a chip, by what each row carries: entry n becomes the sum of all
-/// entries, each with the sign of its chip of row n.
+/// Replaces 64 complex values, one for each chip, by the sums over the rows: entry n becomes the
+/// sum of all entries, each times the sign of its chip of row n.
 ///
-/// The base station adds its channels up by it, since the sign of row n at chip k is that of row k
-/// at chip n; a tool may look at all channels of a cell by it. A finger sums up its own row alone.
+/// The base station adds its channels with it, because the sign of row n at chip k is that of row k
+/// at chip n. Tools may use it to measure all channels of a cell. A finger only sums its own row.
 ///
-/// No part may be above 2^40 or below -2^40. Six stages of butterflies do it in 384 additions of
-/// each part.
+/// Each part must be from -2^40 to 2^40. Six stages of butterflies take 384 additions for each
+/// part.
 pub fn transform64(values: &mut [Pair; 64])
     requires { All (IsWithin (2 ^ 40)) values.old }
     ensures in_phase { in_phase values.new ≡ transform (in_phase values.old) }
@@ -27,7 +27,7 @@ pub fn transform64(values: &mut [Pair; 64])
     }
 }
 
-/// One stage: each two entries whose places differ in this bit alone become their sum and their
+/// Runs one stage: each two entries whose places differ only in this bit become their sum and their
 /// difference.
 fn stage(values: &mut [Pair; 64], bit: u32)
     requires bit { bit < 6 }
@@ -45,7 +45,7 @@ fn stage(values: &mut [Pair; 64], bit: u32)
     }
 }
 
-/// The sum of two numbers whose parts have room for it.
+/// Returns the sum of two numbers whose parts are small enough for it.
 fn sum(x: Pair, y: Pair) -> Pair
     requires { IsWithin (2 ^ 45) x × IsWithin (2 ^ 45) y }
     ensures { result ≡ plus x y }
@@ -58,7 +58,7 @@ fn sum(x: Pair, y: Pair) -> Pair
     }
 }
 
-/// The difference of two such numbers.
+/// Returns the difference of two such numbers.
 fn difference(x: Pair, y: Pair) -> Pair
     requires { IsWithin (2 ^ 45) x × IsWithin (2 ^ 45) y }
     ensures { result ≡ minus x y }

@@ -36,7 +36,7 @@ loop-place-preserved g c =
     ]
 
 -- Where writing a tap's line fails, every tap in the list still has events left to hear: which taps
--- stay depends on the event alone and not on what was written.
+-- stay depends only on the event, not on what was written.
 pub returns-in_err-gave-clause-kept : goal.returns-in_err-gave-clause-kept
 returns-in_err-gave-clause-kept g c =
     let inv = c.loop-place.invariant in

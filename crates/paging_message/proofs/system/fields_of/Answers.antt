@@ -2,8 +2,8 @@ use Rattle.paging_message.proofs.Common.{fit_value, ℕ, List, [], ◌<◌, ◌^
 use Rattle.chip_core.specs.Fields.{FieldsFit, in_widths}
 use Rattle.paging_message.proofs.system.fields_of.Goals as goal
 
--- Each value has at most as many bits as its field. A search that finds this from the requirement
--- alone takes the longer, the more fields stand before the value.
+-- Each value has at most as many bits as its field. A search that uses only the requirement takes
+-- longer for each field before the value.
 value_fits : (values : List ℕ) →
     FieldsFit (in_widths system_widths (system_values (system_of values []))) → (i : ℕ) → i < 37 →
     get_or (system_values (system_of values [])) i 0 < 2 ^ (get_or system_widths i 0)

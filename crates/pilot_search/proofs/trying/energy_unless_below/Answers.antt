@@ -10,8 +10,8 @@ returns-then-is_empty c =
     none_left c.args.samples.now c.args.phase c.args.limit none
 
 -- The energy that is answered is the phase's, and no bound is below the limit: the sum before the
--- last chunk and that chunk's correlation make the whole, and since bounds never rise the one
--- before the last chunk tells of all.
+-- last chunk and that chunk's correlation make the whole, and since bounds never rise, the one
+-- before the last chunk bounds all.
 pub returns : goal.returns
 returns c =
     let xs = c.args.samples.now in

@@ -13,7 +13,7 @@ loop-j-init c = record {
 }
 
 -- Some chunks more are in the sum: they are the next samples that were left, correlated with the
--- code from their own phase on, and the sum stays within what so many samples can give.
+-- code from their own phase on, and the sum stays within what the samples so far can give.
 pub loop-j-preserved : goal.loop-j-preserved
 loop-j-preserved c =
     let inv = c.loop-j.invariant in

@@ -3,8 +3,8 @@ use Rattle.pilot_sets.proofs.Within.{filtered_hit, filtered_miss}
 use Rattle.pilot_sets.proofs.hearing.free_pilots.Goals.{then-not-has_timer, else-not-has_timer}
 use Rattle.pilot_sets.proofs.hearing.free_pilots.Goals as goal
 
--- One pilot more is looked at: it is added where it is neither active nor a candidate and fewer
--- than 20 are there, as the first 20 of all such pilots have it, and else the list stays.
+-- One pilot more is looked at: it is added if it is neither active nor a candidate and fewer than
+-- 20 are there, as in the first 20 of all such pilots; otherwise the list stays.
 pub loop-p-preserved : goal.loop-p-preserved
 loop-p-preserved c =
     let test = lacks (timed_pilots c.args.sets.now) in

@@ -15,7 +15,7 @@ loop-k-preserved c =
           (digit_below c.loop-k.value c.loop-k.k c.get-bit.result c.loop-k.invariant.small);
     }
 
--- What is left to read is the number that was taken, spelled in so many bits, and then what is left
+-- What is left to read is the number that was taken, spelled in `width` bits, and then what is left
 -- now: the number is that of the next bits, and the reader stands right after them.
 pub returns-clause-spelled : goal.returns-clause-spelled
 returns-clause-spelled c =

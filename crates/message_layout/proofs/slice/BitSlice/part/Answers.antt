@@ -2,7 +2,7 @@ use Rattle.message_layout.proofs.Common.{common_steps, ints, ◌≡◌, ◌+◌,
 use Rattle.message_layout.proofs.Slices.{slice_part}
 use Rattle.message_layout.proofs.slice.BitSlice.part.Goals as goal
 
--- The bits are the part of the slice that is asked for: the slice is so many bits of the list from
+-- The bits are the part of the slice that is asked for: the slice is `count` bits of the list from
 -- its start on, and the part lies within these.
 pub returns : goal.returns
 returns c =

@@ -3,7 +3,7 @@ use Rattle.mobile_core.proofs.Common.{Event, IsSoundHandoff, SetsKeeper, SoftHan
 use Rattle.mobile_core.proofs.FramesFollowed.{frames_noted, noted_waits}
 use Rattle.mobile_core.proofs.followed.Followed.note.Goals as goal
 
--- the sets that have taken the event stand beside the receiver
+-- the receiver together with the sets that have taken the event
 noted : (r x : SoftHandoff) (event : Event) (k : SetsKeeper) → k ≡ (noted_by event r).sets →
     Some (beside k r.receiver) ≡ Some x → noted_by event r ≡ x
 noted r x event k value e =

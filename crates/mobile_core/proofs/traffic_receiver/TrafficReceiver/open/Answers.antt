@@ -5,7 +5,7 @@ use Rattle.mobile_core.proofs.FramesOpened.{first_paths, hears_opened, paths_som
 use Rattle.mobile_core.proofs.traffic_receiver.TrafficReceiver.open.Goals.{After-new-frames}
 use Rattle.mobile_core.proofs.traffic_receiver.TrafficReceiver.open.Goals as goal
 
--- the fingers are those of the reference's pilot alone
+-- the fingers are only those of the reference's pilot
 are_close : (c : After-new-frames) → AreClose c.leg_fingers-fingers.result
 are_close c =
     let fingers = c.leg_fingers-fingers.ensures in

@@ -46,8 +46,8 @@ returns-clause-longer c =
           c.padding-zero-end.ensures.lawful.most c.padding-zero-end.ensures.value,
     )
 
--- What is laid is the way that the definition makes: no zeros for a capsule that follows, and else
--- as many as fill the half-frame under way, which its place tells.
+-- What is laid is the way that the definition makes: no zeros for a capsule that follows, otherwise
+-- as many as complete the current half-frame, by its place.
 pub returns-clause-laid : goal.returns-clause-laid
 returns-clause-laid c l laid =
     let size = c.args.self.now.size in

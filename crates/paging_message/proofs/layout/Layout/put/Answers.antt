@@ -3,9 +3,8 @@ use Rattle.paging_message.proofs.Common.{HasLaid, Laid, bit_on, way_for, laid_on
 use Rattle.paging_message.proofs.Layings.{capsule_first, capsule_next, way_whole}
 use Rattle.paging_message.proofs.layout.Layout.put.Goals as goal
 
--- The first bit of a capsule is laid where way was made for it: in the half-frame under way where
--- the capsule follows another one, and else at the beginning of a half-frame, whose SCI bit is then
--- 1.
+-- The first bit of a capsule is laid where way was made for it: in the current half-frame if the
+-- capsule follows another one, otherwise at the beginning of a half-frame, whose SCI bit is then 1.
 pub loop-i-init : goal.loop-i-init
 loop-i-init c =
     let size = c.args.self.now.size in

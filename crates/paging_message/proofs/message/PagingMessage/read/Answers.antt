@@ -19,7 +19,7 @@ pub read_from-requires-clause-lawful : goal.read_from-requires-clause-lawful
 read_from-requires-clause-lawful c = rw c.layout_of.ensures.shape (lawful c.in_ok-kind.kind)
 
 -- Clause `room` of `read_from` holds, since at most 1146 bits follow the type in a body that fills
--- a capsule, and no type's layout has more than 128 records in so many.
+-- a capsule, and no type's layout has more than 128 records in 1,146 bits.
 pub read_from-requires-clause-room : goal.read_from-requires-clause-room
 read_from-requires-clause-room c =
     let body = c.args.body.now in

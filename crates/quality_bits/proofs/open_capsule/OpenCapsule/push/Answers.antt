@@ -8,8 +8,8 @@ append-requires c =
     let waits : awaits_more c.in_ok-bits.bits ≡ true = rw c.in_ok-bits.was at c.self.invariant in
     awaits_short c.in_ok-bits.bits waits
 
--- An open capsule goes on with a bit where its bits, with this one, still await more, and else it
--- is closed: that is what the code tests.
+-- A bit keeps a capsule open if its bits, with this one, still await more; otherwise it is closed:
+-- that is what the code tests.
 pub returns-clause-goes_on : goal.returns-clause-goes_on
 returns-clause-goes_on c =
     let bit = c.args.bit ∷ [] in
