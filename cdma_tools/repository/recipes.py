@@ -37,8 +37,12 @@ class Word:
         return self.name
 
     def is_in(self, text: str) -> bool:
-        """Whether a file of this text names it."""
-        return self.name in text and re.search(rf"(?<![\w-]){re.escape(self.name)}(?![\w-])", text) is not None
+        """Whether a file of this text names it; a law or a goal of it has its name before a hyphen."""
+        return self.name in text and re.search(rf"(?<![\w-]){re.escape(self.name)}(?!\w)", text) is not None
+
+    def may_be_in(self, text: str) -> bool:
+        """Whether it is any part of a name in a file of this text."""
+        return self.name in text and re.search(rf"(?<!\w){re.escape(self.name)}(?!\w)", text) is not None
 
 
 @dataclass(frozen=True)
@@ -57,7 +61,15 @@ class Variant:
             return False
         others = "|".join([*re.findall(rf"\b{self.enum}\.TheVariants as (\w+)", text), r"Common\.\{[^}]*\b"])
         named = rf"enum {self.enum} \{{|\b{self.enum}::{self.name}\b|\b{self.enum}\.TheVariants\.\{{[^}}]*\b{self.name}\b"
-        return re.search(rf"{named}|\b(?:{others})\.?{self.name}\b", text) is not None
+        goals = rf"(?<=\w)-{self.name}(?!\w)"
+        return re.search(rf"{named}|{goals}|\b(?:{others})\.?{self.name}\b", text) is not None
+
+    def may_be_in(self, text: str) -> bool:
+        """Whether a file of this text has both names, or the variant's as a part of a goal's name."""
+        if self.name not in text:
+            return False
+        variant = re.search(rf"(?<![\w.]){self.name}(?![\w.])|\b{self.enum}\.{self.name}\b", text)
+        return self.is_in(text) or (variant is not None and re.search(rf"\b{self.enum}\b", text) is not None)
 
 
 @dataclass(frozen=True)
@@ -75,16 +87,24 @@ class Fields:
             re.search(rf"(?m)(?:^|[{{;,(]) *(?:pub )?{name}(?: =|: |,$)", text) for name in self.names
         )
 
+    def may_be_in(self, text: str) -> bool:
+        """Whether a file of this text gives values to all of them."""
+        return self.is_in(text)
+
 
 Name = Word | Variant | Fields
 
 
 @dataclass(frozen=True)
 class Recipe:
-    """One kind of part: the existing one that it is counted by, and the names that lead to its places in all crates."""
+    """One kind of part: the existing one that it is counted by, and the names that lead to its places in all crates.
+
+    Of a brief one the page has only the count.
+    """
 
     example: str
     names: tuple[Name, ...]
+    is_brief: bool = False
 
 
 def words(*names: str) -> tuple[Name, ...]:
@@ -92,6 +112,7 @@ def words(*names: str) -> tuple[Name, ...]:
     return tuple(Word(name) for name in names)
 
 
+WIDTH = (Variant("Width", "Eight"), *words("is_version", "most_samples", "width_for", "bytes_for"))
 RECIPES: Mapping[str, Recipe] = {
     "an event": Recipe(
         "the event of the pilot sets",
@@ -117,8 +138,14 @@ RECIPES: Mapping[str, Recipe] = {
             *words("SURVEY_OPTIONS", "survey_entry", "survey_text"),
         ),
     ),
+    "a version of the sample file": Recipe("the width of 8 bits", WIDTH),
+    "floating-point samples": Recipe("the width of 8 bits", (*WIDTH, Word("sample_spelling")), is_brief=True),
     "a rate": Recipe("1,200 bits a second", (Variant("Rate", "R1200"),)),
     "a rate of rate set 2": Recipe("1,800 bits a second", (Variant("Rate2", "R1800"),)),
+    "signaling on rate set 2": Recipe(
+        "the signaling of rate set 1",
+        words("Mux", "split_frame", "split_9600", "signal_of", "signal_in", "hear_signal"),
+    ),
     "a followed channel": Recipe(
         "the traffic channel",
         (
@@ -151,6 +178,21 @@ def touched(recipe: Recipe, files: Mapping[str, str]) -> list[str]:
     return sorted(path for path, text in files.items() if any(name.is_in(text) for name in recipe.names))
 
 
+def without_comments(text: str) -> str:
+    """The text of a file without the lines of its comments."""
+    return re.sub(r"(?m)^\s*(?://|--( |$)).*$", "", text)
+
+
+def unlisted(recipe: Recipe, files: Mapping[str, str]) -> list[str]:
+    """The files that a recipe's list lacks but that may name the part: one of its names stands in their code."""
+
+    def may_name(text: str) -> bool:
+        return any(name.may_be_in(text) for name in recipe.names)
+
+    rest = [path for path in sorted(set(files) - set(touched(recipe, files))) if may_name(files[path])]
+    return [path for path in rest if may_name(without_comments(files[path]))]
+
+
 def shown(path: str) -> str:
     """A file within its crate as the page has it: those of definitions and proofs without their ending."""
     return path.partition("/")[2].removesuffix(".antt")
@@ -165,8 +207,8 @@ def listed(recipe: Recipe, files: Mapping[str, str]) -> str:
     more = f"{passing} more that only {'re-exports' if passing == 1 else 're-export'} names"
     within = f"{len(crates)} crate{'' if len(crates) == 1 else 's'}"
     counts = f"{len(paths) - passing} files of {within}, and {more}"
-    lines = [f"Counted by {recipe.example} ({names}): {counts}:"]
-    for crate in crates:
+    lines = [f"Counted by {recipe.example} ({names}): {counts}{'.' if recipe.is_brief else ':'}"]
+    for crate in () if recipe.is_brief else crates:
         own = ", ".join(f"`{shown(path)}`" for path in paths if path.split("/")[0] == crate)
         lines.append(f"- `{crate}`: {own}")
     return "".join(f"{line}\n" for line in lines)

@@ -16,6 +16,7 @@ from cdma_tools.repository.recipes import (
     files_of_crates,
     listed,
     touched,
+    unlisted,
     with_lists,
 )
 from tools.tests.helping import ROOT
@@ -30,6 +31,10 @@ FILES = {
     "tap/specs/Lines.antt": "event_line (Found at') = lost_line_too at'\n",
     "tap/src/line.rt": "    text_of(lost_line, at)\n",
 }
+# Files that have both names of a variant, each for something else.
+OTHERS = {
+    "an event": ["heard_events/src/sets_notes.rt"],  # the struct `Sets` of pilot_sets
+}
 LOST = Recipe("a lost pilot", (Variant("Event", "Lost"), Word("lost_line")))
 LISTED = """\
 Counted by a lost pilot (`Event::Lost`, `lost_line`): 5 files of 2 crates, and 1 more that only re-exports names:
@@ -43,7 +48,8 @@ class Names(unittest.TestCase):
 
     def test_a_name_is_whole(self) -> None:
         self.assertTrue(Word("lost_line").is_in("a.lost_line (x)"))
-        self.assertFalse(Word("lost_line").is_in("lost_line-more lost_lines a_lost_line"))
+        self.assertTrue(Word("lost_line").is_in("lost_line-requires"))
+        self.assertFalse(Word("lost_line").is_in("more-lost_line lost_lines a_lost_line"))
         self.assertTrue(Word("t.traffic").is_in("(t.traffic)"))
         self.assertFalse(Word("t.traffic").is_in("other_t.traffic t_traffic"))
 
@@ -64,6 +70,23 @@ class Lists(unittest.TestCase):
     def test_no_crate_is_left_out(self) -> None:
         found = touched(Recipe(LOST.example, (Word("lost_line"),)), {**FILES, "other/src/line.rt": "lost_line"})
         self.assertEqual(found, ["other/src/line.rt", "tap/src/line.rt"])
+
+    def test_a_goal_of_a_variant_names_it(self) -> None:
+        found = touched(LOST, {**FILES, "tap/proofs/line/Answers.antt": "returns-in-Lost : goal.returns-in-Lost"})
+        self.assertIn("tap/proofs/line/Answers.antt", found)
+
+    def test_what_may_name_the_part_is_found(self) -> None:
+        more = {
+            "tap/proofs/line/Answers.antt": "no-lost_line c =\n",
+            "tap/specs/Kinds.antt": "use heard.Event.{Event}\nis_lost Lost = true\n",
+            "tap/specs/Notes.antt": "-- Event, Lost and lost_line\nuse heard.Event.Lost.{at}\n",
+        }
+        found = unlisted(LOST, {**FILES, **more})
+        self.assertEqual(found, ["tap/proofs/line/Answers.antt", "tap/specs/Kinds.antt"])
+
+    def test_a_brief_recipe_has_only_its_count(self) -> None:
+        found = listed(Recipe(LOST.example, LOST.names, is_brief=True), FILES)
+        self.assertEqual(found, LISTED.partition("\n")[0].removesuffix(":") + ".\n")
 
     def test_a_name_that_no_file_has_is_an_error(self) -> None:
         with self.assertRaisesRegex(NoRecipe, "^no file names Event::Gone, by which the event is found$"):
@@ -94,6 +117,11 @@ class Page(unittest.TestCase):
         self.assertEqual(self.text, with_lists(self.text, self.files))
         for recipe in RECIPES.values():
             self.assertIn(listed(recipe, self.files), self.text)
+
+    def test_no_list_lacks_a_file_that_names_its_part(self) -> None:
+        for kind, recipe in RECIPES.items():
+            with self.subTest(kind):
+                self.assertEqual(unlisted(recipe, self.files), OTHERS.get(kind, []))
 
     def test_a_file_more_changes_its_list(self) -> None:
         more = {**self.files, "event_tap/src/more.rt": "Event::Sets"}
