@@ -13,7 +13,8 @@ Empty lines, comments and the edits of must-fail/ aren't counted.
     tools/house
     tools/house --write docs/pictures/house.svg
 
-Without --write the numbers are printed as a table. A test compares docs/pictures/house.svg with the tree.
+Without --write the numbers are printed as a table, with all lines of each crate, empty ones and comments too, and its
+budget of them. A test compares docs/pictures/house.svg with the tree, another one the lines with the budget.
 
 Exit status: 0, 1 if crates.txt or a file can't be read or written, 2 for wrong arguments.
 """
@@ -28,6 +29,7 @@ from cdma_tools.overwriting import OutputFile
 from cdma_tools.places import TOP
 from cdma_tools.repository.crate_list import NoList, crates_below
 from cdma_tools.repository.house import KINDS, Lines, house, lines_of
+from cdma_tools.repository.line_budget import NoBudget, counted, kept_budget
 from cdma_tools.writing import write_beside
 
 
@@ -38,12 +40,14 @@ def parser() -> Parser:
     return words
 
 
-def table(lines: dict[str, Lines]) -> str:
+def table(lines: dict[str, Lines], counts: dict[str, int], budget: dict[str, int]) -> str:
     """The numbers, a crate a line, and their sums."""
     total = Lines()
     for one in lines.values():
         total = total.plus(one)
-    rows = [("crate", *KINDS), *((name, *map(str, one)) for name, one in lines.items()), ("all", *map(str, total))]
+    rows: list[tuple[str, ...]] = [("crate", *KINDS, "lines", "budget")]
+    rows += [(name, *map(str, one), str(counts[name]), str(budget[name])) for name, one in lines.items()]
+    rows += [("all", *map(str, total), str(sum(counts.values())), str(sum(budget.values())))]
     return "".join(f"{row[0]:<20}" + "".join(f"{cell:>12}" for cell in row[1:]) + "\n" for row in rows)
 
 
@@ -53,8 +57,8 @@ def main(arguments: list[str] | None = None) -> int:
     try:
         below = crates_below(TOP)
         lines = {name: lines_of(os.path.join(TOP, "crates", name)) for name in below}
-        drawn = house(below, lines) if options.write else table(lines)
-    except NoList as why:
+        drawn = house(below, lines) if options.write else table(lines, counted(TOP), kept_budget(below))
+    except (NoBudget, NoList) as why:
         raise Refused(str(why)) from None
     if not options.write:
         print(drawn, end="")

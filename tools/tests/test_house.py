@@ -6,7 +6,7 @@ import unittest
 import xml.etree.ElementTree
 
 from cdma_tools.repository.crate_list import crates_below
-from cdma_tools.repository.house import Lines, code_and_contracts, house, lines_of, rooms
+from cdma_tools.repository.house import KINDS, Lines, code_and_contracts, house, lines_of, rooms
 from tools.tests.helping import ROOT, run_inside, run_tool, temporary_folder
 
 KEPT = os.path.join(ROOT, "docs", "pictures", "house.svg")
@@ -93,6 +93,7 @@ class Tool(unittest.TestCase):
         status, wrote, said = run_tool("house")
         names = [line.split()[0] for line in wrote.decode().splitlines()]
         self.assertEqual((status, said, names), (0, "", ["crate", *crates_below(ROOT), "all"]))
+        self.assertEqual(wrote.decode().split("\n")[0].split(), ["crate", *KINDS, "lines", "budget"])
 
     def test_what_is_refused(self) -> None:
         self.assertEqual(run_inside("house", "more")[0], 2)
