@@ -24,8 +24,7 @@ IsOneFrame =
     own_bits c 1 0 softs ≡ (best_codeword (channel_frame_score c softs) Free c.bits).bits
 
 -- ---- sent frames of traffic channels, whatever their rate set
--- a frame's codeword: its information, its quality indicator and eight tail bits, after eight
--- zeros
+-- a frame's codeword: its information, its quality indicator and eight tail bits, after eight zeros
 abbrev pub sent_codeword : {R : Type 0} → FrameFormat R → List Bool → Codeword
 sent_codeword format information = record {
   start = replicate 8 false;

@@ -8,8 +8,9 @@ use Rattle.paging_message.proofs.Common.{list_any-append, div-mul-add, mod-mul-a
 use Rattle.paging_message.proofs.Common.{flat_map-zero, or-false, bits_left, flat_map_ext_places, flat_map-places-more}
 use Rattle.paging_message.specs.Laying as laying
 
--- HALF-FRAMES A half-frame that lies in the first bits is the same whatever follows them: it ends
--- among the first n, so its bits are cut only out of these, and its SCI bit must be the same.
+-- HALF-FRAMES
+-- A half-frame that lies in the first bits is the same whatever follows them: it ends among the
+-- first n, so its bits are cut only out of these, and its SCI bit must be the same.
 pub half_front : (size n h : ℕ) (starts starts' : List ℕ) (front more : List Bool) →
     length front ≡ size * n → h < n →
     list_any (λ s. s == h) starts' ≡ list_any (λ s. s == h) starts →

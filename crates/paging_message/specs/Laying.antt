@@ -5,8 +5,7 @@ use Rattle.std.specs.Prelude.{true, false, List, [], ◌∷◌, ◌++◌, length
 use Rattle.std.specs.List.{flat_map, list_any}
 use Rattle.paging_message.specs.HalfFrames.{bits_left}
 
--- the body bits of half-frames, and the half-frames in which a capsule begins after an SCI bit of
--- 1
+-- the body bits of half-frames, and the half-frames in which a capsule begins after an SCI bit of 1
 pub record Laid : Type 0 where
   pub body : List Bool
   pub starts : List ℕ
