@@ -1,8 +1,8 @@
 -- A handset hears what a clean link's cell sends, channel by channel and frame by frame.
 use Rattle.clean_link.proofs.Common.{FollowedHaveSigns, HasSyncSigns, ◌≡◌, ℕ, ◌+◌, ◌-◌, ◌*◌, ◌≤◌, true, false, Bool, List, [], ◌∷◌, length}
-use Rattle.clean_link.proofs.Common.{map, refl, sym, ap, ◌∙◌, arith, subst, Option, None, Some, filter, if◌then◌else◌, All, Contains, Width}
-use Rattle.clean_link.proofs.Common.{flat_map, All-contains, All-map, places, Sample, IsFreeOf, made_samples, frames_of, cycled_frame, mark}
-use Rattle.clean_link.proofs.Common.{CellPlan, PagingPlan, TrafficPlan, SetOneFrame, events, events_at, frame_events_at, heard_within, Leg}
+use Rattle.clean_link.proofs.Common.{map, refl, sym, ap, ◌∙◌, arith, subst, Option, None, Some, filter, All, Contains, Width, flat_map}
+use Rattle.clean_link.proofs.Common.{All-contains, All-map, places, Sample, IsFreeOf, made_samples, frames_of, cycled_frame, mark, CellPlan}
+use Rattle.clean_link.proofs.Common.{PagingPlan, TrafficPlan, SetOneFrame, events, events_at, frame_events_at, heard_within, Leg}
 use Rattle.clean_link.proofs.Common.{message_events_at, paging_events_at, frames_at, messages_at, is_in_file, sync_events_at, power_bits_at}
 use Rattle.clean_link.proofs.Common.{decoded_at, frame_event, frame_heard, Tuning, Event, Pilot, Mark, Traffic, IsNotDirected, IsOnPath}
 use Rattle.clean_link.proofs.Common.{is_frame, is_message, is_page, is_sync, AreFramesAfter, AreMessagesAfter, EachChannelComesBack, ◌++◌}
@@ -145,12 +145,6 @@ free_where_sent traffic paging number free sent =
     All-contains (IsFreeOf traffic) (map (λ (q : PagingPlan). q.number) paging) number
     (All-map (IsFreeOf traffic) (λ (q : PagingPlan). q.number) paging free) sent
 
--- an event of another kind is left out
-filter_apart : (test : Event → Bool) (event : Event) (es : List Event) → test event ≡ false →
-    filter test (event ∷ es) ≡ filter test es
-filter_apart test event es apart =
-    ap (λ (b : Bool). if b then event ∷ filter test es else filter test es) apart
-
 -- the events of one kind are those of all numbers of samples, where the pilot's isn't of it
 gathered : (plan : CellPlan) (t : Tuning) (samples : List Sample) →
     length samples ≡ plan.link.samples → (test : Event → Bool) (g : ℕ → List Event) →
@@ -160,8 +154,9 @@ gathered : (plan : CellPlan) (t : Tuning) (samples : List Sample) →
     filter test (events t samples) ≡ flat_map g (places (plan.link.samples + 1))
 unfolding heard_within
 gathered plan t samples long test g apart left =
-    filter_apart test (Pilot t.phase t.energy)
-    (flat_map (events_at t samples) (places (length samples + 1))) apart
+    let first : filter test (events t samples)
+    ≡ filter test (flat_map (events_at t samples) (places (length samples + 1))) = rw apart refl in
+    first
     ∙ ap (λ (n : ℕ). filter test (flat_map (events_at t samples) (places (n + 1)))) long
     ∙ left
 
@@ -276,13 +271,7 @@ module _ {width : Width} {plan : CellPlan} {t : Tuning} (samples : List Sample)
       (none_followed t samples (λ n traffic m. messages_at t traffic m samples n) _ chosen) (All-nil IsNotDirected)
   messages_none (Some traffic) chosen (p, follows) none =
       each_after samples is.receivable tuned (mark_told (shows_sync is) tuned (mark t samples t.count) refl)
-      (record {
-        traffic = traffic;
-        follows = chosen;
-        sent = follows.sent;
-        assigned = follows.assigned;
-        one = follows.one;
-      })
+      (record { traffic = traffic; follows = chosen; sent = follows.sent; assigned = follows.assigned; one = follows.one })
       (λ at es. All IsNotDirected es) (λ n traffic m. messages_at t traffic m samples n)
       (messages_from_mark t (one_near t plan tuned) t.traffic samples)
       (λ es gone. All-same IsNotDirected es [] gone (All-nil IsNotDirected))
@@ -298,16 +287,10 @@ module _ {width : Width} {plan : CellPlan} {t : Tuning} (samples : List Sample)
 
   module _ (follows : FollowsSent plan t.traffic)
       (none : All IsNotDirected (signaling_sent plan t.traffic)) where
-    messages_undirected : (n : ℕ) → n ≤ plan.link.samples →
-        All IsNotDirected (message_events_at t samples n)
-    unfolding places
-    messages_undirected n most =
-        each_of_all IsNotDirected (message_events_at t samples) 0 (plan.link.samples + 1) n (omega arith)
-        (omega (arith, most)) (messages_none t.traffic refl follows none)
-
     -- No event of any number of samples directs a handoff: only a message of the traffic channel
     -- can, the other four kinds of events never do, and of the messages it is given.
     all_undirected : (n : ℕ) → n ≤ plan.link.samples → All IsNotDirected (events_at t samples n)
+    unfolding places
     all_undirected n most =
         let sync = sync_events_at t samples n in
         let paging = paging_events_at t samples n in
@@ -321,7 +304,9 @@ module _ {width : Width} {plan : CellPlan} {t : Tuning} (samples : List Sample)
         (none_of_kind 2 paging (omega arith) (paging_kind t samples n))
         (All-append IsNotDirected frames (messages ++ sets)
         (none_of_kind 3 frames (omega arith) (frame_kind t samples n))
-        (All-append IsNotDirected messages sets (messages_undirected n most)
+        (All-append IsNotDirected messages sets (each_of_all IsNotDirected
+        (message_events_at t samples) 0 (plan.link.samples + 1) n (omega arith) (omega (arith, most))
+        (messages_none t.traffic refl follows none))
         (none_of_kind 5 sets (omega arith) (sets_kind t samples n))))))
 
 -- so no event does

@@ -125,20 +125,18 @@ sets_kind t samples n =
 abbrev Passes : (Event → Bool) → ℕ → Bool → Type 0
 Passes test kind pass = (e : Event) → kind_of e ≡ kind → test e ≡ pass
 
-kept : (test : Event → Bool) (kind : ℕ) (es : List Event) → Passes test kind true →
-    All (IsKind kind) es → filter test es ≡ es
-kept test kind [] pass are = refl
-kept test kind (e ∷ es) pass are =
-    let here = pass e (All-head (IsKind kind) e es are) in
-    let rest = kept test kind es pass (All-tail (IsKind kind) e es are) in
+-- what it leaves of events of one kind: all of them, or none
+left_of : (test : Event → Bool) (kind : ℕ) (pass : Bool) (es : List Event) →
+    Passes test kind pass → All (IsKind kind) es → filter test es ≡ (if pass then es else [])
+left_of test kind true [] passes are = refl
+left_of test kind pass [] passes are = refl
+left_of test kind true (e ∷ es) passes are =
+    let here = passes e (All-head (IsKind kind) e es are) in
+    let rest = left_of test kind true es passes (All-tail (IsKind kind) e es are) in
     rw (here, rest) refl
-
-dropped : (test : Event → Bool) (kind : ℕ) (es : List Event) → Passes test kind false →
-    All (IsKind kind) es → filter test es ≡ []
-dropped test kind [] pass are = refl
-dropped test kind (e ∷ es) pass are =
-    let here = pass e (All-head (IsKind kind) e es are) in
-    let rest = dropped test kind es pass (All-tail (IsKind kind) e es are) in
+left_of test kind pass (e ∷ es) passes are =
+    let here = passes e (All-head (IsKind kind) e es are) in
+    let rest = left_of test kind pass es passes (All-tail (IsKind kind) e es are) in
     rw (here, rest) refl
 
 -- each of the four kinds of event passes its own test alone
@@ -158,13 +156,7 @@ message_passes : (e : Event) → is_message e ≡ nat_eq (kind_of e) 4
 message_passes (Pilot phase energy) = refl
 message_passes e = refl
 
--- what it leaves of events of one kind: all of them, or none
-left_of : (test : Event → Bool) (kind : ℕ) (pass : Bool) (es : List Event) →
-    Passes test kind pass → All (IsKind kind) es → filter test es ≡ (if pass then es else [])
-left_of test kind true es = kept test kind es
-left_of test kind false es = dropped test kind es
-
--- and of five lists
+-- what it leaves of five lists
 left_of_five : (test : Event → Bool) (a b c d e a' b' c' d' e' : List Event) →
     filter test a ≡ a' → filter test b ≡ b' → filter test c ≡ c' → filter test d ≡ d' →
     filter test e ≡ e' →

@@ -2,19 +2,19 @@
 -- channel of a clean link's cell, with the events of its pilot sets, in the order in which they are
 -- known, and nothing else.
 use Rattle.clean_link.proofs.Common.{◌≡◌, ℕ, ◌+◌, Bool, true, false, List, [], ◌∷◌, ◌++◌, length, map, refl, sym, ap, ◌∙◌, arith, inl, inr}
-use Rattle.clean_link.proofs.Common.{nat_lt, Option, None, Some, ℤ, pos, if◌then◌else◌, flat_map, cases_Bool, ltb-true, map-append, places}
-use Rattle.clean_link.proofs.Common.{CheckForm, Sample, Width, made_samples, phase_at, CellPlan, SyncPlan, events, events_at, heard_within}
+use Rattle.clean_link.proofs.Common.{nat_lt, Option, None, Some, ℤ, pos, if◌then◌else◌, flat_map, cases_Bool, ltb-true, places, CheckForm}
+use Rattle.clean_link.proofs.Common.{Sample, Width, made_samples, phase_at, CellPlan, SyncPlan, events, events_at, heard_within}
 use Rattle.clean_link.proofs.Common.{frame_events_at, message_events_at, paging_events_at, sets_events_at, mark, page_event, pages_at, Mark}
 use Rattle.clean_link.proofs.Common.{pages_if_marked, sync_events_at, Tuning, Event, Pilot, AreAt, IsAt, all_at, by_one_mark, IsOnPath, ◌<◌}
-use Rattle.clean_link.proofs.Common.{pages_from_mark, flat_map_ext_places, IsTunedToPlan, sync_sent, tuning_to, IsReceivable, ReadPage, suc}
+use Rattle.clean_link.proofs.Common.{pages_from_mark, flat_map_ext_places, IsTunedToPlan, sync_sent, tuning_to, IsReceivable, suc}
 use Rattle.clean_link.proofs.Common.{known_page, pages_sent, pages_within, WholeMessagesComeBack, known_event, paging_sent, FromMark, subst}
 use Rattle.clean_link.proofs.Common.{pages_after_mark, AllComesBackBySigns, IsCellMark, MarkIsAt, PagingFrameHasSigns, pages_after, sets_at}
 use Rattle.clean_link.proofs.Common.{sent_events, by_places, sets_heard, signaling_sent, frames_at, messages_at, traffic_sent, Contains}
 use Rattle.clean_link.proofs.Common.{PagingPlan, zero, ◌≤◌, filter, range_with_len, cases_order, eq-eqb, ne_eqb, append-nil, filter-append}
-use Rattle.clean_link.proofs.Common.{at_of, All-head, All-tail, is_at, length-made}
+use Rattle.clean_link.proofs.Common.{at_of, All-head, All-tail, is_at, length-made, map-map}
 use Rattle.clean_link.proofs.traffic.Steady.{events_at_all, right_all, left_all}
 use Rattle.clean_link.proofs.frames.ChannelFrames.{clean_sync, shows_sync}
-use Rattle.clean_link.proofs.pages.Back.{pages_back, sent_of_number, signed_pages}
+use Rattle.clean_link.proofs.pages.Back.{pages_back, sent_of_number, signed_pages, map-flat_map}
 use Rattle.clean_link.proofs.sendings.Heard.{none_known, sendings_in}
 use Rattle.clean_link.proofs.traffic.Back.{frames_all, mark_told, messages_all, none_followed, one_near}
 
@@ -75,26 +75,6 @@ gathered_by_places f g count one other each one_is other_is =
     rw (first, second) refl))
 
 -- ---- the paging channel
-map_known : (n : ℕ) (pages : List ReadPage) →
-    map (page_event n) pages ≡ map known_event (map (known_page n) pages)
-map_known n [] = refl
-map_known n (page ∷ pages) =
-    ap (λ (es : List Event). page_event n page ∷ es) (map_known n pages)
-
-gathered_known : (f : ℕ → List ReadPage) (ks : List ℕ) →
-    flat_map (λ n. map (page_event n) (f n)) ks
-    ≡ map known_event (flat_map (λ n. map (known_page n) (f n)) ks)
-gathered_known f [] = refl
-gathered_known f (k ∷ ks) =
-    let here = map_known k (f k) in
-    let rest = gathered_known f ks in
-    rw (map-append, here, rest) refl
-
-none_gathered : (ks : List ℕ) →
-    flat_map (λ (n : ℕ). map (known_page n) (let none : List ReadPage = [] in none)) ks ≡ []
-none_gathered [] = refl
-none_gathered (k ∷ ks) = none_gathered ks
-
 -- no channel is heard with this PRAT
 unrated : (t : Tuning) (channel : ℕ) (m : Mark) (samples : List Sample) (n : ℕ) →
     nat_lt m.prat 2 ≡ false → pages_within t channel (Some m) samples n ≡ []
@@ -102,7 +82,7 @@ unrated t channel m samples n off =
     ap (λ (b : Bool). flat_map
     (λ i. map (known_page i) (if b then pages_at t channel m samples i else [])) (places (n + 1)))
     off
-    ∙ none_gathered (places (n + 1))
+    ∙ none_known (places (n + 1))
 
 -- what is sent after a mark, and where none is set
 after_is : (plan : CellPlan) (channel : ℕ) (sync : SyncPlan) (at : Option ℕ) (superframes : ℕ)
@@ -146,20 +126,22 @@ module _ {plan : CellPlan} {t : Tuning} (samples : List Sample) {at : Option ℕ
       let count = tuned.count in
       flat_map_ext_places
       (λ n. map (page_event n) (pages_if_marked t t.paging (mark t samples n) samples n))
-      (λ n. map (page_event n) (pages_if_marked t t.paging last samples n)) (plan.link.samples + 1)
+      (λ n. map known_event (map (known_page n) (pages_if_marked t t.paging last samples n)))
+      (plan.link.samples + 1)
       (λ n below.
       ap (map (page_event n))
       (by_one_mark t (one_near t plan tuned) samples n t.count n _
       (omega (arith, below, count)) (omega arith)
-      (pages_from_mark t (one_near t plan tuned) t.paging samples n)))
-      ∙ gathered_known (λ n. pages_if_marked t t.paging last samples n)
-      (places (plan.link.samples + 1))
+      (pages_from_mark t (one_near t plan tuned) t.paging samples n))
+      ∙ sym (map-map known_event (known_page n) (pages_if_marked t t.paging last samples n)))
+      ∙ sym (map-flat_map known_event (λ n. map (known_page n) (pages_if_marked t t.paging last samples n))
+      (places (plan.link.samples + 1)))
 
   pages_by : (last : Option Mark) → MarkIsAt plan last at →
       map known_event (pages_within t t.paging last samples plan.link.samples)
       ≡ pages_after plan t.paging at plan.sync
   pages_by None none =
-      ap (map known_event) (none_gathered (places (plan.link.samples + 1)))
+      ap (map known_event) (none_known (places (plan.link.samples + 1)))
       ∙ sym (none_after plan t.paging at plan.sync none)
   pages_by (Some m) (superframes, told, cell) =
       let rated : nat_lt cell.sync.message.prat 2 ≡ nat_lt m.prat 2 =

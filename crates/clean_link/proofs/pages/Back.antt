@@ -24,7 +24,7 @@ use Rattle.heard_events.specs.PagingStreams as streams
 
 -- ---- lists of lists
 
-map-flat_map : {A B C : Type 0} (h : B → C) (f : A → List B) (xs : List A) →
+pub map-flat_map : {A B C : Type 0} (h : B → C) (f : A → List B) (xs : List A) →
     map h (flat_map f xs) ≡ flat_map (λ x. map h (f x)) xs
 map-flat_map h f [] = refl
 map-flat_map {A} {B} {C} h f (x ∷ xs) =

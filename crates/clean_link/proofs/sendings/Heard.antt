@@ -21,12 +21,6 @@ use Rattle.heard_events.specs.declared.event.Event.TheVariants.{Sync}
 
 -- ---- the pieces
 
--- an earlier frame lies in the file too
-pub earlier_there : (t : Tuning) (j k : ℕ) → t.deltas ≡ one_path → j ≤ k → in_file t k ≡ true →
-    in_file t j ≡ true
-earlier_there t j k alone le there =
-    in_file_from t j alone (omega (arith, in_file_to t k alone there, le))
-
 -- the pieces up to a frame in the file, where the bits of those frames are known
 pieces_from : (t : Tuning) (samples : List Sample) (bits : ℕ → List Bool) (k : ℕ) →
     t.deltas ≡ one_path → in_file t k ≡ true →
@@ -38,7 +32,7 @@ pieces_from t samples bits k alone there back =
     (k + 1) (λ j lt here. back j here)
     ∙ ap (map bits)
     (filter_all_places (in_file t) (k + 1)
-    (λ j lt. earlier_there t j k alone (omega (arith, lt)) there)))
+    (λ j lt. in_file_from t j alone (omega (arith, in_file_to t k alone there, lt)))))
     ∙ map-map piece bits (places (k + 1))
     ∙ run-places (λ j. piece (bits j)) (k + 1)
     ∙ ap (run (λ j. piece (bits j)) 0) (let e : k + 1 ≡ suc k = omega arith in e)

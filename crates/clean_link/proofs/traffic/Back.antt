@@ -182,13 +182,7 @@ module _ (width : Width) (plan : CellPlan) (t : Tuning) (is : IsReceivable width
       none_followed t samples (λ n traffic m. heard t traffic m samples n) (places (plan.link.samples + 1)) none
   followed_back heard told opens back (Some traffic) chosen (p, follows) =
       each_after samples is tuned (mark_told (clean_sync width plan is) tuned (mark t samples t.count) refl)
-      (record {
-        traffic = traffic;
-        follows = chosen;
-        sent = follows.sent;
-        assigned = follows.assigned;
-        one = follows.one;
-      })
+      (record { traffic = traffic; follows = chosen; sent = follows.sent; assigned = follows.assigned; one = follows.one })
       (λ at es. es ≡ told_followed (told_after plan (told plan)) (Some traffic) at)
       (λ n traffic m. heard t traffic m samples n) opens (λ es none. none)
       (λ m superframes set at hears.

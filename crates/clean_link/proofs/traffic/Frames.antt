@@ -277,27 +277,20 @@ module _ {width : Width} {plan : CellPlan} {p : TrafficPlan} {t : Tuning} {traff
           decoded.same (shows.power_bits legs k f heard))
           ∙ sym (ap (map (sent_frame_event ends)) frame)
 
-      -- the frames that end at a number of samples
-      frames_each : (n : ℕ) → frames_by t traffic m legs samples n
-          ≡ flat_map (λ k. frame_heard t traffic m legs samples n k ∷ [])
-          (known_now t.count stream n (frames_bound n))
-      unfolding frames_by
-      frames_each n =
-          one_each (frame_heard t traffic m legs samples n) (frames_now t traffic m legs n)
-          ∙ ap (flat_map (λ k. frame_heard t traffic m legs samples n k ∷ []))
-          (one_now t traffic m legs one n)
-
       module _ (undirected : IsUndirected t traffic m samples plan.link.samples) where
         -- what is heard at a number of samples
         heard_at_once : (n : ℕ) → n < t.count + 1 → frames_at t traffic m samples n
             ≡ flat_map (λ k. frame_heard t traffic m legs samples n k ∷ [])
             (known_now t.count stream n (frames_bound n))
+        unfolding frames_by
         heard_at_once n below =
             let count = is.tuned.count in
             frames_of_one t traffic m legs samples one n (omega (arith, below, count, long))
             (λ k. one_pilot_heard t traffic m samples n k
             (λ i most. undirected i (omega (arith, most, below, count))))
-            ∙ frames_each n
+            ∙ one_each (frame_heard t traffic m legs samples n) (frames_now t traffic m legs n)
+            ∙ ap (flat_map (λ k. frame_heard t traffic m legs samples n k ∷ []))
+            (one_now t traffic m legs one n)
 
         -- so one event is heard for each received frame
         pub each_heard : flat_map (frames_at t traffic m samples) (places (plan.link.samples + 1)) ≡

@@ -260,13 +260,8 @@ module _ {width : Width} {plan : CellPlan} {p : TrafficPlan} {t : Tuning} {traff
       AreReceivedFrom plan p at Is (soft_frames t (traffic_channel traffic) m samples)
   after_mark Is each =
       let (superframes, told, cell) = set in
-      let hears : HearsSentTraffic width plan p t traffic m superframes = record {
-        receivable = receivable;
-        sent = sent;
-        assigned = assigned;
-        tuned = tuned;
-        marked = cell.marked;
-      } in
+      let hears : HearsSentTraffic width plan p t traffic m superframes =
+      record { receivable = receivable; sent = sent; assigned = assigned; tuned = tuned; marked = cell.marked } in
       let soft : ℕ → SoftFrame = λ frame.
       soft_frame t (traffic_channel traffic) m samples (frame - 4 * superframes) in
       let chip = cell.marked.place in
