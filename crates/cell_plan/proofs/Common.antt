@@ -1,15 +1,16 @@
 -- What the proofs of this crate cite of what lies below, and of its own definitions.
 pub use Rattle.std.proofs.Common.{FitsSigned, None, Option, Some, add-one, of_z, pos, to_z, unsigned_abs, ℤ, ◌*ℤ◌, ◌+ℤ◌}
-pub use Rattle.std.proofs.Math.Nat.{div-add-mod, mod-lt, mod_self, mul-le-mul, mul-le-mul_left}
+pub use Rattle.std.proofs.Math.Nat.{mod-eq_of_lt, mod-lt, mod_self, mul-le-mul, mul-le-mul_left}
 pub use Rattle.std.proofs.Math.Seq.{drop-append-add}
 pub use Rattle.std.proofs.lemmas.Int.{fits_signed_from_abs, ints, to_z-of_z, unsigned_abs-mul}
 pub use Rattle.std.proofs.lemmas.List.{at_drop_more, get_or-drop, get_or-map, get_or-replicate, get_or-take, length-map, take_more}
 pub use Rattle.std.proofs.lemmas.List.Elements.{All-cons, All-nil}
+pub use Rattle.std.proofs.lemmas.Option.{same_Some}
 pub use Rattle.std.specs.Bool.{beq}
 pub use Rattle.std.specs.Int.{w16, w64, w8}
 pub use Rattle.std.specs.Option.{option_map_or}
 pub use Rattle.std.specs.Prelude.{All, MatchOption, not, option_and_then, option_map, option_to_list}
-pub use Rattle.cdma_io.proofs.Common.{Bool, HasBits, List, [], ap, append-nil, arith, drop, false, flat_map, get_or, inl, inr, length, refl}
+pub use Rattle.cdma_io.proofs.Common.{Bool, HasBits, List, [], ap, append-nil, arith, drop, false, flat_map, get_or, length, refl}
 pub use Rattle.cdma_io.proofs.Common.{integer_width_of, length-append, length-drop, length-take-le, subst, suc, sym, take, true, zero, ℕ}
 pub use Rattle.cdma_io.proofs.Common.{◌%◌, ◌*◌, ◌++◌, ◌+◌, ◌-◌, ◌/◌, ◌<◌, ◌^◌, ◌∙◌, ◌∷◌, ◌≡◌, ◌≤◌}
 pub use Rattle.chip_core.proofs.BitLists.{taken_more, zip_push}
@@ -22,7 +23,7 @@ pub use Rattle.chip_core.specs.Complex.{of_sample, origin, plus, times}
 pub use Rattle.chip_core.specs.declared.sample.Sample.{Sample}
 pub use Rattle.conv_code.specs.ConvCode.{code_symbols, state_after}
 pub use Rattle.paging_message.proofs.Carried.{laid_is_carried, rate_large}
-pub use Rattle.paging_message.proofs.Common.{HasMessage, div-mul-add, flat_map-places-more, flat_map-zero, le-ltb, length-binary, replicate}
+pub use Rattle.paging_message.proofs.Common.{HasMessage, flat_map-places-more, flat_map-zero, le-ltb, length-binary, replicate}
 pub use Rattle.paging_message.proofs.Common.{length-replicate, map-append, take_all, ◌==◌}
 pub use Rattle.paging_message.proofs.Layings.{padded_framed}
 pub use Rattle.quality_bits.proofs.Wholes.{length-capsule, whole-capsule}

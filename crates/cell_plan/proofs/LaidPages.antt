@@ -1,10 +1,11 @@
 -- The half-frames that pages lay.
-use Rattle.cell_plan.proofs.Common.{◌≡◌, ℕ, zero, suc, ◌+◌, ◌-◌, ◌*◌, ◌/◌, ◌%◌, ◌<◌, ◌≤◌, Bool, true, false, List, [], ◌∷◌, ◌++◌, length}
-use Rattle.cell_plan.proofs.Common.{take, drop, map, get_or, replicate, refl, sym, ap, ◌∙◌, arith, length-append, length-drop, inl, inr}
-use Rattle.cell_plan.proofs.Common.{subst, flat_map, cases_lt, at_drop_more, length-replicate, length-take-le, map-append, take_all, mod-lt}
-use Rattle.cell_plan.proofs.Common.{take_more, div-mul-add, mod-mul-add, div-add-mod, mod_self, places, CheckForm, capsule, M30, Rate, Page}
-use Rattle.cell_plan.proofs.Common.{length-capsule, half_frame_body, flat_map-places-more, flat_map-zero, padded_framed}
-use Rattle.quality_bits.specs.declared.rate.Rate.TheVariants as rates
+use Rattle.cell_plan.proofs.Common.{◌≡◌, ℕ, zero, suc, ◌+◌, ◌-◌, ◌*◌, ◌%◌, ◌<◌, ◌≤◌, Bool, true, false, List, [], ◌∷◌, ◌++◌, length, take}
+use Rattle.cell_plan.proofs.Common.{drop, map, get_or, replicate, refl, sym, ap, ◌∙◌, arith, length-append, length-drop, subst, flat_map}
+use Rattle.cell_plan.proofs.Common.{at_drop_more, length-replicate, length-take-le, map-append, take_all, mod-lt, take_more, mod-mul-add}
+use Rattle.cell_plan.proofs.Common.{mod_self, places, CheckForm, capsule, M30, Rate, Page, length-capsule, half_frame_body}
+use Rattle.cell_plan.proofs.Common.{flat_map-places-more, flat_map-zero, padded_framed, mod-eq_of_lt, rate_large}
+use Rattle.paging_message.proofs.Layings.{framed_whole}
+use Rattle.paging_message.proofs.Runs.{fills, length-padded, width}
 use Rattle.paging_message.specs.Laying as laying
 use Rattle.cell_plan.specs.Pages as specs
 
@@ -71,61 +72,35 @@ whole_halves size starts body (suc h) within =
       more,
     )
 
--- the number of half-frames if the last of them isn't whole
-count_whole : (size q : ℕ) → 0 < size → (size * q + size - 1) / size ≡ q
-count_whole size q some =
-    let e : size * q + size - 1 ≡ q * size + (size - 1) = omega (arith, some) in
-    ap (λ (n : ℕ). n / size) e ∙ div-mul-add q size (size - 1) (omega (arith, some))
+-- fewer zeros than a half-frame has
+fill_few : (size count : ℕ) → 0 < size → laying.fill size count < size
+unfolding laying.fill
+fill_few size count large = mod-lt (size - count % size) large
 
-count_more : (size q r : ℕ) → 0 < r → r < size → (size * q + r + size - 1) / size ≡ q + 1
-count_more size q r some low =
-    let e : size * q + r + size - 1 ≡ (q + 1) * size + (r - 1) = omega (arith, some) in
-    ap (λ (n : ℕ). n / size) e ∙ div-mul-add (q + 1) size (r - 1) (omega (arith, low))
+half_frames_whole : (size : ℕ) (l : laying.Laid) → 0 < size →
+    length (laying.half_frames_of size l)
+    ≡ width size (length l.body) + size * width size (length l.body)
+unfolding laying.half_frames_of
+half_frames_whole size l large =
+    let bits = laying.padded_to size l.body in
+    let long = length-padded size l.body large in
+    ap length (framed_whole size (width size (length l.body)) l.starts bits large long)
+    ∙ whole_halves size l.starts bits (width size (length l.body)) (omega (arith, long))
 
--- The half-frames of a laid body have its n bits and an SCI bit each: n / size of them are full,
--- and where r bits are left one half-frame more has these, so the SCI bits are (n + size - 1) /
--- size.
-pub length-framed : (size : ℕ) (l : laying.Laid) → 0 < size →
+-- The half-frames of a laid body have its n bits and an SCI bit each: they are whole ones but for
+-- the zeros that would complete the last.
+length-framed : (size : ℕ) (l : laying.Laid) → 0 < size →
     length (laying.framed size l) ≡ specs.half_frame_bits size (length l.body)
-unfolding laying.framed
 length-framed size l large =
-    let n = length l.body in
-    let q = n / size in
-    let r = n % size in
-    let f = laying.half_frame size l.starts l.body in
-    let all : size * q + r ≡ n = div-add-mod n size in
-    let low : r < size = mod-lt n large in
-    let front = whole_halves size l.starts l.body q (omega (arith, all)) in
-    elim (cases_lt 0 r) [
-      | inr none ↦
-          let same : n ≡ size * q = omega (arith, all, none) in
-          let count : (n + size - 1) / size ≡ q =
-          ap (λ (m : ℕ). (m + size - 1) / size) same ∙ count_whole size q large in
-          omega (
-            arith,
-            ap (λ (m : ℕ). length (flat_map f (places m))) count,
-            front,
-            same,
-            count,
-          )
-      | inl some ↦
-          let count : (n + size - 1) / size ≡ q + 1 =
-          ap (λ (m : ℕ). (m + size - 1) / size) (sym all) ∙ count_more size q r some low in
-          let rest = drop (size * q) l.body in
-          let own : length (take size rest) ≡ r =
-          ap length (take_all size rest (omega (arith, length-drop (size * q) l.body, all, low)))
-          ∙ omega (arith, length-drop (size * q) l.body, all) in
-          omega (
-            arith,
-            ap (λ (m : ℕ). length (flat_map f (places m))) count,
-            ap length (flat_map-places-more f q),
-            length-append (flat_map f (places q)) (f q),
-            front,
-            own,
-            count,
-            all,
-          )
-    ]
+    let zeros = replicate (laying.fill size (length l.body)) false in
+    omega (
+      arith,
+      ap length (padded_framed size l large),
+      length-append (laying.framed size l) zeros,
+      length-replicate (laying.fill size (length l.body)) false,
+      half_frames_whole size l large,
+      fills size (length l.body) large,
+    )
 
 -- ---- while pages are laid
 
@@ -236,71 +211,26 @@ some_laid size form pages k layout bits large is =
 
 -- ---- whole half-frames
 
--- the zeros that make whole half-frames
-small : (x w : ℕ) → x < w → x % w ≡ x
-small x w lt =
-    let e : x ≡ 0 * w + x = omega arith in
-    ap (λ (n : ℕ). n % w) e ∙ mod-mul-add 0 w x lt
-
-fill_at : (size q r : ℕ) → r < size → laying.fill size (size * q + r) ≡ (size - r) % size
+-- the zeros up to whole half-frames are those that fill them, where they are fewer than one has
+fill_by : (size count zeros h : ℕ) → zeros < size → count + zeros ≡ size * h →
+    laying.fill size count ≡ zeros
 unfolding laying.fill
-fill_at size q r low =
-    let e : size * q + r ≡ q * size + r = omega arith in
-    ap (λ (n : ℕ). (size - n % size) % size) e
-    ∙ ap (λ (n : ℕ). (size - n) % size) (mod-mul-add q size r low)
-
-fill_none : (size q : ℕ) → 0 < size → laying.fill size (size * q + 0) ≡ 0
-fill_none size q large =
-    let all : size - 0 ≡ size = omega arith in
-    fill_at size q 0 large ∙ ap (λ (n : ℕ). n % size) all ∙ mod_self size
-
-fill_whole : (size q : ℕ) → 0 < size →
-    laying.fill (size + 1) (specs.half_frame_bits size (size * q)) ≡ laying.fill size (size * q)
-fill_whole size q large =
-    let bits : specs.half_frame_bits size (size * q) ≡ (size + 1) * q + 0 =
-    ap (λ (n : ℕ). size * q + n) (count_whole size q large) ∙ omega arith in
-    let count : size * q ≡ size * q + 0 = omega arith in
-    ap (laying.fill (size + 1)) bits
-    ∙ fill_none (size + 1) q (omega arith)
-    ∙ sym (fill_none size q large)
-    ∙ ap (laying.fill size) (sym count)
-
-fill_more : (size q r : ℕ) → 0 < r → r < size →
-    laying.fill (size + 1) (specs.half_frame_bits size (size * q + r))
-    ≡ laying.fill size (size * q + r)
-fill_more size q r some low =
-    let bits : specs.half_frame_bits size (size * q + r) ≡ (size + 1) * q + (r + 1) =
-    ap (λ (n : ℕ). size * q + r + n) (count_more size q r some low) ∙ omega arith in
-    let left : size + 1 - (r + 1) ≡ size - r = omega arith in
-    ap (laying.fill (size + 1)) bits
-    ∙ fill_at (size + 1) q (r + 1) (omega (arith, low))
-    ∙ ap (λ (n : ℕ). n % (size + 1)) left
-    ∙ small (size - r) (size + 1) (omega arith)
-    ∙ sym (small (size - r) size (omega (arith, some, low)))
-    ∙ sym (fill_at size q r low)
-
--- The zeros that complete a channel's last half-frame are as many whether its SCI bits are counted
--- or not: after whole half-frames there are none, and in a begun one the SCI bit lengthens both the
--- half-frame and what is filled of it by one.
-fill_same : (size count : ℕ) → 0 < size →
-    laying.fill (size + 1) (specs.half_frame_bits size count) ≡ laying.fill size count
-fill_same size count large =
-    let q = count / size in
-    let r = count % size in
-    let all : size * q + r ≡ count = div-add-mod count size in
-    let both = λ (n : ℕ).
-    laying.fill (size + 1) (specs.half_frame_bits size n) ≡ laying.fill size n in
-    elim (cases_lt 0 r) [
-      | inr none ↦
-          subst both (omega (arith, all, none)) (fill_whole size q large)
-      | inl some ↦ subst both all (fill_more size q r some (mod-lt count large))
-    ]
+fill_by size count zero h few all =
+    let turned : count ≡ h * size + 0 = omega (arith, all) in
+    let none : count % size ≡ 0 = ap (λ (n : ℕ). n % size) turned ∙ mod-mul-add h size 0 few in
+    let full : size - count % size ≡ size = omega (arith, none) in
+    ap (λ (n : ℕ). n % size) full ∙ mod_self size
+fill_by size count (suc zeros) zero few all = absurd (omega (arith, all))
+fill_by size count (suc zeros) (suc h) few all =
+    let begun = size - suc zeros in
+    let turned : count ≡ h * size + begun = omega (arith, all, few) in
+    let rest : count % size ≡ begun =
+    ap (λ (n : ℕ). n % size) turned ∙ mod-mul-add h size begun (omega (arith, few)) in
+    let left : size - count % size ≡ suc zeros = omega (arith, rest, few) in
+    ap (λ (n : ℕ). n % size) left ∙ mod-eq_of_lt few
 
 pub size_large : (rate : Rate) → 0 < half_frame_body rate
-size_large rates.R9600 = omega arith
-size_large rates.R4800 = omega arith
-size_large rates.R2400 = omega arith
-size_large rates.R1200 = omega arith
+size_large rate = omega (arith, rate_large rate)
 
 -- Half-frames that are laid for all pages and completed with zeros are the channel's page cycle:
 -- their length is that of the pages' bits with one SCI bit for each half-frame, so the zeros that
@@ -312,16 +242,18 @@ pub cycle_is : (rate : Rate) (form : CheckForm) (pages : List Page) (half : ℕ)
     cycle ≡ bits ++ replicate (laying.fill half (length bits)) false →
     cycle ≡ specs.page_cycle rate form pages
 unfolding specs.page_cycle
-cycle_is rate form pages half bits cycle half_is framed filled =
+cycle_is rate form pages half bits cycle half_is framed completed =
     let size = half_frame_body rate in
     let l = specs.laid_pages size form pages in
-    let count : length bits ≡ specs.half_frame_bits size (length l.body) =
-    ap length framed ∙ length-framed size l (size_large rate) in
-    let zeros : laying.fill half (length bits) ≡ laying.fill size (length l.body) =
-    ap (λ (h : ℕ). laying.fill h (length bits)) half_is
-    ∙ ap (laying.fill (size + 1)) count
-    ∙ fill_same size (length l.body) (size_large rate) in
-    filled
+    let large = size_large rate in
+    let filling = laying.fill size (length l.body) in
+    let all : length bits + filling ≡ (size + 1) * width size (length l.body) =
+    omega (arith, ap length framed, length-framed size l large, fills size (length l.body) large) in
+    let zeros : laying.fill half (length bits) ≡ filling =
+    ap (λ (w : ℕ). laying.fill w (length bits)) half_is
+    ∙ fill_by (size + 1) (length bits) filling (width size (length l.body))
+    (omega (arith, fill_few size (length l.body) large)) all in
+    completed
     ∙ ap (λ (n : ℕ). bits ++ replicate n false) zeros
-    ∙ ap (λ (b : List Bool). b ++ replicate (laying.fill size (length l.body)) false) framed
-    ∙ sym (padded_framed size l (size_large rate))
+    ∙ ap (λ (b : List Bool). b ++ replicate filling false) framed
+    ∙ sym (padded_framed size l large)

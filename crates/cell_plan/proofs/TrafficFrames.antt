@@ -3,6 +3,7 @@ use Rattle.cell_plan.proofs.Common.{◌≡◌, ℕ, zero, suc, ◌%◌, ◌<◌,
 use Rattle.cell_plan.proofs.Common.{arith, flat_map, append-nil, Rate, frames_in_turn, map, Option, Some, None, option_and_then, option_map}
 use Rattle.cell_plan.proofs.Common.{option_map_or, length-map, Rate2, FrameRate, SetOne, SetTwo, TrafficFrame, FrameAt, planned, in_set_one}
 use Rattle.cell_plan.proofs.Common.{in_set_two, frame_of_set, all_of_set, frames_of_set, SetOneFrame, SetTwoFrame, set_one, set_two}
+use Rattle.cell_plan.proofs.Common.{same_Some}
 
 -- what is made of the one entry at a place
 pub flat_map-one : {X Y : Type 0} (f : X → List Y) (xs : List X) (i : ℕ) (d : X) → i < length xs →
@@ -46,9 +47,6 @@ none_in_turn : {F : Type 0} (k : ℕ) (f : F) →
 none_in_turn {F} k f is =
     let none : ◌≡◌ {A = List F} [] (f ∷ []) = sym (none_taken (k % 0)) ∙ is in absurd (cc none)
 
-some_same : {A : Type 0} (x y : A) → Some x ≡ Some y → x ≡ y
-some_same x y is = cc is
-
 -- a rate of a set is that rate
 one_is : (rate : FrameRate) (r : Rate) → in_set_one rate ≡ Some r → rate ≡ SetOne r
 one_is (SetOne rate) r is = cc is
@@ -71,7 +69,7 @@ module _ {R : Type 0} (in_set : FrameRate → Option R) (at : R → FrameRate)
       by_rate None told is = absurd (cc is)
       by_rate (Some r) told is =
           ap (λ (rate : FrameRate). record x { rate = rate }) (is_at x.rate r told)
-          ∙ ap (planned at) (some_same _ f is)
+          ∙ ap (planned at) (same_Some _ f is)
 
   more_are : (x : TrafficFrame) (frames : List TrafficFrame) (all : List (FrameAt R))
       (first : FrameAt R) (found : Option (List (FrameAt R))) → x ≡ planned at first →
@@ -82,7 +80,7 @@ module _ {R : Type 0} (in_set : FrameRate → Option R) (at : R → FrameRate)
   more_are x frames all first (Some rest) first_is rest_are is =
       ap (λ (y : TrafficFrame). y ∷ frames) first_is
       ∙ ap (λ (ys : List TrafficFrame). planned at first ∷ ys) (rest_are rest refl)
-      ∙ ap (map (planned at)) (some_same (first ∷ rest) all is)
+      ∙ ap (map (planned at)) (same_Some (first ∷ rest) all is)
 
   all_are : (x : TrafficFrame) (frames : List TrafficFrame) (all : List (FrameAt R))
       (found : Option (FrameAt R)) → frame_of_set in_set x ≡ found →
@@ -98,7 +96,7 @@ module _ {R : Type 0} (in_set : FrameRate → Option R) (at : R → FrameRate)
   -- frames of a set are those frames
   frames_are : (frames : List TrafficFrame) (all : List (FrameAt R)) →
       all_of_set in_set frames ≡ Some all → frames ≡ map (planned at) all
-  frames_are [] all is = ap (map (planned at)) (some_same [] all is)
+  frames_are [] all is = ap (map (planned at)) (same_Some [] all is)
   frames_are (x ∷ frames) all is =
       all_are x frames all (frame_of_set in_set x) refl
       (λ rest told. frames_are frames rest told) is
