@@ -36,15 +36,13 @@ byte_at-above j d k a r e =
     ∙ sym (byte_at-pow j r)
 
 -- and so not in several
-bytes-above : (n d k a r : ℕ) → k ≡ d + n →
-    bytes_high_first n (a * 256 ^ k + r) ≡ bytes_high_first n r
+bytes-above : (n d k a r : ℕ) → k ≡ d + n → bytes_high_first n (a * 256 ^ k + r) ≡ bytes_high_first n r
 bytes-above zero d k a r e = refl
 bytes-above (suc n) d k a r e =
     rw (byte_at-above n d k a r (omega arith), bytes-above n (d + 1) k a r (omega arith)) refl
 
 -- the bytes of the number that n bytes spell
-pub big_bytes-number : (n : ℕ) (xs : List ℕ) → length xs ≡ n → AreBytes xs →
-    big_bytes n (big_number n xs) ≡ xs
+pub big_bytes-number : (n : ℕ) (xs : List ℕ) → length xs ≡ n → AreBytes xs → big_bytes n (big_number n xs) ≡ xs
 big_bytes-number zero [] long small = refl
 big_bytes-number zero (x ∷ xs) long small = absurd (omega (arith, long))
 big_bytes-number (suc n) [] long small = absurd (omega (arith, long))
@@ -84,8 +82,7 @@ AreBytes-from_all xs all k =
     ]
 
 -- a number that is read ends with its bytes
-pub big_number-take : (n : ℕ) (xs : List ℕ) → n ≤ length xs →
-    big_number n xs ≡ big_number n (take n xs)
+pub big_number-take : (n : ℕ) (xs : List ℕ) → n ≤ length xs → big_number n xs ≡ big_number n (take n xs)
 big_number-take n xs room =
     let long : n ≤ length (take n xs) = omega (arith, length-take-le n xs room) in
     ap (big_number n) (sym (take-append-drop n xs)) ∙ big_from-append n (take n xs) (drop n xs) long

@@ -13,8 +13,7 @@ opening-file bytes header samples file =
     opening-spelled header (flat_map (sample_spelling (width_of header)) samples) file.lawful
 
 -- it opens with its header, unless a read failed
-pub opens_file : (answer : Result Reading FileFault) (bytes : List ℕ) (header : Header)
-    (samples : List Sample) →
+pub opens_file : (answer : Result Reading FileFault) (bytes : List ℕ) (header : Header) (samples : List Sample) →
     IsSampleFile bytes header samples → Opens answer (opening bytes) →
     MatchResult answer (λ reading. reading.header ≡ header) (λ e. e ≡ ReadFault)
 opens_file (Ok reading) bytes header samples file due =
@@ -37,12 +36,9 @@ opens_file (Err (TooFew n)) bytes header samples file due =
 
 -- what a read of its samples gave, and what is left
 pub read_next : (width : Width) (new : Option (List ℕ)) (samples next : List Sample) →
-    All (HasBits width) samples → All (HasBits width) next →
-    length next ≤ length samples →
-    Consumes (Some (flat_map (sample_spelling width) samples)) new
-    (flat_map (sample_spelling width) next) →
-    (next ≡ take (length next) samples) ×
-    (new ≡ Some (flat_map (sample_spelling width) (drop (length next) samples)))
+    All (HasBits width) samples → All (HasBits width) next → length next ≤ length samples →
+    Consumes (Some (flat_map (sample_spelling width) samples)) new (flat_map (sample_spelling width) next) →
+    (next ≡ take (length next) samples) × (new ≡ Some (flat_map (sample_spelling width) (drop (length next) samples)))
 read_next width None samples next small small_next fits read = absurd read
 read_next width (Some ys) samples next small small_next fits read =
     let found = next_samples width next samples ys small small_next fits read in
@@ -51,16 +47,10 @@ read_next width (Some ys) samples next small small_next fits read =
 -- no read of its samples is cut short, unless a read failed
 pub no_short : (e : FileFault) (width : Width) (samples : List Sample) (count from : ℕ)
     (new : Option (List ℕ)) → count ≤ length samples →
-    CutsShort e (sample_len width * count) from (Some (flat_map (sample_spelling width) samples))
-    new → e ≡ ReadFault
+    CutsShort e (sample_len width * count) from (Some (flat_map (sample_spelling width) samples)) new → e ≡ ReadFault
 no_short ReadFault width samples count from new few fault = refl
 no_short (Short place) width samples count from new few fault =
-    absurd (omega (
-      arith,
-      fault.0,
-      length-samples width samples,
-      sample_len-mono width count (length samples) few,
-    ))
+    absurd (omega (arith, fault.0, length-samples width samples, sample_len-mono width count (length samples) few))
 no_short Magic width samples count from new few fault = absurd fault
 no_short Version width samples count from new few fault = absurd fault
 no_short Flags width samples count from new few fault = absurd fault

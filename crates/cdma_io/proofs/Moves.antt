@@ -7,8 +7,7 @@ use lib.Seq.{take-add, take-append-le}
 
 -- n bytes were copied from the place to the buffer's front
 pub moved : (bytes buf copied : List ℕ) (at n : ℕ) → at + n ≤ length bytes →
-    copied ≡ take (at + n - at) (drop at bytes) →
-    drop at bytes ≡ take n (copied ++ drop n buf) ++ drop (at + n) bytes
+    copied ≡ take (at + n - at) (drop at bytes) → drop at bytes ≡ take n (copied ++ drop n buf) ++ drop (at + n) bytes
 moved bytes buf copied at n within is =
     let same : at + n - at ≡ n = omega arith in
     let copy : copied ≡ take n (drop at bytes) = rw same at is in
@@ -19,26 +18,20 @@ moved bytes buf copied at n within is =
     rw (front, copy, ← back) (sym (take-append-drop n (drop at bytes)))
 
 -- a buffer that is filled up to a place, and n bytes further
-pub filled_more : {X : Type 0} (buf part : List X) (at k n : ℕ) → at ≤ length buf →
-    n ≤ length part →
+pub filled_more : {X : Type 0} (buf part : List X) (at k n : ℕ) → at ≤ length buf → n ≤ length part →
     take at buf ++ take n part ≡ take (at + n) (put_mid at k buf part)
 filled_more buf part at k n within fits =
     let whole = put_mid at k buf part in
-    let split : take (at + n) whole ≡ take at whole ++ take n (drop at whole) =
-    take-add at n whole in
-    let front : take at whole ≡ take at buf =
-    take-put_mid_below at k buf part at (le_refl at) within in
+    let split : take (at + n) whole ≡ take at whole ++ take n (drop at whole) = take-add at n whole in
+    let front : take at whole ≡ take at buf = take-put_mid_below at k buf part at (le_refl at) within in
     let back : drop at whole ≡ part ++ post_of at k buf =
     drop_at (take at buf) (part ++ post_of at k buf) at (length-take-le at buf within) in
-    let inner : take n (part ++ post_of at k buf) ≡ take n part =
-    take-append-le n part (post_of at k buf) fits in
+    let inner : take n (part ++ post_of at k buf) ≡ take n part = take-append-le n part (post_of at k buf) fits in
     sym (rw (split, front, back, inner))
 
 -- the first bytes of a list, and n further
-pub appended_more : (old mid new : Option (List ℕ)) (all : List ℕ) (at n : ℕ) →
-    Appends old mid (take at all) →
-    Appends mid new (take n (take (length all - at) (drop at all))) →
-    Appends old new (take (at + n) all)
+pub appended_more : (old mid new : Option (List ℕ)) (all : List ℕ) (at n : ℕ) → Appends old mid (take at all) →
+    Appends mid new (take n (take (length all - at) (drop at all))) → Appends old new (take (at + n) all)
 appended_more old mid new all at n before more =
     let whole : take (length all - at) (drop at all) ≡ drop at all =
     ap (λ (k : ℕ). take k (drop at all)) (sym (length-drop at all)) ∙

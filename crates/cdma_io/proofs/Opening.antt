@@ -17,8 +17,7 @@ use Rattle.cdma_io.proofs.ByteNumbers.{AreBytes, AreBytes-drop, big_bytes-front}
 
 -- ---- the three numbers of a header
 
-then_ok : {A B : Type 0} (b : Bool) (x : Result A B) (e : B) (y : A) → cond b x (Err e) ≡ Ok y →
-    (b ≡ true) × (x ≡ Ok y)
+then_ok : {A B : Type 0} (b : Bool) (x : Result A B) (e : B) (y : A) → cond b x (Err e) ≡ Ok y → (b ≡ true) × (x ≡ Ok y)
 then_ok true x e y h = (refl, h)
 then_ok false x e y h = absurd (cc)
 
@@ -74,8 +73,7 @@ header_due-lawful : (header : Header) → IsLawfulHeader header →
 header_due-lawful header lawful =
     let version : is_version header.version ≡ true =
     is_version-between header.version lawful.version_least lawful.version_most in
-    let flags : ltb (flags_of header) 4 ≡ true =
-    lt-ltb (flags_of header) 4 (flags_few header.check30 header.check16) in
+    let flags : ltb (flags_of header) 4 ≡ true = lt-ltb (flags_of header) 4 (flags_few header.check30 header.check16) in
     let count : leb header.count (most_samples (width_of header)) ≡ true =
     le-leb header.count (most_samples (width_of header)) lawful.count_most in
     let make : CheckForm → CheckForm → Result Header FileFault =
@@ -114,8 +112,7 @@ header_due-ok version flags count header h =
       version_most = (between-is_version version a.0).1;
       count_most = leb-true count (most_samples (width_in version)) c.0;
     } in
-    let back : flags_of made ≡ flags =
-    omega (arith, flag_of_form flags, flag_of_form (flags / 2)) in
+    let back : flags_of made ≡ flags = omega (arith, flag_of_form flags, flag_of_form (flags / 2)) in
     let due : IsDue made version flags count = record {
       lawful = law;
       version_is = refl;
@@ -137,8 +134,7 @@ unfolding opening header_spelling
 opening-spelled header rest lawful =
     let bytes = header_spelling header ++ rest in
     let long : leb 16 (length bytes) ≡ true =
-    le-leb 16 (length bytes)
-    (omega (arith, length-append (header_spelling header) rest, length-header_spelling header))
+    le-leb 16 (length bytes) (omega (arith, length-append (header_spelling header) rest, length-header_spelling header))
     in
     let flags = flags_of header in
     let version_read : big_number 2 (drop 4 bytes) ≡ header.version =
@@ -148,8 +144,7 @@ opening-spelled header rest lawful =
     big_number-reads_back 2 flags (big_bytes 8 header.count ++ rest)
     (omega (arith, flags_few header.check30 header.check16)) in
     let count_read : big_number 8 (drop 8 bytes) ≡ header.count =
-    big_number-reads_back 8 header.count rest
-    (omega (arith, lawful.count_most, most_samples-most (width_of header))) in
+    big_number-reads_back 8 header.count rest (omega (arith, lawful.count_most, most_samples-most (width_of header))) in
     cond-true _ _ _ long
     ∙ ap (λ (n : ℕ). header_due n (big_number 2 (drop 6 bytes)) (big_number 8 (drop 8 bytes)))
     version_read
@@ -162,8 +157,7 @@ pub record IsOpened (bytes : List ℕ) (header : Header) : Type 0 where
   pub spelled : bytes ≡ header_spelling header ++ drop 16 bytes
 
 -- bytes that open begin with the spelling of their header
-pub opening-ok : (bytes : List ℕ) (header : Header) → AreBytes bytes → opening bytes ≡ Ok header →
-    IsOpened bytes header
+pub opening-ok : (bytes : List ℕ) (header : Header) → AreBytes bytes → opening bytes ≡ Ok header → IsOpened bytes header
 unfolding opening header_spelling
 opening-ok bytes header small h =
     let a = then_ok (leb 16 (length bytes)) _ (Short (length bytes)) header h in
@@ -175,18 +169,15 @@ opening-ok bytes header small h =
     let begins : bytes ≡ magic ++ drop 4 bytes =
     (starts_is Decides-eqb bytes magic (starts_with eqb bytes magic) refl).0 b.0 in
     let version : drop 4 bytes ≡ big_bytes 2 header.version ++ drop 6 bytes =
-    big_bytes-front 2 (drop 4 bytes) (omega (arith, length-drop 4 bytes))
-    (AreBytes-drop 4 bytes small)
+    big_bytes-front 2 (drop 4 bytes) (omega (arith, length-drop 4 bytes)) (AreBytes-drop 4 bytes small)
     ∙ ap (λ (xs : List ℕ). big_bytes 2 (big_number 2 (drop 4 bytes)) ++ xs) (drop-drop 2 4 bytes)
     ∙ ap (λ (n : ℕ). big_bytes 2 n ++ drop 6 bytes) (sym due.version_is) in
     let flags : drop 6 bytes ≡ big_bytes 2 (flags_of header) ++ drop 8 bytes =
-    big_bytes-front 2 (drop 6 bytes) (omega (arith, length-drop 6 bytes))
-    (AreBytes-drop 6 bytes small)
+    big_bytes-front 2 (drop 6 bytes) (omega (arith, length-drop 6 bytes)) (AreBytes-drop 6 bytes small)
     ∙ ap (λ (xs : List ℕ). big_bytes 2 (big_number 2 (drop 6 bytes)) ++ xs) (drop-drop 2 6 bytes)
     ∙ ap (λ (n : ℕ). big_bytes 2 n ++ drop 8 bytes) (sym due.flags_are) in
     let count : drop 8 bytes ≡ big_bytes 8 header.count ++ drop 16 bytes =
-    big_bytes-front 8 (drop 8 bytes) (omega (arith, length-drop 8 bytes))
-    (AreBytes-drop 8 bytes small)
+    big_bytes-front 8 (drop 8 bytes) (omega (arith, length-drop 8 bytes)) (AreBytes-drop 8 bytes small)
     ∙ ap (λ (xs : List ℕ). big_bytes 8 (big_number 8 (drop 8 bytes)) ++ xs) (drop-drop 8 8 bytes)
     ∙ ap (λ (n : ℕ). big_bytes 8 n ++ drop 16 bytes) (sym due.count_is) in
     record {
@@ -216,8 +207,7 @@ opening-front xs ys long =
     let begins : starts_with eqb (xs ++ ys) magic ≡ starts_with eqb xs magic =
     ap (λ (zs : List ℕ). pointwise eqb magic zs) (take-append-le 4 xs ys (omega arith)) in
     let part : ℕ → ℕ → ℕ → Result Header FileFault =
-    λ version flags count. cond (starts_with eqb xs magic) (header_due version flags count)
-    (Err Magic) in
+    λ version flags count. cond (starts_with eqb xs magic) (header_due version flags count) (Err Magic) in
     cond-true _ _ _ whole
     ∙ ap (λ (b : Bool). cond b
     (header_due (big_number 2 (drop 4 (xs ++ ys))) (big_number 2 (drop 6 (xs ++ ys)))
@@ -226,8 +216,7 @@ opening-front xs ys long =
     (number-front xs ys 4 2 (omega arith))
     ∙ ap (λ (n : ℕ). part (big_number 2 (drop 4 xs)) n (big_number 8 (drop 8 (xs ++ ys))))
     (number-front xs ys 6 2 (omega arith))
-    ∙ ap (part (big_number 2 (drop 4 xs)) (big_number 2 (drop 6 xs)))
-    (number-front xs ys 8 8 (omega arith))
+    ∙ ap (part (big_number 2 (drop 4 xs)) (big_number 2 (drop 6 xs))) (number-front xs ys 8 8 (omega arith))
     ∙ sym (cond-true _ _ _ alone)
 
 -- fewer bytes than a header are short
@@ -237,14 +226,12 @@ opening-short bytes few = cond-false _ _ _ (lt-leb 16 (length bytes) few)
 
 -- ---- what a parser of 16 bytes answers
 
-due_version : (version flags count : ℕ) → is_version version ≡ false →
-    header_due version flags count ≡ Err Version
+due_version : (version flags count : ℕ) → is_version version ≡ false → header_due version flags count ≡ Err Version
 due_version version flags count other = cond-false _ _ _ other
 
 due_flags : (version flags count : ℕ) → is_version version ≡ true → 4 ≤ flags →
     header_due version flags count ≡ Err Flags
-due_flags version flags count known many =
-    cond-true _ _ _ known ∙ cond-false _ _ _ (le-ltb flags 4 many)
+due_flags version flags count known many = cond-true _ _ _ known ∙ cond-false _ _ _ (le-ltb flags 4 many)
 
 due_count : (version flags count : ℕ) → is_version version ≡ true → flags < 4 →
     most_samples (width_in version) < count → header_due version flags count ≡ Err Count
@@ -270,11 +257,9 @@ number_at n k bytes = big_number k (take (length bytes - n) (drop n bytes))
 
 number_at-drop : (n k : ℕ) (bytes : List ℕ) → number_at n k bytes ≡ big_number k (drop n bytes)
 number_at-drop n k bytes =
-    ap (big_number k)
-    (take_all (length bytes - n) (drop n bytes) (omega (arith, length-drop n bytes)))
+    ap (big_number k) (take_all (length bytes - n) (drop n bytes) (omega (arith, length-drop n bytes)))
 
-opening-due : (bytes : List ℕ) (version flags count : ℕ) → length bytes ≡ 16 →
-    starts_with eqb bytes magic ≡ true →
+opening-due : (bytes : List ℕ) (version flags count : ℕ) → length bytes ≡ 16 → starts_with eqb bytes magic ≡ true →
     version ≡ number_at 4 2 bytes → flags ≡ number_at 6 2 bytes → count ≡ number_at 8 8 bytes →
     opening bytes ≡ header_due version flags count
 unfolding opening
@@ -282,8 +267,7 @@ opening-due bytes version flags count long begins version_is flags_are count_is 
     cond-true _ _ _ (le-leb 16 (length bytes) (omega arith)) ∙ cond-true _ _ _ begins
     ∙ ap (λ (n : ℕ). header_due n (big_number 2 (drop 6 bytes)) (big_number 8 (drop 8 bytes)))
     (sym (version_is ∙ number_at-drop 4 2 bytes))
-    ∙ ap (λ (n : ℕ). header_due version n (big_number 8 (drop 8 bytes)))
-    (sym (flags_are ∙ number_at-drop 6 2 bytes))
+    ∙ ap (λ (n : ℕ). header_due version n (big_number 8 (drop 8 bytes))) (sym (flags_are ∙ number_at-drop 6 2 bytes))
     ∙ ap (λ (n : ℕ). header_due version flags n) (sym (count_is ∙ number_at-drop 8 8 bytes))
 
 pub parsed_magic : (bytes : List ℕ) → length bytes ≡ 16 → starts_with eqb bytes magic ≡ false →
@@ -292,16 +276,14 @@ unfolding opening
 parsed_magic bytes long begins =
     sym (cond-true _ _ _ (le-leb 16 (length bytes) (omega arith)) ∙ cond-false _ _ _ begins)
 
-pub parsed_version : (bytes : List ℕ) (version : ℕ) → length bytes ≡ 16 →
-    starts_with eqb bytes magic ≡ true →
+pub parsed_version : (bytes : List ℕ) (version : ℕ) → length bytes ≡ 16 → starts_with eqb bytes magic ≡ true →
     version ≡ number_at 4 2 bytes → is_version version ≡ false → Err Version ≡ opening bytes
 parsed_version bytes version long begins version_is other =
     sym (opening-due bytes version (number_at 6 2 bytes) (number_at 8 8 bytes) long begins
     version_is refl refl ∙
     due_version version (number_at 6 2 bytes) (number_at 8 8 bytes) other)
 
-pub parsed_flags : (bytes : List ℕ) (version flags : ℕ) → length bytes ≡ 16 →
-    starts_with eqb bytes magic ≡ true →
+pub parsed_flags : (bytes : List ℕ) (version flags : ℕ) → length bytes ≡ 16 → starts_with eqb bytes magic ≡ true →
     version ≡ number_at 4 2 bytes → is_version version ≡ true → flags ≡ number_at 6 2 bytes →
     4 ≤ flags → Err Flags ≡ opening bytes
 parsed_flags bytes version flags long begins version_is known flags_are many =
@@ -319,8 +301,7 @@ pub record AreParsed (bytes : List ℕ) (version flags count : ℕ) : Type 0 whe
   pub count_is : count ≡ number_at 8 8 bytes
 
 pub parsed_count : (bytes : List ℕ) (version flags count : ℕ) →
-    AreParsed bytes version flags count → (limit : ℕ) → limit ≡ most_samples (width_in version) →
-    limit < count →
+    AreParsed bytes version flags count → (limit : ℕ) → limit ≡ most_samples (width_in version) → limit < count →
     Err Count ≡ opening bytes
 parsed_count bytes version flags count p limit limit_is many =
     sym (
@@ -329,11 +310,9 @@ parsed_count bytes version flags count p limit limit_is many =
     )
 
 pub parsed_header : (bytes : List ℕ) (version flags count : ℕ) (check30 check16 : CheckForm) →
-    AreParsed bytes version flags count →
-    (limit : ℕ) → limit ≡ most_samples (width_in version) → count ≤ limit →
+    AreParsed bytes version flags count → (limit : ℕ) → limit ≡ most_samples (width_in version) → count ≤ limit →
     check30 ≡ check_form_of (eqb (flags % 2) 1) → check16 ≡ check_form_of (eqb (flags / 2 % 2) 1) →
-    Ok (record { version = version; check30 = check30; check16 = check16; count = count }) ≡
-    opening bytes
+    Ok (record { version = version; check30 = check30; check16 = check16; count = count }) ≡ opening bytes
 parsed_header bytes version flags count check30 check16 p limit limit_is fits first second =
     let make : CheckForm → CheckForm → Result Header FileFault =
     λ a b. Ok (record { version = version; check30 = a; check16 = b; count = count }) in
@@ -346,8 +325,7 @@ parsed_header bytes version flags count check30 check16 p limit limit_is fits fi
 
 -- 16 bytes that open are the spelling of their header
 pub parsed_spelling : (bytes : List ℕ) (header : Header) → length bytes ≡ 16 → AreBytes bytes →
-    Ok header ≡ opening bytes →
-    bytes ≡ header_spelling header
+    Ok header ≡ opening bytes → bytes ≡ header_spelling header
 parsed_spelling bytes header long small due =
     let opened = opening-ok bytes header small (sym due) in
     let none : drop 16 bytes ≡ [] = drop_all 16 bytes (omega arith) in
@@ -363,8 +341,7 @@ filled_whole old new buf n full read = subst (Consumes old new) (take_all n buf 
 
 -- the source ended before them
 pub told_short : (old new : Option (List ℕ)) (buf : List ℕ) (n : ℕ) → n ≤ length buf → n < 16 →
-    Consumes old new (take n buf) → IsAtEnd new →
-    IfSome old (λ bytes. Opens (Err (Short n)) (opening bytes))
+    Consumes old new (take n buf) → IsAtEnd new → IfSome old (λ bytes. Opens (Err (Short n)) (opening bytes))
 told_short None new buf n within few read ended = tt
 told_short (Some xs) None buf n within few read ended = absurd read
 told_short (Some xs) (Some ys) buf n within few read ended = λ other.
@@ -375,10 +352,8 @@ told_short (Some xs) (Some ys) buf n within few read ended = λ other.
     due ∙ ap (λ (k : ℕ). Err (Short k)) long
 
 -- they were read: what is due for them is due for the file
-pub told_header : (old new : Option (List ℕ)) (buf : List ℕ) (answer : Result Reading FileFault) →
-    length buf ≡ 16 →
-    Consumes old new buf → Opens answer (opening buf) →
-    IfSome old (λ bytes. Opens answer (opening bytes))
+pub told_header : (old new : Option (List ℕ)) (buf : List ℕ) (answer : Result Reading FileFault) → length buf ≡ 16 →
+    Consumes old new buf → Opens answer (opening buf) → IfSome old (λ bytes. Opens answer (opening bytes))
 told_header None new buf answer long read due = tt
 told_header (Some xs) None buf answer long read due = absurd read
 told_header (Some xs) (Some ys) buf answer long read due =

@@ -9,25 +9,18 @@ use Rattle.cdma_io.proofs.Spelling.{length-samples, sample_len-mono}
 
 -- the bytes of the samples that were read, by their number
 pub samples_taken : (width : Width) (old new : Option (List ℕ)) (samples : List Sample) (most : ℕ) →
-    length samples ≤ most →
-    Consumes old new (flat_map (sample_spelling width) samples) →
+    length samples ≤ most → Consumes old new (flat_map (sample_spelling width) samples) →
     ConsumesAtMost (sample_len width * most) old new
 samples_taken width old new samples most few read = record {
   bytes = flat_map (sample_spelling width) samples;
-  fits = omega (
-    arith,
-    length-samples width samples,
-    sample_len-mono width (length samples) most few,
-  );
+  fits = omega (arith, length-samples width samples, sample_len-mono width (length samples) most few);
   consumed = read;
 }
 
 -- samples that were read, and then a piece of which not all bytes were
 pub samples_taken_fewer : (width : Width) (old mid new : Option (List ℕ)) (samples : List Sample)
-    (count most : ℕ) → length samples + count ≤ most →
-    Consumes old mid (flat_map (sample_spelling width) samples) →
-    ConsumesFewer (sample_len width * count) mid new →
-    ConsumesFewer (sample_len width * most) old new
+    (count most : ℕ) → length samples + count ≤ most → Consumes old mid (flat_map (sample_spelling width) samples) →
+    ConsumesFewer (sample_len width * count) mid new → ConsumesFewer (sample_len width * most) old new
 samples_taken_fewer width old mid new samples count most few read more = record {
   bytes = flat_map (sample_spelling width) samples ++ more.bytes;
   fits = omega (
@@ -43,8 +36,7 @@ samples_taken_fewer width old mid new samples count most few read more = record 
 }
 
 -- fewer is at most
-pub fewer_at_most : (limit : ℕ) (old new : Option (List ℕ)) → ConsumesFewer limit old new →
-    ConsumesAtMost limit old new
+pub fewer_at_most : (limit : ℕ) (old new : Option (List ℕ)) → ConsumesFewer limit old new → ConsumesAtMost limit old new
 fewer_at_most limit old new fewer = record {
   bytes = fewer.bytes;
   fits = omega (arith, fewer.fits);
@@ -53,8 +45,7 @@ fewer_at_most limit old new fewer = record {
 
 -- `count` bytes of a buffer were taken, fewer than were wanted
 pub fewer_taken : (old new : Option (List ℕ)) (buf : List ℕ) (count wanted : ℕ) →
-    count ≤ length buf → count < wanted → Consumes old new (take count buf) →
-    ConsumesFewer wanted old new
+    count ≤ length buf → count < wanted → Consumes old new (take count buf) → ConsumesFewer wanted old new
 fewer_taken old new buf count wanted within few read = record {
   bytes = take count buf;
   fits = omega (arith, length-take-le count buf within, few);
@@ -85,11 +76,9 @@ short_is_no_failure place result short failed = cc
 pub cuts_short_whole : (width : Width) (e : FileFault) (old mid new : Option (List ℕ))
     (samples : List Sample) (count whole from place : ℕ) →
     length samples + count ≤ whole → place ≡ from + sample_len width * length samples →
-    Consumes old mid (flat_map (sample_spelling width) samples) →
-    CutsShort e (sample_len width * count) place mid new →
+    Consumes old mid (flat_map (sample_spelling width) samples) → CutsShort e (sample_len width * count) place mid new →
     CutsShort e (sample_len width * whole) from old new
-cuts_short_whole width (Short cut) None mid new samples count whole from place few here read fault =
-    tt
+cuts_short_whole width (Short cut) None mid new samples count whole from place few here read fault = tt
 cuts_short_whole width (Short cut) (Some xs) None new samples count whole from place few here read
     fault = absurd read
 cuts_short_whole width (Short cut) (Some xs) (Some ys) new samples count whole from place few here
@@ -102,18 +91,12 @@ cuts_short_whole width (Short cut) (Some xs) (Some ys) new samples count whole f
       fault.2,
     )
 cuts_short_whole width ReadFault old mid new samples count whole from place few here read fault = tt
-cuts_short_whole width Magic old mid new samples count whole from place few here read fault =
-    absurd fault
-cuts_short_whole width Version old mid new samples count whole from place few here read fault =
-    absurd fault
-cuts_short_whole width Flags old mid new samples count whole from place few here read fault =
-    absurd fault
-cuts_short_whole width Count old mid new samples count whole from place few here read fault =
-    absurd fault
-cuts_short_whole width (Extra cut) old mid new samples count whole from place few here read fault =
-    absurd fault
-cuts_short_whole width (TooFew n) old mid new samples count whole from place few here read fault =
-    absurd fault
+cuts_short_whole width Magic old mid new samples count whole from place few here read fault = absurd fault
+cuts_short_whole width Version old mid new samples count whole from place few here read fault = absurd fault
+cuts_short_whole width Flags old mid new samples count whole from place few here read fault = absurd fault
+cuts_short_whole width Count old mid new samples count whole from place few here read fault = absurd fault
+cuts_short_whole width (Extra cut) old mid new samples count whole from place few here read fault = absurd fault
+cuts_short_whole width (TooFew n) old mid new samples count whole from place few here read fault = absurd fault
 
 -- what a buffer holds up to a place, and the piece written there
 piece_more : (out part : List Sample) (done k count : ℕ) → done ≤ length out → length part ≡ count →
@@ -127,8 +110,7 @@ piece_more out part done k count within long =
 pub pieces_more : (width : Width) (old mid new : Option (List ℕ)) (out part : List Sample)
     (done k count : ℕ) → done ≤ length out → length part ≡ count →
     Consumes old mid (flat_map (sample_spelling width) (take done out)) →
-    Consumes mid new (flat_map (sample_spelling width) part) →
-    Consumes old new
+    Consumes mid new (flat_map (sample_spelling width) part) → Consumes old new
     (flat_map (sample_spelling width) (take (done + count) (put_mid done k out part)))
 pieces_more width old mid new out part done k count within long before read =
     let joined = flat_map-append (sample_spelling width) (take done out) part in
@@ -140,8 +122,7 @@ pieces_more width old mid new out part done k count within long before read =
     subst (Consumes old new) all (Consumes-trans old mid new _ _ before read)
 
 pub pieces_in_range : (width : Width) (out part : List Sample) (done k count : ℕ) →
-    done ≤ length out → length part ≡ count →
-    All (HasBits width) (take done out) → All (HasBits width) part →
+    done ≤ length out → length part ≡ count → All (HasBits width) (take done out) → All (HasBits width) part →
     All (HasBits width) (take (done + count) (put_mid done k out part))
 pieces_in_range width out part done k count within long before small =
     subst (All (HasBits width)) (piece_more out part done k count within long)

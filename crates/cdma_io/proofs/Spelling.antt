@@ -17,8 +17,7 @@ part_in width bytes = cast_signed (integer_width_of width) (big_number (part_len
 
 -- the sample in the first bytes of a list
 abbrev pub sample_in : Width → List ℕ → Sample
-sample_in width bytes =
-    record { i = part_in width bytes; q = part_in width (drop (part_len width) bytes) }
+sample_in width bytes = record { i = part_in width bytes; q = part_in width (drop (part_len width) bytes) }
 
 two_parts : (width : Width) → sample_len width ≡ part_len width + part_len width
 two_parts Sixteen = refl
@@ -43,12 +42,10 @@ length-sample_spelling Eight sample = refl
 part_bytes : (width : Width) (bytes : List ℕ) → length bytes ≡ part_len width → AreBytes bytes →
     part_spelling width (part_in width bytes) ≡ bytes
 part_bytes width bytes long small =
-    let below : big_number (part_len width) bytes < 256 ^ part_len width =
-    big_from-lt 0 (part_len width) bytes small in
+    let below : big_number (part_len width) bytes < 256 ^ part_len width = big_from-lt 0 (part_len width) bytes small in
     let fits : big_number (part_len width) bytes < 2 ^ bits (integer_width_of width) =
     omega (arith, below, part_values width) in
-    ap (big_bytes (part_len width))
-    (of_z-to_z (integer_width_of width) (big_number (part_len width) bytes) fits) ∙
+    ap (big_bytes (part_len width)) (of_z-to_z (integer_width_of width) (big_number (part_len width) bytes) fits) ∙
     big_bytes-number (part_len width) bytes long small
 
 -- a part in two's complement fits its bytes
@@ -80,8 +77,7 @@ sample_bytes width bytes long small =
     let first : pattern (big_number n front) ≡ front =
     part_bytes width front (length-take-le n bytes room) (AreBytes-take n bytes small) in
     let second : pattern (big_number n back) ≡ back =
-    part_bytes width back (omega (arith, both, length-drop n bytes))
-    (AreBytes-drop n bytes small) in
+    part_bytes width back (omega (arith, both, length-drop n bytes)) (AreBytes-drop n bytes small) in
     let read : big_number n bytes ≡ big_number n front = big_number-take n bytes room in
     sym (
     ap (λ (k : ℕ). pattern k ++ pattern (big_number n back)) read
@@ -103,8 +99,7 @@ spelled_wide bytes i q long small i_is q_is =
     ap (λ (xs : List ℕ). cast_signed w16 (big_number 2 xs)) back in
     let make : ℤ → ℤ → Sample = λ i q. record { i = i; q = q } in
     sample_bytes Sixteen bytes long small
-    ∙ ap (λ (x : ℤ). sample_spelling Sixteen
-    (make x (cast_signed w16 (big_number 2 (drop 2 bytes))))) (sym i_is)
+    ∙ ap (λ (x : ℤ). sample_spelling Sixteen (make x (cast_signed w16 (big_number 2 (drop 2 bytes))))) (sym i_is)
     ∙ ap (λ (x : ℤ). sample_spelling Sixteen (make i x)) (sym q_read)
 
 -- the sample that a reader made of two bytes, each of which it read at its place
@@ -119,8 +114,7 @@ spelled_narrow (a ∷ b ∷ []) i q long small i_is q_is =
     let second : big_number 1 (b ∷ []) ≡ b = omega arith in
     let make : ℤ → ℤ → Sample = λ i q. record { i = i; q = q } in
     sample_bytes Eight (a ∷ b ∷ []) refl small
-    ∙ ap (λ (n : ℕ). sample_spelling Eight
-    (make (cast_signed w8 n) (cast_signed w8 (big_number 1 (b ∷ []))))) first
+    ∙ ap (λ (n : ℕ). sample_spelling Eight (make (cast_signed w8 n) (cast_signed w8 (big_number 1 (b ∷ []))))) first
     ∙ ap (λ (n : ℕ). sample_spelling Eight (make (cast_signed w8 a) (cast_signed w8 n))) second
     ∙ ap (λ (x : ℤ). sample_spelling Eight (make x (cast_signed w8 b))) (sym i_is)
     ∙ ap (λ (x : ℤ). sample_spelling Eight (make i x)) (sym q_is)
@@ -131,8 +125,7 @@ one_byte n small = ap (λ (b : ℕ). b ∷ []) (mod-eq_of_lt small)
 
 -- the two bytes of a sample's parts
 pub spelled_by_bytes : (sample : Sample) (a b : ℕ) → a < 256 → b < 256 →
-    a ≡ cast_unsigned w8 sample.i → b ≡ cast_unsigned w8 sample.q →
-    a ∷ b ∷ [] ≡ sample_spelling Eight sample
+    a ≡ cast_unsigned w8 sample.i → b ≡ cast_unsigned w8 sample.q → a ∷ b ∷ [] ≡ sample_spelling Eight sample
 unfolding sample_spelling
 spelled_by_bytes sample a b small_a small_b a_is b_is =
     let first : big_bytes 1 (cast_unsigned w8 sample.i) ≡ a ∷ [] = ap (big_bytes 1) (sym a_is) ∙
@@ -158,10 +151,8 @@ sample_in-spelling width sample rest small =
     let n = part_len width in
     let first = part_spelling width sample.i in
     let second = part_spelling width sample.q in
-    let parted : sample_spelling width sample ++ rest ≡ first ++ (second ++ rest) =
-    append_assoc first second rest in
-    let long : length first ≡ n =
-    length-bytes_high_first n (cast_unsigned (integer_width_of width) sample.i) in
+    let parted : sample_spelling width sample ++ rest ≡ first ++ (second ++ rest) = append_assoc first second rest in
+    let long : length first ≡ n = length-bytes_high_first n (cast_unsigned (integer_width_of width) sample.i) in
     let i_read : part_in width (sample_spelling width sample ++ rest) ≡ sample.i =
     ap (part_in width) parted ∙ part_in-spelling width sample.i (second ++ rest) small.in_phase in
     let q_read : part_in width (drop n (sample_spelling width sample ++ rest)) ≡ sample.q =
@@ -184,13 +175,11 @@ length-samples width (x ∷ xs) =
     )
 
 -- more samples have more bytes
-pub sample_len-mono : (width : Width) (m n : ℕ) → m ≤ n →
-    sample_len width * m ≤ sample_len width * n
+pub sample_len-mono : (width : Width) (m n : ℕ) → m ≤ n → sample_len width * m ≤ sample_len width * n
 sample_len-mono width m n few = mul-le-mul_left (sample_len width) few
 
 -- the bytes of samples fix them
-pub flat_map-sample_spelling : (width : Width) (xs ys : List Sample) → All (HasBits width) xs →
-    All (HasBits width) ys →
+pub flat_map-sample_spelling : (width : Width) (xs ys : List Sample) → All (HasBits width) xs → All (HasBits width) ys →
     flat_map (sample_spelling width) xs ≡ flat_map (sample_spelling width) ys → xs ≡ ys
 flat_map-sample_spelling width [] [] small_x small_y same = refl
 flat_map-sample_spelling width [] (y ∷ ys) small_x small_y same =
@@ -217,8 +206,7 @@ flat_map-sample_spelling width (x ∷ xs) (y ∷ ys) small_x small_y same =
     ∙ ap (sample_in width) same
     ∙ sample_in-spelling width y ys_bytes (All-head (HasBits width) y ys small_y) in
     let rest : xs_bytes ≡ ys_bytes =
-    sym (drop_at (sample_spelling width x) xs_bytes (sample_len width)
-    (length-sample_spelling width x))
+    sym (drop_at (sample_spelling width x) xs_bytes (sample_len width) (length-sample_spelling width x))
     ∙ ap (drop (sample_len width)) same
     ∙ drop_at (sample_spelling width y) ys_bytes (sample_len width) (length-sample_spelling width y)
     in
@@ -229,11 +217,9 @@ flat_map-sample_spelling width (x ∷ xs) (y ∷ ys) small_x small_y same =
 
 -- the step of a reader's loop over samples: the bytes of one more
 pub samples_more : (width : Width) (bytes : List ℕ) (out : List Sample) (k from end : ℕ)
-    (sample : Sample) → k < length out →
-    from ≡ sample_len width * k → end ≡ sample_len width * (k + 1) →
+    (sample : Sample) → k < length out → from ≡ sample_len width * k → end ≡ sample_len width * (k + 1) →
     take (sample_len width * k) bytes ≡ flat_map (sample_spelling width) (take k out) →
-    take (end - from) (drop from bytes) ≡ sample_spelling width sample →
-    take (sample_len width * (k + 1)) bytes ≡
+    take (end - from) (drop from bytes) ≡ sample_spelling width sample → take (sample_len width * (k + 1)) bytes ≡
     flat_map (sample_spelling width) (take (k + 1) (set out k sample))
 samples_more width bytes out k from end sample within from_is end_is before next =
     let n = sample_len width in
@@ -254,8 +240,7 @@ samples_more width bytes out k from end sample within from_is end_is before next
     ∙ sym joined
 
 pub in_range_more : (width : Width) (out : List Sample) (k : ℕ) (sample : Sample) → k < length out →
-    All (HasBits width) (take k out) → (HasBits width) sample →
-    All (HasBits width) (take (k + 1) (set out k sample))
+    All (HasBits width) (take k out) → (HasBits width) sample → All (HasBits width) (take (k + 1) (set out k sample))
 in_range_more width out k sample within before small =
     subst (All (HasBits width)) (sym (take_more_set out k sample within))
     (All-push (HasBits width) (take k out) sample before small)
@@ -267,12 +252,10 @@ pub record AreNext (width : Width) (samples next : List Sample) (rest : List ℕ
 
 -- the samples that the bytes of samples begin with are the first of them
 pub next_samples : (width : Width) (next samples : List Sample) (rest : List ℕ) →
-    All (HasBits width) samples → All (HasBits width) next →
-    length next ≤ length samples →
+    All (HasBits width) samples → All (HasBits width) next → length next ≤ length samples →
     flat_map (sample_spelling width) samples ≡ flat_map (sample_spelling width) next ++ rest →
     AreNext width samples next rest
-next_samples width [] samples rest small small_next fits same =
-    record { first = refl; others = sym same }
+next_samples width [] samples rest small small_next fits same = record { first = refl; others = sym same }
 next_samples width (y ∷ ys) [] rest small small_next fits same = absurd (omega arith)
 next_samples width (y ∷ ys) (x ∷ xs) rest small small_next fits same =
     let xs_bytes = flat_map (sample_spelling width) xs in
@@ -284,8 +267,7 @@ next_samples width (y ∷ ys) (x ∷ xs) rest small small_next fits same =
     ∙ ap (sample_in width) regrouped
     ∙ sample_in-spelling width y ys_bytes (All-head (HasBits width) y ys small_next) in
     let back : xs_bytes ≡ ys_bytes =
-    sym (drop_at (sample_spelling width x) xs_bytes (sample_len width)
-    (length-sample_spelling width x))
+    sym (drop_at (sample_spelling width x) xs_bytes (sample_len width) (length-sample_spelling width x))
     ∙ ap (drop (sample_len width)) regrouped
     ∙ drop_at (sample_spelling width y) ys_bytes (sample_len width) (length-sample_spelling width y)
     in

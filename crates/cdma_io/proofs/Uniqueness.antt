@@ -9,26 +9,22 @@ use Rattle.cdma_io.proofs.Spelling.{flat_map-sample_spelling}
 -- of both lists of samples, which fixes each sample.
 pub file_unique : (bytes : List ℕ) (header other_header : Header)
     (samples other_samples : List Sample) → IsSampleFile bytes header samples →
-    IsSampleFile bytes other_header other_samples →
-    (header ≡ other_header) × (samples ≡ other_samples)
+    IsSampleFile bytes other_header other_samples → (header ≡ other_header) × (samples ≡ other_samples)
 file_unique bytes header other_header samples other_samples file other =
     let first : opening bytes ≡ Ok header =
     ap opening file.spelled ∙
     opening-spelled header (flat_map (sample_spelling (width_of header)) samples) file.lawful in
     let second : opening bytes ≡ Ok other_header =
     ap opening other.spelled ∙
-    opening-spelled other_header
-    (flat_map (sample_spelling (width_of other_header)) other_samples) other.lawful in
+    opening-spelled other_header (flat_map (sample_spelling (width_of other_header)) other_samples) other.lawful in
     let headers : header ≡ other_header = cc in
     let width = width_of header in
     let same : width_of other_header ≡ width = ap width_of (sym headers) in
     let bodies : flat_map (sample_spelling width) samples ≡
     flat_map (sample_spelling width) other_samples =
-    sym (drop_at (header_spelling header) (flat_map (sample_spelling width) samples) 16
-    (length-header_spelling header))
+    sym (drop_at (header_spelling header) (flat_map (sample_spelling width) samples) 16 (length-header_spelling header))
     ∙ ap (drop 16) (sym file.spelled ∙ other.spelled)
-    ∙ drop_at (header_spelling other_header)
-    (flat_map (sample_spelling (width_of other_header)) other_samples) 16
+    ∙ drop_at (header_spelling other_header) (flat_map (sample_spelling (width_of other_header)) other_samples) 16
     (length-header_spelling other_header)
     ∙ ap (λ (w : Width). flat_map (sample_spelling w) other_samples) same in
     let in_range : All (HasBits width) other_samples =

@@ -15,8 +15,7 @@ pub scaled_sum : (a b : ℤ) (z : Pair) → plus (scaled a z) (scaled b z) ≡ s
 scaled_sum a b z = rw (distrib_right a b z.i, distrib_right a b z.q) refl
 
 pub times_moved : (l s z : ℤ) → l *ℤ (s *ℤ z) ≡ (s *ℤ l) *ℤ z
-times_moved l s z =
-    rw (split l, split s, split z) (simp diff-times (diff-same _ _ _ _ (omega arith)))
+times_moved l s z = rw (split l, split s, split z) (simp diff-times (diff-same _ _ _ _ (omega arith)))
 
 times_scaled : (l z : Pair) (s : ℤ) → times l (scaled s z) ≡ times (scaled s l) z
 times_scaled l z s =
@@ -32,11 +31,9 @@ one_symbol zero = refl
 one_symbol (suc n) = refl
 
 -- the pilot's amplitude is its gain
-pub pilot_amplitude : (plan : CellPlan) (chip : ℕ) →
-    amplitude chip (pilot_carrier plan) ≡ pos plan.pilot.gain
+pub pilot_amplitude : (plan : CellPlan) (chip : ℕ) → amplitude chip (pilot_carrier plan) ≡ pos plan.pilot.gain
 pilot_amplitude plan chip =
-    rw (walsh-pilot (chip % 64), le-ltb chip 0 (omega arith), one_symbol ((chip - 0) % 64 / 64))
-    (omega (arith, ints))
+    rw (walsh-pilot (chip % 64), le-ltb chip 0 (omega arith), one_symbol ((chip - 0) % 64 / 64)) (omega (arith, ints))
 
 pub scaled_none : (z : Pair) → scaled (pos 0) z ≡ origin
 scaled_none z =
@@ -55,8 +52,7 @@ sent_is pn chip (c ∷ cs) =
     ∙ scaled_sum (amplitude chip c) (amplitudes chip cs) z
 
 -- so is a sample, with the link
-pub signal_of_carriers : (plan : CellPlan) (t : ℕ) →
-    sample_of plan t
+pub signal_of_carriers : (plan : CellPlan) (t : ℕ) → sample_of plan t
     ≡ times (scaled (amplitudes (plan.link.start + t) (carriers plan)) plan.link.factor)
     (code_point (plan.link.start + t + 32768 - 64 * plan.cell.pn))
 unfolding sample_of
@@ -70,8 +66,7 @@ signal_of_carriers plan t =
 
 product_most : (a b : ℤ) → unsigned_abs b ≤ 1 → unsigned_abs (a *ℤ b) ≤ unsigned_abs a
 product_most a b unit =
-    let most : unsigned_abs a * unsigned_abs b ≤ unsigned_abs a * 1 =
-    mul-le-mul_left (unsigned_abs a) unit in
+    let most : unsigned_abs a * unsigned_abs b ≤ unsigned_abs a * 1 = mul-le-mul_left (unsigned_abs a) unit in
     omega (arith, most, unsigned_abs-mul a b)
 
 level_most : (gain : ℕ) (symbol : Option Bool) → unsigned_abs (level_of gain symbol) ≤ gain
@@ -92,34 +87,26 @@ gains (c ∷ cs) = c.gain + gains cs
 pub amplitudes_most : (chip : ℕ) (cs : List Carrier) → unsigned_abs (amplitudes chip cs) ≤ gains cs
 amplitudes_most chip [] = omega arith
 amplitudes_most chip (c ∷ cs) =
-    omega (
-      arith,
-      abs_sum (amplitude chip c) (amplitudes chip cs),
-      amplitude_most chip c,
-      amplitudes_most chip cs,
-    )
+    omega (arith, abs_sum (amplitude chip c) (amplitudes chip cs), amplitude_most chip c, amplitudes_most chip cs)
 
 -- channels after others add their gains
 pub gains_append : (cs ds : List Carrier) → gains (cs ++ ds) ≡ gains cs + gains ds
 gains_append [] ds = omega arith
 gains_append (c ∷ cs) ds = omega (arith, gains_append cs ds)
 
-pub sync_gains : (plan : CellPlan) (sync : Option SyncPlan) →
-    gains (sync_carriers plan sync) ≡ sync_gain sync
+pub sync_gains : (plan : CellPlan) (sync : Option SyncPlan) → gains (sync_carriers plan sync) ≡ sync_gain sync
 sync_gains plan None = refl
 sync_gains plan (Some sync) = omega arith
 
 pub paging_gains-is : (plan : CellPlan) (paging : List PagingPlan) →
     gains (map (paging_carrier plan) paging) ≡ paging_gains paging
 paging_gains-is plan [] = refl
-paging_gains-is plan (p ∷ paging) =
-    ap (λ (n : ℕ). p.gain + n) (paging_gains-is plan paging)
+paging_gains-is plan (p ∷ paging) = ap (λ (n : ℕ). p.gain + n) (paging_gains-is plan paging)
 
 pub traffic_gains-is : (plan : CellPlan) (traffic : List TrafficPlan) →
     gains (map (traffic_carrier plan) traffic) ≡ traffic_gains traffic
 traffic_gains-is plan [] = refl
-traffic_gains-is plan (t ∷ traffic) =
-    ap (λ (n : ℕ). t.gain + n) (traffic_gains-is plan traffic)
+traffic_gains-is plan (t ∷ traffic) = ap (λ (n : ℕ). t.gain + n) (traffic_gains-is plan traffic)
 
 plan_gains : (plan : CellPlan) → gains (carriers plan) ≡ gain_sum plan
 unfolding carriers
@@ -143,8 +130,7 @@ scaled_most s a b most below =
 
 -- a chip of a block is at most as loud as the plan
 pub chip_most : (plan : CellPlan) (chip : ℕ) (z : Pair) →
-    z ≡ scaled (amplitudes chip (carriers plan)) plan.link.factor →
-    unsigned_abs z.i + unsigned_abs z.q ≤ loudness plan
+    z ≡ scaled (amplitudes chip (carriers plan)) plan.link.factor → unsigned_abs z.i + unsigned_abs z.q ≤ loudness plan
 chip_most plan chip z is =
     let sum = amplitudes chip (carriers plan) in
     let most : unsigned_abs sum ≤ gain_sum plan =
@@ -156,8 +142,7 @@ one_sync : (plan : CellPlan) (sync : Option SyncPlan) → length (sync_carriers 
 one_sync plan None = omega arith
 one_sync plan (Some sync) = omega arith
 
-pub few_channels : (plan : CellPlan) → length plan.paging ≤ 7 → length plan.traffic ≤ 62 →
-    length (carriers plan) ≤ 128
+pub few_channels : (plan : CellPlan) → length plan.paging ≤ 7 → length plan.traffic ≤ 62 → length (carriers plan) ≤ 128
 unfolding carriers
 few_channels plan few few_traffic =
     let sync = sync_carriers plan plan.sync in
@@ -187,8 +172,7 @@ most_part_small Eight = omega arith
 
 -- the parts of a chip of a block, with any signs, fit the width of a lawful plan
 pub chip_fits : (width : Width) (plan : CellPlan) (at_chip : ℕ) (chip : Pair) (result : Sample) →
-    chip ≡ scaled (amplitudes at_chip (carriers plan)) plan.link.factor →
-    loudness plan ≤ most_part width →
+    chip ≡ scaled (amplitudes at_chip (carriers plan)) plan.link.factor → loudness plan ≤ most_part width →
     unsigned_abs result.i ≤ unsigned_abs chip.i + unsigned_abs chip.q →
     unsigned_abs result.q ≤ unsigned_abs chip.i + unsigned_abs chip.q → HasBits width result
 chip_fits width plan at_chip chip result is loud i q =

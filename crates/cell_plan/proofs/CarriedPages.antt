@@ -14,8 +14,7 @@ pub puts_lawful : (size : ℕ) (form : CheckForm) (l : laying.Laid) (pages : Lis
 puts_lawful size form l [] count laid are heard = tt
 puts_lawful size form l (page ∷ pages) count laid are heard =
     let c = capsule M30 form page.body in
-    let long : length c ≡ 38 + length page.body =
-    omega (arith, length-capsule M30 form page.body) in
+    let long : length c ≡ 38 + length page.body = omega (arith, length-capsule M30 form page.body) in
     let next : length (laying.laid_on size l page.follows c).body
     ≡ laid_after size count page.follows (38 + length page.body) =
     length-on size l page.follows c
@@ -27,15 +26,13 @@ puts_lawful size form l (page ∷ pages) count laid are heard =
           (laid_after size count page.follows (38 + length page.body)) next are.2 heard.2,
     )
 
-capsules_of : (form : CheckForm) (pages : List Page) →
-    map (λ (p : laying.Put). p.capsule) (map (put_of form) pages)
+capsules_of : (form : CheckForm) (pages : List Page) → map (λ (p : laying.Put). p.capsule) (map (put_of form) pages)
     ≡ map (λ (page : Page). capsule M30 form page.body) pages
 capsules_of form [] = refl
 capsules_of form (page ∷ pages) =
     ap (λ (cs : List (List Bool)). capsule M30 form page.body ∷ cs) (capsules_of form pages)
 
-pub channel_carried : (rate : Rate) (form : CheckForm) (p : PagingPlan) → IsStatedPaging rate p →
-    IsCarried rate form p
+pub channel_carried : (rate : Rate) (form : CheckForm) (p : PagingPlan) → IsStatedPaging rate p → IsCarried rate form p
 unfolding page_cycle
 channel_carried rate form p is =
     laid_is_carried (half_frame_body rate) (map (put_of form) p.pages) (rate_large rate)

@@ -12,11 +12,9 @@ use Rattle.cell_plan.specs.Pages as specs
 -- ---- one page more
 
 laid_all-more : (size : ℕ) (l : laying.Laid) (puts : List laying.Put) (p : laying.Put) →
-    laying.laid_all size l (puts ++ p ∷ [])
-    ≡ laying.laid_on size (laying.laid_all size l puts) p.follows p.capsule
+    laying.laid_all size l (puts ++ p ∷ []) ≡ laying.laid_on size (laying.laid_all size l puts) p.follows p.capsule
 laid_all-more size l [] p = refl
-laid_all-more size l (q ∷ puts) p =
-    laid_all-more size (laying.laid_on size l q.follows q.capsule) puts p
+laid_all-more size l (q ∷ puts) p = laid_all-more size (laying.laid_on size l q.follows q.capsule) puts p
 
 pub no_page : Page
 no_page = record { follows = false; body = [] }
@@ -28,16 +26,13 @@ pub laid_more : (size : ℕ) (form : CheckForm) (pages : List Page) (k : ℕ) �
 laid_more size form pages k lt =
     let page = get_or pages k no_page in
     ap (specs.laid_pages size form) (take_more pages k no_page lt)
-    ∙ ap (laying.laid_all size laying.nothing_laid)
-    (map-append (specs.put_of form) (take k pages) (page ∷ []))
-    ∙ laid_all-more size laying.nothing_laid (map (specs.put_of form) (take k pages))
-    (specs.put_of form page)
+    ∙ ap (laying.laid_all size laying.nothing_laid) (map-append (specs.put_of form) (take k pages) (page ∷ []))
+    ∙ laid_all-more size laying.nothing_laid (map (specs.put_of form) (take k pages)) (specs.put_of form page)
 
 -- ---- how many bits
 
 pub length-on : (size : ℕ) (l : laying.Laid) (follow : Bool) (c : List Bool) →
-    length (laying.laid_on size l follow c).body
-    ≡ specs.laid_after size (length l.body) follow (length c)
+    length (laying.laid_on size l follow c).body ≡ specs.laid_after size (length l.body) follow (length c)
 unfolding laying.laid_on
 length-on size l true c = length-append l.body c
 length-on size l false c =
@@ -53,15 +48,13 @@ length-on size l false c =
 -- its SCI bit and `size` body bits, since the body is long enough for it.
 whole_halves : (size : ℕ) (starts : List ℕ) (body : List Bool) (h : ℕ) → size * h ≤ length body →
     length (flat_map (laying.half_frame size starts body) (places h)) ≡ h + size * h
-whole_halves size starts body zero within =
-    ap length (flat_map-zero (laying.half_frame size starts body)) ∙ omega arith
+whole_halves size starts body zero within = ap length (flat_map-zero (laying.half_frame size starts body)) ∙ omega arith
 whole_halves size starts body (suc h) within =
     let next : suc h ≡ h + 1 = omega arith in
     let more : size * suc h ≡ size * h + size = omega arith in
     let f = laying.half_frame size starts body in
     let here : length (take size (drop (size * h) body)) ≡ size =
-    length-take-le size (drop (size * h) body)
-    (omega (arith, within, more, length-drop (size * h) body)) in
+    length-take-le size (drop (size * h) body) (omega (arith, within, more, length-drop (size * h) body)) in
     omega (
       arith,
       ap (λ (n : ℕ). length (flat_map f (places n))) next,
@@ -77,8 +70,7 @@ fill_few : (size count : ℕ) → 0 < size → laying.fill size count < size
 unfolding laying.fill
 fill_few size count large = mod-lt (size - count % size) large
 
-half_frames_whole : (size : ℕ) (l : laying.Laid) → 0 < size →
-    length (laying.half_frames_of size l)
+half_frames_whole : (size : ℕ) (l : laying.Laid) → 0 < size → length (laying.half_frames_of size l)
     ≡ width size (length l.body) + size * width size (length l.body)
 unfolding laying.half_frames_of
 half_frames_whole size l large =
@@ -108,8 +100,7 @@ pub record IsLaying (size : ℕ) (form : CheckForm) (pages : List Page) (k : ℕ
     (layout : laying.Place) (bits : List Bool) : Type 0 where
   pub same : layout.size ≡ size
   pub laid : laying.HasLaid layout (specs.laid_pages size form (take k pages)) bits
-  pub left : specs.AreSendable size (length (specs.laid_pages size form (take k pages)).body)
-      (drop k pages)
+  pub left : specs.AreSendable size (length (specs.laid_pages size form (take k pages)).body) (drop k pages)
   pub some : k ≤ length (specs.laid_pages size form (take k pages)).body
   pub most : length bits ≤ 8192
 
@@ -125,15 +116,12 @@ laid_none size form pages layout bits same laid none are = record {
 }
 
 -- the next page, and those after it
-pub here : (size count k : ℕ) (pages : List Page) → k < length pages →
-    specs.AreSendable size count (drop k pages) →
+pub here : (size count k : ℕ) (pages : List Page) → k < length pages → specs.AreSendable size count (drop k pages) →
     specs.AreSendable size count (get_or pages k no_page ∷ drop (k + 1) pages)
 here size count k pages lt are =
-    subst (specs.AreSendable size count)
-    (at_drop_more (λ (ps : List Page). ps) pages k no_page lt) are
+    subst (specs.AreSendable size count) (at_drop_more (λ (ps : List Page). ps) pages k no_page lt) are
 
-after_most : (size count : ℕ) (follows : Bool) (bits : ℕ) →
-    count + bits ≤ specs.laid_after size count follows bits
+after_most : (size count : ℕ) (follows : Bool) (bits : ℕ) → count + bits ≤ specs.laid_after size count follows bits
 after_most size count true bits = omega arith
 after_most size count false bits = omega arith
 
@@ -153,13 +141,11 @@ laid_next size form pages k layout next bits more large lt is same put =
     let before = specs.laid_pages size form (take k pages) in
     let after = specs.laid_pages size form (take (k + 1) pages) in
     let c = capsule M30 form page.body in
-    let long : length c ≡ 38 + length page.body =
-    omega (arith, length-capsule M30 form page.body) in
+    let long : length c ≡ 38 + length page.body = omega (arith, length-capsule M30 form page.body) in
     let step : after ≡ laying.laid_on size before page.follows c = laid_more size form pages k lt in
     let laid : laying.HasLaid next after more =
     subst (λ (m : laying.Laid). laying.HasLaid next m more)
-    (ap (λ (s : ℕ). laying.laid_on s before page.follows c) is.same ∙ sym step)
-    (put before is.laid) in
+    (ap (λ (s : ℕ). laying.laid_on s before page.follows c) is.same ∙ sym step) (put before is.laid) in
     let sendable = here size (length before.body) k pages lt is.left in
     let count : length after.body
     ≡ specs.laid_after size (length before.body) page.follows (38 + length page.body) =
@@ -187,18 +173,15 @@ laid_next size form pages k layout next bits more large lt is same put =
 
 -- all pages
 pub laid_all_pages : (size : ℕ) (form : CheckForm) (pages : List Page) (k : ℕ)
-    (layout : laying.Place) (bits : List Bool) → length pages ≤ k →
-    IsLaying size form pages k layout bits →
+    (layout : laying.Place) (bits : List Bool) → length pages ≤ k → IsLaying size form pages k layout bits →
     bits ≡ laying.framed size (specs.laid_pages size form pages)
 laid_all_pages size form pages k layout bits all is =
     is.laid.spelled
     ∙ ap (λ (s : ℕ). laying.framed s (specs.laid_pages size form (take k pages))) is.same
-    ∙ ap (λ (ps : List Page). laying.framed size (specs.laid_pages size form ps))
-    (take_all k pages all)
+    ∙ ap (λ (ps : List Page). laying.framed size (specs.laid_pages size form ps)) (take_all k pages all)
 
 pub some_laid : (size : ℕ) (form : CheckForm) (pages : List Page) (k : ℕ)
-    (layout : laying.Place) (bits : List Bool) → 0 < size → IsLaying size form pages k layout bits →
-    k ≤ length bits
+    (layout : laying.Place) (bits : List Bool) → 0 < size → IsLaying size form pages k layout bits → k ≤ length bits
 some_laid size form pages k layout bits large is =
     let l = specs.laid_pages size form (take k pages) in
     omega (
@@ -212,8 +195,7 @@ some_laid size form pages k layout bits large is =
 -- ---- whole half-frames
 
 -- the zeros up to whole half-frames are those that fill them, where they are fewer than one has
-fill_by : (size count zeros h : ℕ) → zeros < size → count + zeros ≡ size * h →
-    laying.fill size count ≡ zeros
+fill_by : (size count zeros h : ℕ) → zeros < size → count + zeros ≡ size * h → laying.fill size count ≡ zeros
 unfolding laying.fill
 fill_by size count zero h few all =
     let turned : count ≡ h * size + 0 = omega (arith, all) in
@@ -224,8 +206,7 @@ fill_by size count (suc zeros) zero few all = absurd (omega (arith, all))
 fill_by size count (suc zeros) (suc h) few all =
     let begun = size - suc zeros in
     let turned : count ≡ h * size + begun = omega (arith, all, few) in
-    let rest : count % size ≡ begun =
-    ap (λ (n : ℕ). n % size) turned ∙ mod-mul-add h size begun (omega (arith, few)) in
+    let rest : count % size ≡ begun = ap (λ (n : ℕ). n % size) turned ∙ mod-mul-add h size begun (omega (arith, few)) in
     let left : size - count % size ≡ suc zeros = omega (arith, rest, few) in
     ap (λ (n : ℕ). n % size) left ∙ mod-eq_of_lt few
 
@@ -236,11 +217,9 @@ size_large rate = omega (arith, rate_large rate)
 -- their length is that of the pages' bits with one SCI bit for each half-frame, so the zeros that
 -- were added are those of the definition.
 pub cycle_is : (rate : Rate) (form : CheckForm) (pages : List Page) (half : ℕ)
-    (bits cycle : List Bool) → half ≡ half_frame_body rate + 1 →
-    bits
+    (bits cycle : List Bool) → half ≡ half_frame_body rate + 1 → bits
     ≡ laying.framed (half_frame_body rate) (specs.laid_pages (half_frame_body rate) form pages) →
-    cycle ≡ bits ++ replicate (laying.fill half (length bits)) false →
-    cycle ≡ specs.page_cycle rate form pages
+    cycle ≡ bits ++ replicate (laying.fill half (length bits)) false → cycle ≡ specs.page_cycle rate form pages
 unfolding specs.page_cycle
 cycle_is rate form pages half bits cycle half_is framed completed =
     let size = half_frame_body rate in

@@ -7,14 +7,12 @@ read64 z small = to_z-of_z w64 z (fits_signed_from_abs w64 z (omega (arith, smal
 
 -- ---- a level times a part of the link, added to a sum
 
-pub product_most : (l f : ℤ) → unsigned_abs l ≤ 65535 → unsigned_abs f ≤ 32768 →
-    unsigned_abs (l *ℤ f) ≤ 2 ^ 31
+pub product_most : (l f : ℤ) → unsigned_abs l ≤ 65535 → unsigned_abs f ≤ 32768 → unsigned_abs (l *ℤ f) ≤ 2 ^ 31
 product_most l f small low =
     let most : unsigned_abs l * unsigned_abs f ≤ 65535 * 32768 = mul-le-mul small low in
     omega (arith, most, unsigned_abs-mul l f)
 
-pub level_added : (s l f : ℤ) → unsigned_abs s ≤ 2 ^ 39 → unsigned_abs l ≤ 65535 →
-    unsigned_abs f ≤ 32768 →
+pub level_added : (s l f : ℤ) → unsigned_abs s ≤ 2 ^ 39 → unsigned_abs l ≤ 65535 → unsigned_abs f ≤ 32768 →
     to_z w64 (of_z w64
     (to_z w64 (of_z w64 s) +ℤ to_z w64 (of_z w64 (to_z w64 (of_z w64 l) *ℤ to_z w64 (of_z w64 f)))))
     ≡ s +ℤ (l *ℤ f)

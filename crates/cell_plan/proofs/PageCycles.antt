@@ -44,8 +44,7 @@ mixed_all symbols chips out k all more is =
 -- ---- the bits of a frame
 
 -- two half-frames have the bits of a frame
-pub frame_bits-is : (rate : Rate) (n : ℕ) → n * repeats_of rate ≡ 192 →
-    n ≡ cycles.paging_frame_size rate
+pub frame_bits-is : (rate : Rate) (n : ℕ) → n * repeats_of rate ≡ 192 → n ≡ cycles.paging_frame_size rate
 frame_bits-is rates.R9600 n e = omega (arith, e)
 frame_bits-is rates.R4800 n e = omega (arith, e)
 frame_bits-is rates.R2400 n e = omega (arith, e)
@@ -55,25 +54,19 @@ frame_bits-is rates.R1200 n e = omega (arith, e)
 abbrev pub bit_of_frame : List Bool → ℕ → ℕ → ℕ → Bool
 bit_of_frame cycle size frame i = get_or cycle ((size * frame + i) % length cycle) false
 
-pub no_bits : (cycle : List Bool) (size frame : ℕ) →
-    [] ≡ map (bit_of_frame cycle size frame) (places 0)
+pub no_bits : (cycle : List Bool) (size frame : ℕ) → [] ≡ map (bit_of_frame cycle size frame) (places 0)
 no_bits cycle size frame = rw places-none refl
 
-pub bit_more : (cycle bits : List Bool) (size frame k : ℕ) →
-    bits ≡ map (bit_of_frame cycle size frame) (places k) →
-    bits ++ bit_of_frame cycle size frame k ∷ []
-    ≡ map (bit_of_frame cycle size frame) (places (k + 1))
+pub bit_more : (cycle bits : List Bool) (size frame k : ℕ) → bits ≡ map (bit_of_frame cycle size frame) (places k) →
+    bits ++ bit_of_frame cycle size frame k ∷ [] ≡ map (bit_of_frame cycle size frame) (places (k + 1))
 bit_more cycle bits size frame k is =
     ap (λ (b : List Bool). b ++ bit_of_frame cycle size frame k ∷ []) is
     ∙ sym (map-places-more (bit_of_frame cycle size frame) k)
 
-pub frame_is : (c : cycles.Cycle) (bits : List Bool) (size frame k : ℕ) →
-    size ≡ cycles.paging_frame_size c.rate →
-    k ≡ size → bits ≡ map (bit_of_frame c.bits size frame) (places k) →
-    bits ≡ cycles.cycle_frame_bits c frame
+pub frame_is : (c : cycles.Cycle) (bits : List Bool) (size frame k : ℕ) → size ≡ cycles.paging_frame_size c.rate →
+    k ≡ size → bits ≡ map (bit_of_frame c.bits size frame) (places k) → bits ≡ cycles.cycle_frame_bits c frame
 unfolding cycles.cycled
 frame_is c bits size frame k size_is all is =
     is
     ∙ ap (λ (n : ℕ). map (bit_of_frame c.bits size frame) (places n)) (all ∙ size_is)
-    ∙ ap (λ (n : ℕ). map (bit_of_frame c.bits n frame)
-    (places (cycles.paging_frame_size c.rate))) size_is
+    ∙ ap (λ (n : ℕ). map (bit_of_frame c.bits n frame) (places (cycles.paging_frame_size c.rate))) size_is

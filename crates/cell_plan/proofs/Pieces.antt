@@ -12,22 +12,18 @@ pub piece_of_samples : (plan : CellPlan) (given n : ℕ) → given + n ≤ plan.
 unfolding samples_of
 piece_of_samples plan given n within =
     let all = map (sample_of plan) (places plan.link.samples) in
-    let long : length all ≡ plan.link.samples =
-    length-map-places (sample_of plan) plan.link.samples in
+    let long : length all ≡ plan.link.samples = length-map-places (sample_of plan) plan.link.samples in
     let rest : n ≤ length (drop given all) = omega (arith, within, long, length-drop given all) in
     map-places-all (λ k. sample_of plan (given + k)) (take n (drop given all)) n origin
     (length-take-le n (drop given all) rest)
     (λ k lt. get_or-take n (drop given all) k origin lt ∙ get_or-drop given all k origin
-    ∙ get_or-map-places (sample_of plan) plan.link.samples (given + k) origin
-    (omega (arith, within, lt)))
+    ∙ get_or-map-places (sample_of plan) plan.link.samples (given + k) origin (omega (arith, within, lt)))
 
 -- samples that are those of the definition, one by one
-pub pieces_are : (plan : CellPlan) (given : ℕ) (out : List Sample) →
-    given + length out ≤ plan.link.samples →
+pub pieces_are : (plan : CellPlan) (given : ℕ) (out : List Sample) → given + length out ≤ plan.link.samples →
     ((k : ℕ) → k < length out → of_sample (get_or out k no_sample) ≡ sample_of plan (given + k)) →
     map of_sample out ≡ take (length out) (drop given (samples_of plan))
 pieces_are plan given out within each =
-    map-places-all (λ k. sample_of plan (given + k)) (map of_sample out) (length out) origin
-    (length-map out of_sample)
+    map-places-all (λ k. sample_of plan (given + k)) (map of_sample out) (length out) origin (length-map out of_sample)
     (λ k lt. get_or-map of_sample out k no_sample origin lt ∙ each k lt)
     ∙ sym (piece_of_samples plan given (length out) within)

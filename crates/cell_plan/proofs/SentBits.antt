@@ -6,8 +6,7 @@ pub before-first : (bits : ℕ → List Bool) → binary 8 0 ≡ bits_before bit
 unfolding binary bits_before
 before-first bits = refl
 
-before-next : (bits : ℕ → List Bool) (k : ℕ) →
-    bits_before bits (k + 1) ≡ drop (length (bits k) - 8) (bits k)
+before-next : (bits : ℕ → List Bool) (k : ℕ) → bits_before bits (k + 1) ≡ drop (length (bits k) - 8) (bits k)
 unfolding bits_before
 before-next bits k = rw add-one refl
 
@@ -20,8 +19,7 @@ last_eight start bits eight enough =
 
 -- after a frame of eight bits or more the encoder is in the next frame's first state
 pub last_before : (bits : ℕ → List Bool) (k start last : ℕ) (frame : List Bool) → frame ≡ bits k →
-    8 ≤ length frame → binary 8 last ≡ state_after (binary 8 start) frame →
-    binary 8 last ≡ bits_before bits (k + 1)
+    8 ≤ length frame → binary 8 last ≡ state_after (binary 8 start) frame → binary 8 last ≡ bits_before bits (k + 1)
 last_before bits k start last frame is enough following =
     following ∙ last_eight (binary 8 start) frame (length-binary 8 start) enough
     ∙ ap (λ (b : List Bool). drop (length b - 8) b) is ∙ sym (before-next bits k)
@@ -34,8 +32,7 @@ continued_is bits (suc k) = refl
 
 -- the code symbols of a frame
 pub coded : (bits : ℕ → List Bool) (k start : ℕ) (frame code : List Bool) → frame ≡ bits k →
-    binary 8 start ≡ bits_before bits k → code ≡ code_symbols (binary 8 start) frame →
-    code ≡ continued_symbols bits k
+    binary 8 start ≡ bits_before bits k → code ≡ code_symbols (binary 8 start) frame → code ≡ continued_symbols bits k
 coded bits k start frame code is before coded_is =
     coded_is
     ∙ ap (λ (b : List Bool). code_symbols (binary 8 start) b) is

@@ -26,8 +26,7 @@ refilled_is m pn time lc is offset early below =
     (type, (prev, (min, (sid, (nid, (small, (below, (early, following)))))))) in
     admitted (refilled m pn time lc) fits (tail_of m is)
 
-pub length-sync : (form : CheckForm) (m : SyncFields) →
-    length (sync_capsule form m) ≡ 38 + length (sync_body m)
+pub length-sync : (form : CheckForm) (m : SyncFields) → length (sync_capsule form m) ≡ 38 + length (sync_body m)
 unfolding sync_capsule
 length-sync form m = omega (arith, length-capsule M30 form (sync_body m))
 
@@ -43,21 +42,17 @@ length-refilled form m pn time lc =
     )
 
 pub length-sending : (cell : CellIdentity) (m : SyncFields) (sending : ℕ) →
-    length (sync_capsule cell.check30 (message_of cell m sending))
-    ≡ length (sync_capsule cell.check30 m)
+    length (sync_capsule cell.check30 (message_of cell m sending)) ≡ length (sync_capsule cell.check30 m)
 unfolding message_of
 length-sending cell m sending = length-refilled cell.check30 m _ _ _
 
-pub capsule_most : (form : CheckForm) (m : SyncFields) → IsSyncMessage m →
-    length (sync_capsule form m) ≤ 1184
+pub capsule_most : (form : CheckForm) (m : SyncFields) → IsSyncMessage m → length (sync_capsule form m) ≤ 1184
 capsule_most form m is = omega (arith, length-sync form m, is.fills.whole, is.fills.most)
 
-pub superframes_some : (form : CheckForm) (m : SyncFields) →
-    1 ≤ superframes_of (sync_capsule form m)
+pub superframes_some : (form : CheckForm) (m : SyncFields) → 1 ≤ superframes_of (sync_capsule form m)
 superframes_some form m = omega (arith, length-sync form m)
 
-pub superframes_few : (form : CheckForm) (m : SyncFields) → IsSyncMessage m →
-    superframes_of (sync_capsule form m) ≤ 13
+pub superframes_few : (form : CheckForm) (m : SyncFields) → IsSyncMessage m → superframes_of (sync_capsule form m) ≤ 13
 superframes_few form m is = omega (arith, capsule_most form m is)
 
 -- FRAMES
@@ -78,15 +73,12 @@ length-padded capsule = length-append capsule (replicate 93 false)
 
 -- One bit more makes the frame's piece k + 1 bits long: the bit is the capsule's, k places after the
 -- piece begins, or 0 after its end, and so is the padded capsule's, whose 93 zeros reach so far.
-pub piece_more : (capsule bits : List Bool) (place k : ℕ) (som bit : Bool) →
-    31 * place ≤ length capsule + 62 → k < 31 →
-    bits ≡ som ∷ (take k (drop (31 * place) (padded capsule))) →
-    bit ≡ get_or capsule (31 * place + k) false →
+pub piece_more : (capsule bits : List Bool) (place k : ℕ) (som bit : Bool) → 31 * place ≤ length capsule + 62 → k < 31 →
+    bits ≡ som ∷ (take k (drop (31 * place) (padded capsule))) → bit ≡ get_or capsule (31 * place + k) false →
     bits ++ bit ∷ [] ≡ som ∷ take (k + 1) (drop (31 * place) (padded capsule))
 piece_more capsule bits place k som bit room few before read =
     let rest = drop (31 * place) (padded capsule) in
-    let within : k < length rest =
-    omega (arith, length-drop (31 * place) (padded capsule), length-padded capsule) in
+    let within : k < length rest = omega (arith, length-drop (31 * place) (padded capsule), length-padded capsule) in
     let here : get_or rest k false ≡ bit =
     get_or-drop (31 * place) (padded capsule) k false
     ∙ padded_at capsule 93 (31 * place + k) (omega arith) ∙ sym read in
@@ -108,14 +100,12 @@ piece_within cell m frame superframes sending capsule needed some is =
 pub piece_is : (cell : CellIdentity) (m : SyncFields) (frame superframes : ℕ)
     (capsule bits : List Bool) → superframes ≡ superframes_a_sending cell m →
     capsule ≡ sync_capsule cell.check30 (message_of cell m (frame / (3 * superframes))) →
-    bits ≡ (frame % (3 * superframes) == 0) ∷
-    (take 31 (drop (31 * (frame % (3 * superframes))) (padded capsule))) →
+    bits ≡ (frame % (3 * superframes) == 0) ∷ (take 31 (drop (31 * (frame % (3 * superframes))) (padded capsule))) →
     bits ≡ sync_frame_bits cell m frame
 unfolding sync_frame_bits
 piece_is cell m frame superframes capsule bits needed is same =
     let piece : ℕ →
-    List Bool = λ n.
-    (frame % (3 * n) == 0) ∷ take 31
+    List Bool = λ n. (frame % (3 * n) == 0) ∷ take 31
     (drop (31 * (frame % (3 * n))) (padded_sending cell m (frame / (3 * n)))) in
     same
     ∙ ap (λ (c : List Bool).
@@ -126,6 +116,5 @@ piece_is cell m frame superframes capsule bits needed is same =
 pub told_early : (time sending superframes : ℕ) → time ≤ 34359738368 → superframes ≤ 13 →
     sending < 2 ^ 20 → time + ((sending + 1) * superframes + 4) < 2 ^ 36
 told_early time sending superframes early few soon =
-    let most : (sending + 1) * superframes ≤ (sending + 1) * 13 =
-    mul-le-mul_left (sending + 1) few in
+    let most : (sending + 1) * superframes ≤ (sending + 1) * 13 = mul-le-mul_left (sending + 1) few in
     omega (arith, most, early, soon)

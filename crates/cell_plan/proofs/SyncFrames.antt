@@ -4,8 +4,7 @@ use Rattle.cell_plan.proofs.Common.{length-take-le, sync_capsule, SyncFields, Ce
 use Rattle.cell_plan.proofs.Common.{superframes_a_sending, length-append, length-drop}
 use Rattle.cell_plan.proofs.SentMessages.{piece_within, superframes_some}
 
-frame_bits-is : (cell : CellIdentity) (m : SyncFields) (frame : ℕ) →
-    length (sync_frame_bits cell m frame)
+frame_bits-is : (cell : CellIdentity) (m : SyncFields) (frame : ℕ) → length (sync_frame_bits cell m frame)
     ≡ suc (length
     (take 31 (drop (31 * (frame % (3 * superframes_a_sending cell m)))
     (padded_sending cell m (frame / (3 * superframes_a_sending cell m))))))

@@ -13,8 +13,7 @@ flat_map-one f (x ∷ xs) zero d within = append-nil (f x)
 flat_map-one f (x ∷ xs) (suc i) d within = flat_map-one f xs i d (omega (arith, within))
 
 -- what is made of each entry, where one is taken
-map_taken : {X Y : Type 0} (f : X → Y) (xs : List X) (i : ℕ) →
-    take 1 (drop i (map f xs)) ≡ map f (take 1 (drop i xs))
+map_taken : {X Y : Type 0} (f : X → Y) (xs : List X) (i : ℕ) → take 1 (drop i (map f xs)) ≡ map f (take 1 (drop i xs))
 map_taken f [] zero = refl
 map_taken f [] (suc i) = refl
 map_taken f (x ∷ xs) zero = refl
@@ -74,8 +73,7 @@ module _ {R : Type 0} (in_set : FrameRate → Option R) (at : R → FrameRate)
   more_are : (x : TrafficFrame) (frames : List TrafficFrame) (all : List (FrameAt R))
       (first : FrameAt R) (found : Option (List (FrameAt R))) → x ≡ planned at first →
       ((rest : List (FrameAt R)) → found ≡ Some rest → frames ≡ map (planned at) rest) →
-      option_map (λ (rest : List (FrameAt R)). first ∷ rest) found ≡ Some all →
-      x ∷ frames ≡ map (planned at) all
+      option_map (λ (rest : List (FrameAt R)). first ∷ rest) found ≡ Some all → x ∷ frames ≡ map (planned at) all
   more_are x frames all first None first_is rest_are is = absurd (cc is)
   more_are x frames all first (Some rest) first_is rest_are is =
       ap (λ (y : TrafficFrame). y ∷ frames) first_is
@@ -98,13 +96,11 @@ module _ {R : Type 0} (in_set : FrameRate → Option R) (at : R → FrameRate)
       all_of_set in_set frames ≡ Some all → frames ≡ map (planned at) all
   frames_are [] all is = ap (map (planned at)) (same_Some [] all is)
   frames_are (x ∷ frames) all is =
-      all_are x frames all (frame_of_set in_set x) refl
-      (λ rest told. frames_are frames rest told) is
+      all_are x frames all (frame_of_set in_set x) refl (λ rest told. frames_are frames rest told) is
 
   -- the one that is in turn is that of the channel
   in_turn : (frames : List TrafficFrame) (k : ℕ) (f : FrameAt R) →
-      frames_in_turn (frames_of_set in_set frames) k ≡ f ∷ [] →
-      frames_in_turn frames k ≡ planned at f ∷ []
+      frames_in_turn (frames_of_set in_set frames) k ≡ f ∷ [] → frames_in_turn frames k ≡ planned at f ∷ []
   in_turn frames k f is = by_all (all_of_set in_set frames) refl is
     where
       by_all : (found : Option (List (FrameAt R))) → all_of_set in_set frames ≡ found →

@@ -122,12 +122,7 @@ paging_carrier plan p = record {
 -- the frames that a traffic channel sends under the public mask of its handset (7.1.3.1.6)
 abbrev pub frames_of : CellPlan → TrafficPlan → FrameCycle
 frames_of plan t =
-    record {
-      cell = plan.cell;
-      mask = traffic_mask t.esn;
-      offset = t.offset;
-      frames = t.frames;
-    }
+    record { cell = plan.cell; mask = traffic_mask t.esn; offset = t.offset; frames = t.frames }
 
 -- the frames of a traffic channel begin 1,536 chips later for each step of its FRAME_OFFSET
 -- (7.1.3.5.1)

@@ -73,8 +73,7 @@ SetTwoFrame = FrameAt Rate2
 
 -- the same frame, where these are the set's rates among all
 abbrev pub planned : {R : Type 0} → (R → FrameRate) → FrameAt R → TrafficFrame
-planned at f =
-    record { rate = at f.rate; information = f.information; power_bits = f.power_bits }
+planned at f = record { rate = at f.rate; information = f.information; power_bits = f.power_bits }
 
 abbrev pub IsSetOneFrame : SetOneFrame → Type 0
 IsSetOneFrame f = IsTrafficFrame (planned SetOne f)

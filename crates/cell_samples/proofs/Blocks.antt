@@ -38,8 +38,7 @@ moved s x d t = rw (ring.distrib s x d) (omega (arith, ints))
 further : (s x t u : ℤ) → (s *ℤ x) +ℤ (t +ℤ u) ≡ ((s *ℤ x) +ℤ t) +ℤ u
 further s x t u = omega (arith, ints)
 
-pub grown : (n j r : ℕ) (xs : List ℤ) (d : ℤ) → r < length xs →
-    walsh_sum_from n j (set xs r (get_or xs r (pos 0) +ℤ d))
+pub grown : (n j r : ℕ) (xs : List ℤ) (d : ℤ) → r < length xs → walsh_sum_from n j (set xs r (get_or xs r (pos 0) +ℤ d))
     ≡ walsh_sum_from n j xs +ℤ (sign (walsh n (j + r)) *ℤ d)
 grown n j r [] d inside = absurd (omega (arith, inside))
 grown n j zero (x ∷ xs) d inside =
@@ -49,8 +48,7 @@ grown n j (suc r) (x ∷ xs) d inside =
     let there : j + suc r ≡ suc j + r = omega arith in
     ap (λ (t : ℤ). (sign (walsh n j) *ℤ x) +ℤ t) (grown n (suc j) r xs d (omega (arith, inside)))
     ∙ further (sign (walsh n j)) x (walsh_sum_from n (suc j) xs) _
-    ∙ ap (λ (m : ℕ).
-    ((sign (walsh n j) *ℤ x) +ℤ walsh_sum_from n (suc j) xs) +ℤ (sign (walsh n m) *ℤ d)) (sym there)
+    ∙ ap (λ (m : ℕ). ((sign (walsh n j) *ℤ x) +ℤ walsh_sum_from n (suc j) xs) +ℤ (sign (walsh n m) *ℤ d)) (sym there)
 
 zeros : (part : Pair → ℤ) (n j count : ℕ) → part origin ≡ pos 0 →
     walsh_sum_from n j (map part (replicate count origin)) ≡ pos 0
@@ -61,13 +59,10 @@ zeros part n j (suc count) none = rw (none, zeros part n (suc j) count none) (om
 
 -- the sum of entries, each with the sign of a row's chip
 abbrev pub row_total : ℕ → List Pair → Pair
-row_total n values =
-    record { i = walsh_sum_from n 0 (in_phase values); q = walsh_sum_from n 0 (quadrature values) }
+row_total n values = record { i = walsh_sum_from n 0 (in_phase values); q = walsh_sum_from n 0 (quadrature values) }
 
-branch_grown : (part : Pair → ℤ) (n r : ℕ) (values : List Pair) (new : Pair) (d : ℤ) →
-    part origin ≡ pos 0 →
-    part new ≡ part (get_or values r origin) +ℤ d → r < length values →
-    walsh_sum_from n 0 (map part (set values r new))
+branch_grown : (part : Pair → ℤ) (n r : ℕ) (values : List Pair) (new : Pair) (d : ℤ) → part origin ≡ pos 0 →
+    part new ≡ part (get_or values r origin) +ℤ d → r < length values → walsh_sum_from n 0 (map part (set values r new))
     ≡ walsh_sum_from n 0 (map part values) +ℤ (sign (walsh n r) *ℤ d)
 branch_grown part n r values new d none is inside =
     let old : get_or (map part values) r (pos 0) ≡ part (get_or values r origin) =
@@ -81,14 +76,11 @@ branch_grown part n r values new d none is inside =
 
 -- one channel's level more at its row
 level_added : (n row : ℕ) (values : List Pair) (new factor : Pair) (l : ℤ) → row < length values →
-    new ≡ plus (get_or values row origin) (scaled l factor) →
-    row_total n (set values row new)
+    new ≡ plus (get_or values row origin) (scaled l factor) → row_total n (set values row new)
     ≡ plus (row_total n values) (scaled (l *ℤ sign (walsh row n)) factor)
 level_added n row values new factor l inside is =
-    let i = branch_grown (λ (v : Pair). v.i) n row values new (l *ℤ factor.i) refl
-    (ap (λ (v : Pair). v.i) is) inside in
-    let q = branch_grown (λ (v : Pair). v.q) n row values new (l *ℤ factor.q) refl
-    (ap (λ (v : Pair). v.q) is) inside in
+    let i = branch_grown (λ (v : Pair). v.i) n row values new (l *ℤ factor.i) refl (ap (λ (v : Pair). v.i) is) inside in
+    let q = branch_grown (λ (v : Pair). v.q) n row values new (l *ℤ factor.q) refl (ap (λ (v : Pair). v.q) is) inside in
     let s = sign (walsh n row) in
     rw (i, q, times_moved s l factor.i, times_moved s l factor.q, walsh_commute n row) refl
 
@@ -104,13 +96,10 @@ IsSummed chip factor cs done values = (k : ℕ) → k < 64 →
     plus (row_total k values) (scaled (amplitudes (chip + k) (drop done cs)) factor)
     ≡ scaled (amplitudes (chip + k) cs) factor
 
-pub nothing_summed : (chip : ℕ) (factor : Pair) (cs : List Carrier) →
-    IsSummed chip factor cs 0 (replicate 64 origin)
+pub nothing_summed : (chip : ℕ) (factor : Pair) (cs : List Carrier) → IsSummed chip factor cs 0 (replicate 64 origin)
 nothing_summed chip factor cs k below =
-    let i : walsh_sum_from k 0 (in_phase (replicate 64 origin)) ≡ pos 0 =
-    zeros (λ (v : Pair). v.i) k 0 64 refl in
-    let q : walsh_sum_from k 0 (quadrature (replicate 64 origin)) ≡ pos 0 =
-    zeros (λ (v : Pair). v.q) k 0 64 refl in
+    let i : walsh_sum_from k 0 (in_phase (replicate 64 origin)) ≡ pos 0 = zeros (λ (v : Pair). v.i) k 0 64 refl in
+    let q : walsh_sum_from k 0 (quadrature (replicate 64 origin)) ≡ pos 0 = zeros (λ (v : Pair). v.q) k 0 64 refl in
     ap (λ (t : Pair). plus t (scaled (amplitudes (chip + k) cs) factor))
     (same_parts (row_total k (replicate 64 origin)) origin i q)
     ∙ origin-plus (scaled (amplitudes (chip + k) cs) factor)
@@ -121,8 +110,7 @@ nothing_summed chip factor cs k below =
 pub one_summed : (chip done row : ℕ) (factor : Pair) (cs : List Carrier) (c : Carrier)
     (values : List Pair) (new : Pair) (l : ℤ) (none : Carrier) →
     chip % 64 ≡ 0 → done < length cs → get_or cs done none ≡ c → row ≡ c.row → row < length values →
-    ((k : ℕ) → k < 64 → level (chip + k) c ≡ l) →
-    new ≡ plus (get_or values row origin) (scaled l factor) →
+    ((k : ℕ) → k < 64 → level (chip + k) c ≡ l) → new ≡ plus (get_or values row origin) (scaled l factor) →
     IsSummed chip factor cs done values → IsSummed chip factor cs (done + 1) (set values row new)
 one_summed chip done row factor cs c values new l none whole inside is row_is room level_is new_is
     before k below =
@@ -132,8 +120,7 @@ one_summed chip done row factor cs c values new l none whole inside is row_is ro
     ∙ ap (λ (r : ℕ). level (chip + k) c *ℤ sign (walsh r k)) row_is
     ∙ ap (λ (n : ℕ). level (chip + k) c *ℤ sign (walsh c.row n)) (sym place) in
     let rest = amplitudes (chip + k) (drop (done + 1) cs) in
-    ap (λ (t : Pair). plus t (scaled rest factor))
-    (level_added k row values new factor l room new_is)
+    ap (λ (t : Pair). plus t (scaled rest factor)) (level_added k row values new factor l room new_is)
     ∙ plus_assoc (row_total k values) (scaled (l *ℤ sign (walsh row k)) factor) (scaled rest factor)
     ∙ ap (plus (row_total k values)) (scaled_sum (l *ℤ sign (walsh row k)) rest factor)
     ∙ ap (λ (a : ℤ). plus (row_total k values) (scaled (a +ℤ rest) factor)) own
@@ -147,8 +134,7 @@ one_summed chip done row factor cs c values new l none whole inside is row_is ro
 
 -- Where no channel is left, the transform of the entries is what all channels send at the block's
 -- 64 chips: it is made of the entries' Walsh sums, and what is left adds nothing to them.
-pub all_summed : (chip done : ℕ) (factor : Pair) (cs : List Carrier) (values sums : List Pair) →
-    length cs ≤ done →
+pub all_summed : (chip done : ℕ) (factor : Pair) (cs : List Carrier) (values sums : List Pair) → length cs ≤ done →
     IsSummed chip factor cs done values → in_phase sums ≡ transform (in_phase values) →
     quadrature sums ≡ transform (quadrature values) →
     (k : ℕ) → k < 64 → get_or sums k origin ≡ scaled (amplitudes (chip + k) cs) factor
@@ -177,10 +163,8 @@ level_part_fits l f small low =
     rw (read64 l (omega (arith, small)), read64 f (omega (arith, low)))
     (fits_signed_from_abs w64 (l *ℤ f) (omega (arith, product_most l f small low)))
 
-pub level_sum_fits : (s l f : ℤ) → unsigned_abs s ≤ 2 ^ 39 → unsigned_abs l ≤ 65535 →
-    unsigned_abs f ≤ 32768 →
-    FitsSigned w64
-    (to_z w64 (of_z w64 s) +ℤ to_z w64 (of_z w64 (to_z w64 (of_z w64 l) *ℤ to_z w64 (of_z w64 f))))
+pub level_sum_fits : (s l f : ℤ) → unsigned_abs s ≤ 2 ^ 39 → unsigned_abs l ≤ 65535 → unsigned_abs f ≤ 32768 →
+    FitsSigned w64 (to_z w64 (of_z w64 s) +ℤ to_z w64 (of_z w64 (to_z w64 (of_z w64 l) *ℤ to_z w64 (of_z w64 f))))
 level_sum_fits s l f sum small low =
     let product = product_most l f small low in
     rw (
@@ -201,10 +185,8 @@ widened a b xs h all = λ k d inside.
 -- One channel more makes an entry greater by at most 2^31 in each branch, since its level is at
 -- most 2^16 - 1 and each part of the link's factor at most 2^15 in size; all other entries stay.
 pub grows : (done row : ℕ) (values : List Pair) (new factor : Pair) (l : ℤ) → row < length values →
-    unsigned_abs l ≤ 65535 → IsWithin 32768 factor →
-    new ≡ plus (get_or values row origin) (scaled l factor) →
-    All (IsWithin (2 ^ 31 * done)) values →
-    All (IsWithin (2 ^ 31 * (done + 1))) (set values row new)
+    unsigned_abs l ≤ 65535 → IsWithin 32768 factor → new ≡ plus (get_or values row origin) (scaled l factor) →
+    All (IsWithin (2 ^ 31 * done)) values → All (IsWithin (2 ^ 31 * (done + 1))) (set values row new)
 grows done row values new factor l inside small low is before =
     let old = All-get_or (IsWithin (2 ^ 31 * done)) values row origin inside before in
     let i : new.i ≡ (get_or values row origin).i +ℤ (l *ℤ factor.i) = ap (λ (v : Pair). v.i) is in
@@ -212,20 +194,10 @@ grows done row values new factor l inside small low is before =
     let more : 2 ^ 31 * done + 2 ^ 31 ≡ 2 ^ 31 * (done + 1) = omega arith in
     let i_most : unsigned_abs new.i ≤ 2 ^ 31 * (done + 1) =
     rw (i, sym more)
-    (omega (
-      arith,
-      abs_sum (get_or values row origin).i (l *ℤ factor.i),
-      old.0,
-      product_most l factor.i small low.0,
-    )) in
+    (omega (arith, abs_sum (get_or values row origin).i (l *ℤ factor.i), old.0, product_most l factor.i small low.0)) in
     let q_most : unsigned_abs new.q ≤ 2 ^ 31 * (done + 1) =
     rw (q, sym more)
-    (omega (
-      arith,
-      abs_sum (get_or values row origin).q (l *ℤ factor.q),
-      old.1,
-      product_most l factor.q small low.1,
-    )) in
+    (omega (arith, abs_sum (get_or values row origin).q (l *ℤ factor.q), old.1, product_most l factor.q small low.1)) in
     All-set (IsWithin (2 ^ 31 * (done + 1))) values row new (i_most, q_most)
     (widened (2 ^ 31 * done) (2 ^ 31 * (done + 1)) values (omega arith) before)
 

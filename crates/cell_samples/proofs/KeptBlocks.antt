@@ -35,18 +35,15 @@ one_small done levels new l low new_is before =
     subst (All IsLevel) (sym new_is) (All-set IsLevel levels done l low before)
 
 pub same_level : (levels : List ℤ) (n : ℕ) (l : ℤ) → SFits w64 (get_or levels n (pos 0)) →
-    eqb (of_z w64 (get_or levels n (pos 0))) (of_z w64 l) ≡ true →
-    set levels n (to_z w64 (of_z w64 l)) ≡ levels
+    eqb (of_z w64 (get_or levels n (pos 0))) (of_z w64 l) ≡ true → set levels n (to_z w64 (of_z w64 l)) ≡ levels
 same_level levels n l fits e =
     let old = get_or levels n (pos 0) in
-    ap (set levels n)
-    (ap (to_z w64) (sym (eqb-true (of_z w64 old) (of_z w64 l) e)) ∙ to_z-of_z w64 old fits)
+    ap (set levels n) (ap (to_z w64) (sym (eqb-true (of_z w64 old) (of_z w64 l) e)) ∙ to_z-of_z w64 old fits)
     ∙ set-get_or levels n (pos 0)
 
 -- where all levels so far are those of before, and one more is
 pub all_same : (before one : Bool) (old levels new : List ℤ) →
-    (before ≡ true → levels ≡ old) → (one ≡ true → new ≡ levels) →
-    (before && one) ≡ true → new ≡ old
+    (before ≡ true → levels ≡ old) → (one ≡ true → new ≡ levels) → (before && one) ≡ true → new ≡ old
 all_same before one old levels new are is both =
     let parts = and_parts before one both in is (parts.1) ∙ are (parts.0)
 
@@ -56,14 +53,12 @@ no_sum : (s : ℤ) → (pos 0 *ℤ s) +ℤ pos 0 ≡ pos 0
 no_sum s = omega (arith, ints)
 
 silent : (chip : ℕ) (cs : List Carrier) →
-    ((n : ℕ) (none : Carrier) → n < length cs → level chip (get_or cs n none) ≡ pos 0) →
-    amplitudes chip cs ≡ pos 0
+    ((n : ℕ) (none : Carrier) → n < length cs → level chip (get_or cs n none) ≡ pos 0) → amplitudes chip cs ≡ pos 0
 silent chip [] all = refl
 silent chip (c ∷ cs) all =
     let s = sign (walsh c.row (chip % 64)) in
     ap (λ (x : ℤ). (x *ℤ s) +ℤ amplitudes chip cs) (all 0 c (omega arith))
-    ∙ ap (λ (y : ℤ). (pos 0 *ℤ s) +ℤ y)
-    (silent chip cs (λ n none lt. all (suc n) none (omega (arith, lt))))
+    ∙ ap (λ (y : ℤ). (pos 0 *ℤ s) +ℤ y) (silent chip cs (λ n none lt. all (suc n) none (omega (arith, lt))))
     ∙ no_sum s
 
 silent_chips : (cs : List Carrier) (factor : Pair) → length cs ≤ 128 →
@@ -92,8 +87,7 @@ fresh_block channels factor few low quiet = record {
 
 pub chips_stand : (cs : List Carrier) (factor : Pair) (old new : List ℤ) (chips : List Sample) →
     new ≡ old → AreChips cs factor old chips → AreChips cs factor new chips
-chips_stand cs factor old new chips is before =
-    subst (λ (ls : List ℤ). AreChips cs factor ls chips) (sym is) before
+chips_stand cs factor old new chips is before = subst (λ (ls : List ℤ). AreChips cs factor ls chips) (sym is) before
 
 -- the sums of the channels as they came back
 pub same_sums : (items back : List ChannelState) (factor : Pair) (levels : List ℤ)
@@ -110,10 +104,8 @@ sum_quiet cs factor levels sums first k whole are made quiet low =
 
 pub chips_made : (cs : List Carrier) (factor : Pair) (levels : List ℤ) (sums : List Pair)
     (chips : List Sample) → AreBlockSums cs factor levels sums →
-    ((k : ℕ) → k < 64 → of_sample (get_or chips k no_sample) ≡ get_or sums k origin) →
-    AreChips cs factor levels chips
-chips_made cs factor levels sums chips made narrowed first whole are k low =
-    narrowed k low ∙ made first whole are k low
+    ((k : ℕ) → k < 64 → of_sample (get_or chips k no_sample) ≡ get_or sums k origin) → AreChips cs factor levels chips
+chips_made cs factor levels sums chips made narrowed first whole are k low = narrowed k low ∙ made first whole are k low
 
 pub block_after : (items back : List ChannelState) (factor : Pair) (levels : List ℤ)
     (chips : List Sample) → back ≡ items → length items ≤ 128 → IsWithin 32768 factor →
@@ -146,8 +138,7 @@ turned_at chip wanted signs sample is made = subst (λ (z : Pair). IsTurned z si
 
 -- one chip more
 pub one_turned : (chips : ℕ → Pair) (signs : List (ℤ × ℤ)) (done : ℕ) (samples : List Sample)
-    (sample : Sample) → done < length samples →
-    IsTurned (chips done) (get_or signs done (pos 0, pos 0)) sample →
+    (sample : Sample) → done < length samples → IsTurned (chips done) (get_or signs done (pos 0, pos 0)) sample →
     AreTurned chips signs done samples → AreTurned chips signs (done + 1) (set samples done sample)
 one_turned chips signs done samples sample room here before =
     let new = set samples done sample in
@@ -155,7 +146,6 @@ one_turned chips signs done samples sample room here before =
     done
     (λ k lt.
     subst (IsTurned (chips k) (get_or signs k (pos 0, pos 0)))
-    (sym (get_or-set_other samples done k sample no_sample (λ e. omega (arith, e, lt))))
-    (before k lt))
+    (sym (get_or-set_other samples done k sample no_sample (λ e. omega (arith, e, lt)))) (before k lt))
     (subst (IsTurned (chips done) (get_or signs done (pos 0, pos 0)))
     (sym (get_or-set_same samples done sample no_sample room)) here)

@@ -27,8 +27,7 @@ chips_quiet width plan channels sent loud chip =
     ap (λ (cs : List Carrier). scaled (amplitudes chip cs) plan.link.factor) sent in
     omega (arith, chip_most plan chip z is, loud, most_part_small width)
 
-sample_is : (plan : CellPlan) (given phase : ℕ) (chip : Pair) (result : Sample)
-    (signs : ℤ × ℤ) →
+sample_is : (plan : CellPlan) (given phase : ℕ) (chip : Pair) (result : Sample) (signs : ℤ × ℤ) →
     chip ≡ scaled (amplitudes (plan.link.start + given) (carriers plan)) plan.link.factor →
     phase ≡ phase_at plan (plan.link.start + given) → signs ≡ chip_signs (pilot_chip phase) →
     of_sample result ≡ times chip (point_of signs) → of_sample result ≡ sample_of plan given
@@ -62,10 +61,8 @@ all_points = λ k d inside.
     subst IsPoint (sym (get_or-pilot_signs k d (omega (arith, inside, length-pilot_signs))))
     (sign_unit (pilot_chip k).0, sign_unit (pilot_chip k).1)
 
-pub points_ahead : (phase : ℕ) (signs : List (ℤ × ℤ)) → signs ≡ drop phase pilot_signs →
-    All IsPoint signs
-points_ahead phase signs is =
-    subst (All IsPoint) (sym is) (All-drop IsPoint phase pilot_signs all_points)
+pub points_ahead : (phase : ℕ) (signs : List (ℤ × ℤ)) → signs ≡ drop phase pilot_signs → All IsPoint signs
+points_ahead phase signs is = subst (All IsPoint) (sym is) (All-drop IsPoint phase pilot_signs all_points)
 
 -- ---- the samples of a block
 
@@ -85,8 +82,7 @@ pub are_given : (plan : CellPlan) (block : BlockState) (given phase n : ℕ)
     map carrier_of block.channels ≡ carriers plan → block.factor ≡ plan.link.factor →
     phase ≡ phase_at plan (plan.link.start + given) → signs ≡ drop phase pilot_signs →
     length out ≡ n → (plan.link.start + given) % 64 + n ≤ 64 →
-    AreTurned (λ k. chip_at block (plan.link.start + given + k)) signs n out →
-    AreGiven plan block given phase signs out
+    AreTurned (λ k. chip_at block (plan.link.start + given + k)) signs n out → AreGiven plan block given phase signs out
 are_given plan block given phase n signs out pilot sent link code ahead long within turned =
     let chips : ℕ → Pair = λ k. chip_at block (plan.link.start + given + k) in
     record {
@@ -107,8 +103,7 @@ given_one : (plan : CellPlan) (block : BlockState) (given phase : ℕ) (signs : 
     of_sample (get_or out k no_sample) ≡ sample_of plan (given + k)
 given_one plan block given phase signs out are k low =
     let chip = plan.link.start + given in
-    let before : phase + length out ≤ 32768 =
-    code_goes_on plan chip phase (length out) are.pilot are.code are.within in
+    let before : phase + length out ≤ 32768 = code_goes_on plan chip phase (length out) are.pilot are.code are.within in
     let below : phase + k < 32768 = omega (arith, before, low) in
     let place : chip + k ≡ plan.link.start + (given + k) = omega arith in
     let read : get_or signs k (pos 0, pos 0) ≡ chip_signs (pilot_chip (phase + k)) =
@@ -124,11 +119,9 @@ given_one plan block given phase signs out are k low =
 
 pub samples_given : (plan : CellPlan) (block : BlockState) (given phase n : ℕ)
     (signs : List (ℤ × ℤ)) (out : List Sample) → AreGiven plan block given phase signs out →
-    n ≡ length out → given + n ≤ plan.link.samples →
-    map of_sample out ≡ take n (drop given (samples_of plan))
+    n ≡ length out → given + n ≤ plan.link.samples → map of_sample out ≡ take n (drop given (samples_of plan))
 samples_given plan block given phase n signs out are long left =
-    pieces_are plan given out (omega (arith, long, left))
-    (given_one plan block given phase signs out are)
+    pieces_are plan given out (omega (arith, long, left)) (given_one plan block given phase signs out are)
     ∙ ap (λ (m : ℕ). take m (drop given (samples_of plan))) (sym long)
 
 pub bits_given : (width : Width) (plan : CellPlan) (block : BlockState) (given phase : ℕ)
@@ -138,8 +131,7 @@ bits_given width plan block given phase signs out are loud =
     let chip = plan.link.start + given in
     All-from_get_or (HasBits width) out no_sample
     (λ k low. chip_fits width plan (chip + k) (chip_at block (chip + k)) (get_or out k no_sample)
-    (chip_is plan block (chip + k) are.sent are.link) loud (are.turned k low).in_phase
-    (are.turned k low).quadrature)
+    (chip_is plan block (chip + k) are.sent are.link) loud (are.turned k low).in_phase (are.turned k low).quadrature)
 
 -- ---- pieces after one another
 
@@ -149,11 +141,9 @@ piece_joined out part done k count within long =
     take-put_mid done k out part (done + count) (omega (arith, long)) within
 
 pub samples_joined : (all : List Pair) (given done k count : ℕ) (out part : List Sample) →
-    done ≤ length out → length part ≡ count →
-    map of_sample (take done out) ≡ take done (drop given all) →
+    done ≤ length out → length part ≡ count → map of_sample (take done out) ≡ take done (drop given all) →
     map of_sample part ≡ take count (drop (given + done) all) →
-    map of_sample (take (done + count) (put_mid done k out part))
-    ≡ take (done + count) (drop given all)
+    map of_sample (take (done + count) (put_mid done k out part)) ≡ take (done + count) (drop given all)
 samples_joined all given done k count out part within long before next =
     ap (map of_sample) (piece_joined out part done k count within long)
     ∙ map-append of_sample (take done out) part
@@ -163,8 +153,7 @@ samples_joined all given done k count out part within long before next =
     ∙ sym (take-add done count (drop given all))
 
 pub bits_joined : (width : Width) (done k count : ℕ) (out part : List Sample) →
-    done ≤ length out → length part ≡ count →
-    All (HasBits width) (take done out) → All (HasBits width) part →
+    done ≤ length out → length part ≡ count → All (HasBits width) (take done out) → All (HasBits width) part →
     All (HasBits width) (take (done + count) (put_mid done k out part))
 bits_joined width done k count out part within long before next =
     subst (All (HasBits width)) (sym (piece_joined out part done k count within long))
@@ -173,16 +162,12 @@ bits_joined width done k count out part within long before next =
 -- ---- the channels
 
 -- a plan's channels are few
-pub few_states : (plan : CellPlan) (channels : List ChannelState) →
-    length plan.paging ≤ 7 →
-    length plan.traffic ≤ 62 →
-    map carrier_of channels ≡ carriers plan →
-    length channels ≤ 128
+pub few_states : (plan : CellPlan) (channels : List ChannelState) → length plan.paging ≤ 7 → length plan.traffic ≤ 62 →
+    map carrier_of channels ≡ carriers plan → length channels ≤ 128
 few_states plan channels few few_traffic are =
     omega (arith, few_channels plan few few_traffic, length-map channels carrier_of, ap length are)
 
 -- a list that was lent and came back as it was
-pub written_back : {X : Type 0} (items new : List X) (count : ℕ) → new ≡ items →
-    length new ≡ count →
+pub written_back : {X : Type 0} (items new : List X) (count : ℕ) → new ≡ items → length new ≡ count →
     take count (new ++ drop (length new) items) ≡ items
 written_back items new count same long = take_at new (drop (length new) items) count long ∙ same

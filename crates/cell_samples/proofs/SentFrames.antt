@@ -15,8 +15,7 @@ eight_bits (Paging cycle) = eight_of cycle.rate
 
 -- the symbols of a frame as they are sent
 pub symbols_are : (source : FrameSource) (k : ℕ) (code symbols : List Bool) →
-    code ≡ continued_symbols (continued.frame_bits_of source) k →
-    symbols
+    code ≡ continued_symbols (continued.frame_bits_of source) k → symbols
     ≡ continued.scrambled_by source k
     (sent (shape_of (continued.symbol_kind_of source)) (continued.repeats_in source) code) →
     symbols ≡ continued.continued_frames source k

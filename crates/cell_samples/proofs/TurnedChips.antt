@@ -23,16 +23,14 @@ sum_is x y small =
     (read16 (x +ℤ y) (omega (arith, small, abs_sum x y)))
 
 -- a part times a sign that was made as wide is no larger than the part
-pub signed_within : (part sign : ℤ) → unsigned_abs sign ≤ 1 →
-    unsigned_abs (part *ℤ sign) ≤ unsigned_abs part
+pub signed_within : (part sign : ℤ) → unsigned_abs sign ≤ 1 → unsigned_abs (part *ℤ sign) ≤ unsigned_abs part
 signed_within part sign unit =
     let most : unsigned_abs part * unsigned_abs sign ≤ unsigned_abs part * 1 =
     mul-le (unsigned_abs part) (unsigned_abs sign) (unsigned_abs part) 1 (omega arith) unit in
     omega (arith, most, unsigned_abs-mul part sign)
 
 pub with_sign_fits : (part sign wide : ℤ) → unsigned_abs part ≤ 32767 → unsigned_abs sign ≤ 1 →
-    wide ≡ to_z w8 (of_z w8 sign) →
-    FitsSigned w16 (to_z w16 (of_z w16 part) *ℤ to_z w16 (of_z w16 wide))
+    wide ≡ to_z w8 (of_z w8 sign) → FitsSigned w16 (to_z w16 (of_z w16 part) *ℤ to_z w16 (of_z w16 wide))
 with_sign_fits part sign wide small unit is =
     rw (is ∙ read8 sign unit, read16 part small, read16 sign (omega (arith, unit)))
     (fits_signed_from_abs w16 (part *ℤ sign) (omega (arith, small, signed_within part sign unit)))
@@ -65,8 +63,7 @@ signed_small x y s t a b small first second =
     let other = signed_most y t b (omega (arith, small)) second in
     omega (arith, small, one, other)
 
-pub difference_fits : (chip : Sample) (signs : ℤ × ℤ) (a b : ℤ) →
-    unsigned_abs chip.i + unsigned_abs chip.q ≤ 32767 →
+pub difference_fits : (chip : Sample) (signs : ℤ × ℤ) (a b : ℤ) → unsigned_abs chip.i + unsigned_abs chip.q ≤ 32767 →
     IsSigned chip.i signs.0 a → IsSigned chip.q signs.1 b →
     FitsSigned w16 (to_z w16 (of_z w16 a) -ℤ to_z w16 (of_z w16 b))
 difference_fits chip signs a b quiet first second =
@@ -74,8 +71,7 @@ difference_fits chip signs a b quiet first second =
     rw (read16 a (omega (arith, small)), read16 b (omega (arith, small)))
     (fits_signed_from_abs w16 (a -ℤ b) (omega (arith, small, abs_difference a b)))
 
-pub sum_fits : (chip : Sample) (signs : ℤ × ℤ) (a b : ℤ) →
-    unsigned_abs chip.i + unsigned_abs chip.q ≤ 32767 →
+pub sum_fits : (chip : Sample) (signs : ℤ × ℤ) (a b : ℤ) → unsigned_abs chip.i + unsigned_abs chip.q ≤ 32767 →
     IsSigned chip.i signs.1 a → IsSigned chip.q signs.0 b →
     FitsSigned w16 (to_z w16 (of_z w16 a) +ℤ to_z w16 (of_z w16 b))
 sum_fits chip signs a b quiet first second =
@@ -88,8 +84,7 @@ sum_fits chip signs a b quiet first second =
 -- as large as both parts together, which is 32,767.
 pub turned_is : (chip : Sample) (signs : ℤ × ℤ) (a b d e : ℤ) →
     unsigned_abs chip.i + unsigned_abs chip.q ≤ 32767 → IsPoint signs →
-    IsSigned chip.i signs.0 a → IsSigned chip.q signs.1 b →
-    IsSigned chip.i signs.1 d → IsSigned chip.q signs.0 e →
+    IsSigned chip.i signs.0 a → IsSigned chip.q signs.1 b → IsSigned chip.i signs.1 d → IsSigned chip.q signs.0 e →
     IsTurned (of_sample chip) signs (record {
       i = to_z w16 (of_z w16 (to_z w16 (of_z w16 a) -ℤ to_z w16 (of_z w16 b)));
       q = to_z w16 (of_z w16 (to_z w16 (of_z w16 d) +ℤ to_z w16 (of_z w16 e)));

@@ -18,19 +18,16 @@ use Rattle.cell_script.specs.declared.statements.Statement.TheVariants as statem
 -- the body bits of a cycle after these pages
 abbrev pub count_of : ℕ → ℕ → List Page → ℕ
 count_of size count [] = count
-count_of size count (page ∷ pages) =
-    count_of size (laid_after size count page.follows (38 + length page.body)) pages
+count_of size count (page ∷ pages) = count_of size (laid_after size count page.follows (38 + length page.body)) pages
 
-count_of-append : (size count : ℕ) (pages : List Page) (page : Page) →
-    count_of size count (pages ++ page ∷ [])
+count_of-append : (size count : ℕ) (pages : List Page) (page : Page) → count_of size count (pages ++ page ∷ [])
     ≡ laid_after size (count_of size count pages) page.follows (38 + length page.body)
 count_of-append size count [] page = refl
 count_of-append size count (p ∷ pages) page =
     count_of-append size (laid_after size count p.follows (38 + length p.body)) pages page
 
 sendable-append : (size count : ℕ) (pages : List Page) (page : Page) →
-    AreSendable size count pages → FillsCapsule M30 page.body →
-    half_frame_bits size
+    AreSendable size count pages → FillsCapsule M30 page.body → half_frame_bits size
     (laid_after size (count_of size count pages) page.follows (38 + length page.body)) ≤ 8192 →
     AreSendable size count (pages ++ page ∷ [])
 sendable-append size count [] page are fills few = (fills, few, tt)
@@ -104,8 +101,7 @@ said_at Pilot plan = statements.Cell plan.cell ∷ (statements.Link plan.link �
 said_at stage plan = statements_of plan
 
 -- where a script may end, they are all those of the plan
-pub said_whole : (stage : Stage) (plan : CellPlan) → is_complete stage ≡ true →
-    said_at stage plan ≡ statements_of plan
+pub said_whole : (stage : Stage) (plan : CellPlan) → is_complete stage ≡ true → said_at stage plan ≡ statements_of plan
 said_whole Cell plan e = absurd (cc e)
 said_whole Link plan e = absurd (cc e)
 said_whole Pilot plan e = absurd (cc e)
@@ -114,25 +110,15 @@ said_whole stage plan e = refl
 -- ---- whole channels
 
 -- the channel that was under way is one of them
-closed : (rate : Rate) (count : ℕ) (plan : CellPlan) → HasPages rate count plan →
-    All (IsStatedPaging rate) plan.paging
+closed : (rate : Rate) (count : ℕ) (plan : CellPlan) → HasPages rate count plan → All (IsStatedPaging rate) plan.paging
 closed rate count plan has =
     let o = has.0 in
     let last : IsStatedPaging rate o.last =
-    record {
-      first = o.number.0;
-      last = o.number.1;
-      some = has.1;
-      pages = o.pages;
-      heard = o.heard;
-    } in
-    subst (All (IsStatedPaging rate)) (sym o.channels)
-    (All-push (IsStatedPaging rate) o.before o.last o.stated last)
+    record { first = o.number.0; last = o.number.1; some = has.1; pages = o.pages; heard = o.heard } in
+    subst (All (IsStatedPaging rate)) (sym o.channels) (All-push (IsStatedPaging rate) o.before o.last o.stated last)
 
-no_channels : (rate : Rate) (plan : CellPlan) → plan.paging ≡ [] →
-    All (IsStatedPaging rate) plan.paging
-no_channels rate plan none =
-    subst (All (IsStatedPaging rate)) (sym none) (All-nil (IsStatedPaging rate))
+no_channels : (rate : Rate) (plan : CellPlan) → plan.paging ≡ [] → All (IsStatedPaging rate) plan.paging
+no_channels rate plan none = subst (All (IsStatedPaging rate)) (sym none) (All-nil (IsStatedPaging rate))
 
 no_traffic : (plan : CellPlan) → plan.traffic ≡ [] → All IsStatedTraffic plan.traffic
 no_traffic plan none = subst (All IsStatedTraffic) (sym none) (All-nil IsStatedTraffic)
@@ -143,21 +129,17 @@ traffic_closed plan has =
     let o = has.0 in
     let last : IsStatedTraffic o.last =
     record { last = o.bounds.0; latest = o.bounds.1; some = has.1; sized = o.frames } in
-    subst (All IsStatedTraffic) (sym o.channels)
-    (All-push IsStatedTraffic o.before o.last o.stated last)
+    subst (All IsStatedTraffic) (sym o.channels) (All-push IsStatedTraffic o.before o.last o.stated last)
 
 -- all channels of a plan are whole
 abbrev pub AreClosed : CellPlan → Type 0
-AreClosed plan =
-    All (IsStatedPaging (sent_paging_rate plan.sync)) plan.paging × All IsStatedTraffic plan.traffic
+AreClosed plan = All (IsStatedPaging (sent_paging_rate plan.sync)) plan.paging × All IsStatedTraffic plan.traffic
 
 bare_whole : (plan : CellPlan) → IsBare plan → AreClosed plan
-bare_whole plan bare =
-    (no_channels (sent_paging_rate plan.sync) plan bare.0, no_traffic plan bare.1)
+bare_whole plan bare = (no_channels (sent_paging_rate plan.sync) plan bare.0, no_traffic plan bare.1)
 
 -- they are where a script may end
-pub whole_at : (stage : Stage) (plan : CellPlan) → HasChannels stage plan →
-    is_complete stage ≡ true → AreClosed plan
+pub whole_at : (stage : Stage) (plan : CellPlan) → HasChannels stage plan → is_complete stage ≡ true → AreClosed plan
 whole_at Sync plan has e = bare_whole plan has.0
 whole_at (Paging rate) plan has e = bare_whole plan has.0
 whole_at (Pages rate count) plan has e = (
@@ -172,20 +154,16 @@ whole_at stage plan has e = absurd (cc e)
 -- ---- what may stand next
 
 -- a paging channel stands after whole ones, and before the traffic channels
-pub paging_next : (stage next : Stage) (plan : CellPlan) → HasChannels stage plan →
-    after_paging stage ≡ Some next →
-    (plan.traffic ≡ []) × (is_complete stage ≡ true)
-    × (Some (FirstPage (sent_paging_rate plan.sync)) ≡ Some next)
-paging_next (Paging rate) next plan has e =
-    (has.0.1, refl, ap (λ (r : Rate). Some (FirstPage r)) has.1 ∙ e)
+pub paging_next : (stage next : Stage) (plan : CellPlan) → HasChannels stage plan → after_paging stage ≡ Some next →
+    (plan.traffic ≡ []) × (is_complete stage ≡ true) × (Some (FirstPage (sent_paging_rate plan.sync)) ≡ Some next)
+paging_next (Paging rate) next plan has e = (has.0.1, refl, ap (λ (r : Rate). Some (FirstPage r)) has.1 ∙ e)
 paging_next (Pages rate count) next plan has e =
     (has.0.bare, refl, ap (λ (r : Rate). Some (FirstPage r)) has.0.rate_is ∙ e)
 paging_next stage next plan has e = absurd (cc e)
 
 -- a page stands in a channel under way
 pub page_next : (stage next : Stage) (plan : CellPlan) (page : Page) → HasChannels stage plan →
-    after_page stage page ≡ Some next →
-    (rate : Rate) × (count : ℕ) × IsOpen rate count plan
+    after_page stage page ≡ Some next → (rate : Rate) × (count : ℕ) × IsOpen rate count plan
     × (page_stage rate count page ≡ Some next) × (said_at stage plan ≡ statements_of plan)
 page_next (FirstPage rate) next plan page has e = (rate, 0, has, e, refl)
 page_next (Pages rate count) next plan page has e = (rate, count, has.0, e, refl)
@@ -203,8 +181,7 @@ traffic_next stage next e = absurd (cc e)
 -- a frame stands in a traffic channel under way
 pub frame_next : (stage next : Stage) (plan : CellPlan) (rate : FrameRate) →
     HasChannels stage plan → after_frame stage rate ≡ Some next →
-    (set : RateSet) × IsOpenTraffic plan × (Some (Frames set) ≡ Some next)
-    × (said_at stage plan ≡ statements_of plan)
+    (set : RateSet) × IsOpenTraffic plan × (Some (Frames set) ≡ Some next) × (said_at stage plan ≡ statements_of plan)
 frame_next FirstFrame next plan rate has e = (rate_set rate, has, e, refl)
 frame_next (Frames One) next plan (SetOne rate) has e = (One, has.0, e, refl)
 frame_next (Frames Two) next plan (SetTwo rate) has e = (Two, has.0, e, refl)
@@ -215,8 +192,7 @@ frame_next stage next plan rate has e = absurd (cc e)
 -- the stage that may come next is the one that comes
 next_has : (stage next : Stage) (plan : CellPlan) → Some stage ≡ Some next →
     HasChannels stage plan → HasChannels next plan
-next_has stage next plan e has =
-    subst (λ (s : Stage). HasChannels s plan) (same_Some stage next e) has
+next_has stage next plan e has = subst (λ (s : Stage). HasChannels s plan) (same_Some stage next e) has
 
 -- PRAT tells the stage after a sync channel, and the rate of the paging channels
 sync_channels : (plan : CellPlan) (sync : SyncPlan) → IsBare plan →
@@ -348,15 +324,12 @@ frame_sent plan frame is o =
 channels_with : (statement : Statement) (stage next : Stage) (plan : CellPlan) →
     IsLawfulStatement statement → HasChannels stage plan → next_stage stage statement ≡ Some next →
     HasChannels next (with_statement plan statement)
-channels_with (statements.Cell cell) Cell next plan is has e =
-    next_has Link next (record plan { cell = cell }) e has
-channels_with (statements.Link link) Link next plan is has e =
-    next_has Pilot next (record plan { link = link }) e has
+channels_with (statements.Cell cell) Cell next plan is has e = next_has Link next (record plan { cell = cell }) e has
+channels_with (statements.Link link) Link next plan is has e = next_has Pilot next (record plan { link = link }) e has
 channels_with (statements.Pilot pilot) Pilot next plan is has e =
     next_has Sync next (record plan { pilot = pilot }) e has
 channels_with (statements.Sync sync) Sync next plan is has e =
-    next_has (stage_after_sync sync) next (record plan { sync = Some sync }) e
-    (sync_channels plan sync has.0)
+    next_has (stage_after_sync sync) next (record plan { sync = Some sync }) e (sync_channels plan sync has.0)
 channels_with (statements.Paging line) stage next plan is has e =
     let told = paging_next stage next plan has e in
     next_has (FirstPage (sent_paging_rate plan.sync)) next (with_channel plan line) told.2
@@ -367,8 +340,7 @@ channels_with (statements.Page page) stage next plan is has e =
 channels_with (statements.Traffic line) stage next plan is has e =
     let told = traffic_next stage next e in
     let whole = whole_at stage plan has told.0 in
-    next_has FirstFrame next (with_traffic plan line) told.1
-    (traffic_after plan line is whole.0 whole.1)
+    next_has FirstFrame next (with_traffic plan line) told.1 (traffic_after plan line is whole.0 whole.1)
 channels_with (statements.Frame frame) stage next plan is has e =
     let told = frame_next stage next plan frame.rate has e in
     next_has (Frames told.0) next (with_sent plan frame) told.2 (frame_sent plan frame is told.1)
@@ -399,8 +371,7 @@ parts_with plan statement is parts =
 
 -- a statement adds what is within its bounds to a plan that is
 pub added : (stage next : Stage) (plan : CellPlan) (statement : Statement) → IsLawfulStatement statement →
-    IsAt stage plan → next_stage stage statement ≡ Some next →
-    IsAt next (with_statement plan statement)
+    IsAt stage plan → next_stage stage statement ≡ Some next → IsAt next (with_statement plan statement)
 added stage next plan statement is before e = record {
   parts = parts_with plan statement is before.parts;
   channels = channels_with statement stage next plan is before.channels e;
@@ -409,8 +380,7 @@ added stage next plan statement is before e = record {
 -- a statement that may stand next stands after those whose channels come first
 pub in_order : (stage next : Stage) (plan : CellPlan) (statement : Statement) → IsAt stage plan →
     next_stage stage statement ≡ Some next → IsInOrder plan statement
-in_order stage next plan (statements.Paging line) before e =
-    (paging_next stage next plan before.channels e).0
+in_order stage next plan (statements.Paging line) before e = (paging_next stage next plan before.channels e).0
 in_order stage next plan statement before e = tt
 
 pub empty_said : IsAt Cell empty_plan
@@ -425,8 +395,7 @@ empty_said = record {
 }
 
 -- what was said where a script may end is within its bounds
-pub all_said : (stage : Stage) (plan : CellPlan) → IsAt stage plan → is_complete stage ≡ true →
-    HasSaid plan
+pub all_said : (stage : Stage) (plan : CellPlan) → IsAt stage plan → is_complete stage ≡ true → HasSaid plan
 all_said stage plan is complete =
     let whole = whole_at stage plan is.channels complete in
     record {

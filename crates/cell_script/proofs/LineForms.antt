@@ -17,8 +17,7 @@ use Rattle.cell_script.specs.declared.tables.FieldForm.TheVariants as forms
 
 -- a value has no space: a number, one with a sign, bits
 pub number_word : (n : ℕ) → n < 2 ^ 64 → are_within 33 126 (decimal n) ≡ true
-number_word n small =
-    within-wider 48 57 33 126 (decimal n) (omega arith) (omega arith) (decimal_within n small)
+number_word n small = within-wider 48 57 33 126 (decimal n) (omega arith) (omega arith) (decimal_within n small)
 
 signed_word : (z : ℤ) → FitsSigned w16 z → are_within 33 126 (signed_decimal z) ≡ true
 signed_word (pos n) fits = number_word n (omega (arith, fits.sfits))
@@ -28,8 +27,7 @@ signed_word (negsuc n) fits =
 
 pub bits_word : (bits : List Bool) → length bits ≤ 1184 → are_within 33 126 (bit_text bits) ≡ true
 bits_word bits few =
-    within-wider 48 102 33 126 (bit_text bits) (omega arith) (omega arith)
-    (bit_text_within bits (omega (arith, few)))
+    within-wider 48 102 33 126 (bit_text bits) (omega arith) (omega arith) (bit_text_within bits (omega (arith, few)))
 
 -- the numbers of a form have 64 bits
 abbrev is_short : TextForm → Bool
@@ -38,8 +36,7 @@ is_short form = true
 
 value_word : (form : TextForm) (x : ValueOf form) → is_short form ≡ true → IsIn form x →
     are_within 33 126 (writer_of form x) ≡ true
-value_word (Tabled (forms.UpTo most)) n short is =
-    number_word n (omega (arith, ltb-true most (2 ^ 64) short, is))
+value_word (Tabled (forms.UpTo most)) n short is = number_word n (omega (arith, ltb-true most (2 ^ 64) short, is))
 value_word (Tabled forms.Signed) z short is = signed_word z is
 value_word (Tabled forms.State) n short is =
     within-wider 48 102 33 126 (state_digits n) (omega arith) (omega arith) (state_within n)
@@ -52,8 +49,7 @@ value_word SixteenDigits bits short is =
 -- a value in its range is read from its text
 value_back : (form : TextForm) (x : ValueOf form) → is_short form ≡ true → IsIn form x →
     reader_of form (writer_of form x) ≡ Some x
-value_back (Tabled (forms.UpTo most)) n short is =
-    number_back most n (ltb-true most (2 ^ 64) short) is
+value_back (Tabled (forms.UpTo most)) n short is = number_back most n (ltb-true most (2 ^ 64) short) is
 value_back (Tabled forms.Signed) z short is = signed_back z is
 value_back (Tabled forms.State) n short is = state_back n is
 value_back (Tabled forms.SerialNumber) n short is = serial_back n is
@@ -71,8 +67,7 @@ width_of SixteenDigits bits = 16
 
 value_narrow : (form : TextForm) (x : ValueOf form) → is_short form ≡ true → IsIn form x →
     length (writer_of form x) ≤ width_of form x
-value_narrow (Tabled (forms.UpTo most)) n short is =
-    decimal_short n (omega (arith, ltb-true most (2 ^ 64) short, is))
+value_narrow (Tabled (forms.UpTo most)) n short is = decimal_short n (omega (arith, ltb-true most (2 ^ 64) short, is))
 value_narrow (Tabled forms.Signed) z short is = omega arith
 value_narrow (Tabled forms.State) n short is = omega (arith, state_long n)
 value_narrow (Tabled forms.SerialNumber) n short is = omega (arith, serial_long n)
@@ -83,12 +78,10 @@ value_narrow SixteenDigits bits short is = omega (arith, digits_of_long bits, is
 
 -- a key, a value and what is after it, in one line
 pub keyed_within : (key value rest : List ℕ) → are_within 32 126 key ≡ true →
-    are_within 33 126 value ≡ true → are_within 32 126 rest ≡ true →
-    are_within 32 126 (key ++ (value ++ rest)) ≡ true
+    are_within 33 126 value ≡ true → are_within 32 126 rest ≡ true → are_within 32 126 (key ++ (value ++ rest)) ≡ true
 keyed_within key value rest keys values rests =
     within-append 32 126 key (value ++ rest) keys
-    (within-append 32 126 value rest
-    (within-wider 33 126 32 126 value (omega arith) (omega arith) values) rests)
+    (within-append 32 126 value rest (within-wider 33 126 32 126 value (omega arith) (omega arith) values) rests)
 
 -- a key that begins with a space, and fields that do so
 abbrev is_spaced : List ℕ → Bool
@@ -105,8 +98,7 @@ is_keyed row = are_within 32 126 row.key && nat_le (length row.key) 20
 
 abbrev pub are_sound : List StatementRow → Bool
 are_sound [] = true
-are_sound (row ∷ rows) =
-    (is_keyed row && is_short row.form) && (are_spaced rows && are_sound rows)
+are_sound (row ∷ rows) = (is_keyed row && is_short row.form) && (are_spaced rows && are_sound rows)
 
 record IsSound (row : StatementRow) (rows : List StatementRow) : Type 0 where
   key : are_within 32 126 row.key ≡ true
@@ -115,20 +107,13 @@ record IsSound (row : StatementRow) (rows : List StatementRow) : Type 0 where
   spaced : are_spaced rows ≡ true
   rest : are_sound rows ≡ true
 
-sound_parts : (row : StatementRow) (rows : List StatementRow) → are_sound (row ∷ rows) ≡ true →
-    IsSound row rows
+sound_parts : (row : StatementRow) (rows : List StatementRow) → are_sound (row ∷ rows) ≡ true → IsSound row rows
 sound_parts row rows sound =
     let both = and_parts (is_keyed row && is_short row.form) (are_spaced rows && are_sound rows) sound in
     let own = and_parts (is_keyed row) (is_short row.form) both.0 in
     let key = and_parts (are_within 32 126 row.key) (nat_le (length row.key) 20) own.0 in
     let more = and_parts (are_spaced rows) (are_sound rows) both.1 in
-    record {
-      key = key.0;
-      least = leb-true (length row.key) 20 key.1;
-      short = own.1;
-      spaced = more.0;
-      rest = more.1;
-    }
+    record { key = key.0; least = leb-true (length row.key) 20 key.1; short = own.1; spaced = more.0; rest = more.1 }
 
 spaced_key : (key rest : List ℕ) → is_spaced key ≡ true → length_before 32 (key ++ rest) ≡ 0
 spaced_key [] rest is = absurd (cc is)
@@ -138,8 +123,7 @@ spaced_key (byte ∷ bytes) rest is =
 spaced_text : (rows : List StatementRow) (v : Values rows) → are_spaced rows ≡ true →
     length_before 32 (fields_text rows v) ≡ 0
 spaced_text [] v is = before-none 32
-spaced_text (row ∷ rows) v is =
-    spaced_key row.key (writer_of row.form v.0 ++ fields_text rows v.1) is
+spaced_text (row ∷ rows) v is = spaced_key row.key (writer_of row.form v.0 ++ fields_text rows v.1) is
 
 -- all of a text is read by the fields of a table
 abbrev AreRead : (rows : List StatementRow) → List ℕ → Values rows → Type 0
@@ -148,8 +132,7 @@ AreRead rows text v = (fields_in rows text ≡ Some v) × (past_fields rows text
 first_read : (row : StatementRow) (rows : List StatementRow) (x : ValueOf row.form)
     (xs : Values rows) (text more : List ℕ) → IsField row.key (reader_of row.form) x text more →
     AreRead rows more xs → AreRead (row ∷ rows) text (x, xs)
-first_read row rows x xs text more here rest =
-    (rw (here.1, here.0, rest.0) refl, ap (past_fields rows) here.1 ∙ rest.1)
+first_read row rows x xs text more here rest = (rw (here.1, here.0, rest.0) refl, ap (past_fields rows) here.1 ∙ rest.1)
 
 -- Values that are written by a table are read back by it, by induction over the table: each value's
 -- text ends at the space of the next key, or with the line.
@@ -162,8 +145,7 @@ fields_back (row ∷ rows) v sound are =
     let more = fields_text rows v.1 in
     first_read row rows v.0 v.1 (row.key ++ (value ++ more)) more
     (field_back row.key value more (reader_of row.form) v.0
-    (value_word row.form v.0 is.short are.0) (spaced_text rows v.1 is.spaced)
-    (value_back row.form v.0 is.short are.0))
+    (value_word row.form v.0 is.short are.0) (spaced_text rows v.1 is.spaced) (value_back row.form v.0 is.short are.0))
     (fields_back rows v.1 is.rest are.1)
 
 -- they stand in one line

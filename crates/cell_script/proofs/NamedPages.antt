@@ -17,15 +17,10 @@ pub pages_are_carried : (width : Width) (script : List ℕ) (plan : CellPlan) (f
 pages_are_carried width script plan form e =
     let rate = sent_paging_rate plan.sync in
     All-weaker (IsStatedPaging rate) (IsCarried rate form)
-    (λ (p : PagingPlan) is. channel_carried rate form p is) plan.paging
-    (named_said width script plan e).lawful.paging
+    (λ (p : PagingPlan) is. channel_carried rate form p is) plan.paging (named_said width script plan e).lawful.paging
 
 pub named_receivable : (width : Width) (script : List ℕ) (plan : CellPlan) →
     plan_named width script ≡ Ok plan → IsReceivable width plan
 named_receivable width script plan e =
     let both = named_plan width script plan e in
-    record {
-      lawful = both.0;
-      link = both.1;
-      pages = (named_said width script plan e).lawful.paging;
-    }
+    record { lawful = both.0; link = both.1; pages = (named_said width script plan e).lawful.paging }

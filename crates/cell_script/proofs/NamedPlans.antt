@@ -10,8 +10,7 @@ use Rattle.cell_script.proofs.WrittenPlans.{stated_back}
 
 -- ---- a plan without a fault
 
-neither : (fault later : Option ScriptFault) → option_or fault later ≡ None →
-    (fault ≡ None) × (later ≡ None)
+neither : (fault later : Option ScriptFault) → option_or fault later ≡ None → (fault ≡ None) × (later ≡ None)
 neither None later e = (refl, e)
 neither (Some fault) later e = absurd (cc e)
 
@@ -30,16 +29,13 @@ some_gain : (gain : ℕ) → (gain == 0) ≡ false → 0 < gain
 some_gain zero e = absurd (cc e)
 some_gain (suc gain) e = omega arith
 
-sync_gains : (sync : Option SyncPlan) → IsStatedSync sync → sync_gain_fault sync ≡ None →
-    IsSyncPlan sync
+sync_gains : (sync : Option SyncPlan) → IsStatedSync sync → sync_gain_fault sync ≡ None → IsSyncPlan sync
 sync_gains None said e = tt
-sync_gains (Some sync) said e =
-    (some_gain sync.gain (failed (sync.gain == 0) (Gain 32) None e).0, said)
+sync_gains (Some sync) said e = (some_gain sync.gain (failed (sync.gain == 0) (Gain 32) None e).0, said)
 
 -- A plan that was stated and has no fault is lawful: what the law asks of fields was stated, and
 -- each test that found no fault gives what it asks of rows, gains, loudness or length.
-lawful : (width : Width) (plan : CellPlan) → IsStatedPlan plan → plan_fault width plan ≡ None →
-    IsLawfulPlan width plan
+lawful : (width : Width) (plan : CellPlan) → IsStatedPlan plan → plan_fault width plan ≡ None → IsLawfulPlan width plan
 lawful width plan said e =
     let ls = channel_lines plan in
     let more = traffic_lines plan.traffic in
@@ -79,8 +75,7 @@ pub small_named : (width : Width) (script : List ℕ) → length script ≤ 1048
     plan_named width script ≡ named width (stated_plan script)
 unfolding plan_named
 small_named width script small =
-    cond-false _ (Err TooBig) (named width (stated_plan script))
-    (le-ltb 1048576 (length script) small)
+    cond-false _ (Err TooBig) (named width (stated_plan script)) (le-ltb 1048576 (length script) small)
 
 without_fault : (said plan : CellPlan) (fault : Option ScriptFault) → unless said fault ≡ Ok plan →
     (said ≡ plan) × (fault ≡ None)
@@ -105,8 +100,7 @@ unfolding plan_named
 names_stated width script plan e = named_stated width _ (stated_plan script) plan e
 
 -- what it says is within its bounds
-pub named_said : (width : Width) (script : List ℕ) (plan : CellPlan) →
-    plan_named width script ≡ Ok plan → HasSaid plan
+pub named_said : (width : Width) (script : List ℕ) (plan : CellPlan) → plan_named width script ≡ Ok plan → HasSaid plan
 named_said width script plan e = (stated_back script plan (names_stated width script plan e).0).0
 
 -- so it is lawful
@@ -118,8 +112,7 @@ named_plan width script plan e =
 
 -- and is named by its script, where that isn't too big
 pub named_back : (width : Width) (script : List ℕ) (plan : CellPlan) →
-    plan_named width script ≡ Ok plan → length (script_of plan) ≤ 1048576 →
-    plan_named width (script_of plan) ≡ Ok plan
+    plan_named width script ≡ Ok plan → length (script_of plan) ≤ 1048576 → plan_named width (script_of plan) ≡ Ok plan
 named_back width script plan e small =
     let told = names_stated width script plan e in
     small_named width (script_of plan) small

@@ -6,25 +6,21 @@ use Rattle.cell_script.proofs.NamedPlans.{named_plan, small_named}
 use Rattle.cell_script.proofs.ScriptRows.{judged_fault_is}
 use Rattle.cell_script.proofs.WrittenPlans.{stated_back}
 
-pub too_big : (width : Width) (script : List ℕ) → 1048576 < length script →
-    plan_named width script ≡ Err TooBig
+pub too_big : (width : Width) (script : List ℕ) → 1048576 < length script → plan_named width script ≡ Err TooBig
 unfolding plan_named
 too_big width script big =
-    cond-true _ (Err TooBig) (named width (stated_plan script))
-    (lt-ltb 1048576 (length script) big)
+    cond-true _ (Err TooBig) (named width (stated_plan script)) (lt-ltb 1048576 (length script) big)
 
 pub line_named : (width : Width) (script : List ℕ) (n : ℕ) → length script ≤ 1048576 →
     stated_plan script ≡ Err n → plan_named width script ≡ Err (Line n)
 line_named width script n small fault = small_named width script small ∙ ap (named width) fault
 
-pub link_stated : (script : List ℕ) (judge : Judge) → IsJudged script judge →
-    IsStatedLink judge.link
+pub link_stated : (script : List ℕ) (judge : Judge) → IsJudged script judge → IsStatedLink judge.link
 link_stated script judge is =
     subst IsStatedLink (sym is.judged.link) (stated_back script is.plan is.stated).0.lawful.link
 
 judged_named : (width : Width) (script : List ℕ) (judge : Judge) → length script ≤ 1048576 →
-    (is : IsJudged script judge) →
-    plan_named width script ≡ unless is.plan (judged_fault width judge)
+    (is : IsJudged script judge) → plan_named width script ≡ unless is.plan (judged_fault width judge)
 judged_named width script judge small is =
     small_named width script small
     ∙ ap (named width) is.stated
@@ -33,14 +29,11 @@ judged_named width script judge small is =
 pub fault_named : (width : Width) (script : List ℕ) (judge : Judge) (fault : ScriptFault) →
     length script ≤ 1048576 → IsJudged script judge → judged_fault width judge ≡ Some fault →
     plan_named width script ≡ Err fault
-fault_named width script judge fault small is told =
-    judged_named width script judge small is ∙ ap (unless is.plan) told
+fault_named width script judge fault small is told = judged_named width script judge small is ∙ ap (unless is.plan) told
 
 no_fault_named : (width : Width) (script : List ℕ) (judge : Judge) → length script ≤ 1048576 →
-    (is : IsJudged script judge) → judged_fault width judge ≡ None →
-    plan_named width script ≡ Ok is.plan
-no_fault_named width script judge small is none =
-    judged_named width script judge small is ∙ ap (unless is.plan) none
+    (is : IsJudged script judge) → judged_fault width judge ≡ None → plan_named width script ≡ Ok is.plan
+no_fault_named width script judge small is none = judged_named width script judge small is ∙ ap (unless is.plan) none
 
 is_ok : (r : Result CellPlan ScriptFault) (plan : CellPlan) → r ≡ Ok plan → IsOk r
 is_ok r plan e = subst (λ (x : Result CellPlan ScriptFault). IsOk x) (sym e) refl

@@ -29,8 +29,7 @@ tried f (Some x) y e = (x, refl, e)
 tried f None y e = absurd (cc e)
 
 -- the test held
-pub passed : {A : Type 0} (test : Bool) (o : Option A) (x : A) → cond test o None ≡ Some x →
-    o ≡ Some x
+pub passed : {A : Type 0} (test : Bool) (o : Option A) (x : A) → cond test o None ≡ Some x → o ≡ Some x
 passed true o x e = e
 passed false o x e = absurd (cc e)
 
@@ -45,8 +44,7 @@ tested_step : {A : Type 0} (test : Bool) (o : Option A) (x : A) → cond test o 
 tested_step true o x e = (refl, e)
 tested_step false o x e = absurd (cc e)
 
-untested : {A : Type 0} (test : Bool) (o : Option A) (x : A) → cond test None o ≡ Some x →
-    o ≡ Some x
+untested : {A : Type 0} (test : Bool) (o : Option A) (x : A) → cond test None o ≡ Some x → o ≡ Some x
 untested true o x e = absurd (cc e)
 untested false o x e = e
 
@@ -110,39 +108,30 @@ digits_long [] bits all e = omega (arith, ap length (same_Some bits all e))
 digits_long (digit ∷ digits) bits all e =
     let told = tried (λ (bit : Bool). digits_after (bits ++ bit ∷ []) digits) (binary_digit digit)
     all e in
-    omega (
-      arith,
-      digits_long digits (bits ++ told.0 ∷ []) all told.2,
-      length-append bits (told.0 ∷ []),
-    )
+    omega (arith, digits_long digits (bits ++ told.0 ∷ []) all told.2, length-append bits (told.0 ∷ []))
 
-power_bits_long : (text : List ℕ) (bits : List Bool) → power_bits_in text ≡ Some bits →
-    length bits ≡ 16
+power_bits_long : (text : List ℕ) (bits : List Bool) → power_bits_in text ≡ Some bits → length bits ≡ 16
 unfolding power_bits_in
 power_bits_long text bits e =
     let told = tested_step (length text == 16) (digits_after [] text) bits e in
     let long : length text ≡ 16 = eqb-true (length text) 16 told.0 in
     omega (arith, digits_long text [] bits told.1, long)
 
-bits_unpadded : (count : ℕ) (all bits : List Bool) → unpadded count all ≡ Some bits →
-    length bits ≤ count
+bits_unpadded : (count : ℕ) (all bits : List Bool) → unpadded count all ≡ Some bits → length bits ≤ count
 bits_unpadded count all bits e =
     let enough = untested (nat_lt (length all) count) _ bits e in
     let told = tested_step (all_clear (drop count all)) (Some (take count all)) bits
     (untested (nat_le (count + 8) (length all)) _ bits enough) in
     omega (arith, ap length (same_Some (take count all) bits told.1), length-take count all)
 
-bits_few : (text : List ℕ) (bits : List Bool) → bits_in_text text ≡ Some bits →
-    length bits ≤ 1184
+bits_few : (text : List ℕ) (bits : List Bool) → bits_in_text text ≡ Some bits → length bits ≤ 1184
 unfolding bits_in_text
 bits_few text bits e =
     let following = text_after (codes ":") (drop (length_before 58 text) text) in
     let counted = tried
-    (λ (n : ℕ). option_and_then
-    (λ (digits : List ℕ). option_and_then (unpadded n) (hex_bits digits)) following)
+    (λ (n : ℕ). option_and_then (λ (digits : List ℕ). option_and_then (unpadded n) (hex_bits digits)) following)
     (number_up_to 1184 (take (length_before 58 text) text)) bits e in
-    let spelled = tried
-    (λ (digits : List ℕ). option_and_then (unpadded counted.0) (hex_bits digits)) following bits
+    let spelled = tried (λ (digits : List ℕ). option_and_then (unpadded counted.0) (hex_bits digits)) following bits
     counted.2 in
     let all = tried (unpadded counted.0) (hex_bits spelled.0) bits spelled.2 in
     omega (
@@ -152,8 +141,7 @@ bits_few text bits e =
     )
 
 -- the value that a text spells in a form is in its range
-value_ranged : (form : TextForm) (text : List ℕ) (x : ValueOf form) →
-    reader_of form text ≡ Some x → IsIn form x
+value_ranged : (form : TextForm) (text : List ℕ) (x : ValueOf form) → reader_of form text ≡ Some x → IsIn form x
 value_ranged (Tabled (forms.UpTo most)) text n e = number_most most text n e
 value_ranged (Tabled forms.Signed) text z e = ((one_signed_numeral z text).0 e).1
 value_ranged (Tabled forms.State) text n e = state_read text n e
@@ -183,11 +171,9 @@ fields_ranged (row ∷ rows) text =
 
 pub number_field : (key : List ℕ) (most : ℕ) (text : List ℕ) (n : ℕ) →
     script_field key (number_up_to most) text ≡ Some n → n ≤ most
-number_field key most text n e =
-    number_most most (value_of key text) n (field_read key (number_up_to most) text n e)
+number_field key most text n e = number_most most (value_of key text) n (field_read key (number_up_to most) text n e)
 
-first_up_to : (f : NumberRow) (fields : List NumberRow) (n : ℕ) (ns : List ℕ) → n ≤ f.most →
-    AreUpTo fields ns →
+first_up_to : (f : NumberRow) (fields : List NumberRow) (n : ℕ) (ns : List ℕ) → n ≤ f.most → AreUpTo fields ns →
     AreUpTo (f ∷ fields) (n ∷ ns)
 first_up_to f fields n ns first rest zero inside = first
 first_up_to f fields n ns first rest (suc k) inside = rest k (omega (arith, inside))

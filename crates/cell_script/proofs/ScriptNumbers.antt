@@ -18,8 +18,7 @@ abbrev HaveGains : List ChannelLine → Type 0
 HaveGains ls = All (λ (l : ChannelLine). 0 < l.gain) ls
 
 gains_step : (l : ChannelLine) (ls : List ChannelLine) (none : Bool) → (l.gain == 0) ≡ none →
-    cond none (Some l.row) (silent ls) ≡ None → (silent ls ≡ None → HaveGains ls) →
-    HaveGains (l ∷ ls)
+    cond none (Some l.row) (silent ls) ≡ None → (silent ls ≡ None → HaveGains ls) → HaveGains (l ∷ ls)
 gains_step l ls true e quiet rest = absurd (cc quiet)
 gains_step l ls false e quiet rest =
     let other : ¬ (l.gain ≡ 0) = eqb-false l.gain 0 e in
@@ -61,20 +60,16 @@ abbrev Apart : List ChannelLine → List ChannelLine → Type 0
 Apart before ls = AreUnused before ls × HaveOwnRows ls
 
 apart_step : (before : List ChannelLine) (l : ChannelLine) (ls : List ChannelLine) (used : Bool) →
-    is_used l.row before ≡ used →
-    cond used (Some l.row) (repeated_after (before ++ l ∷ []) ls) ≡ None →
-    (repeated_after (before ++ l ∷ []) ls ≡ None → Apart (before ++ l ∷ []) ls) →
-    Apart before (l ∷ ls)
+    is_used l.row before ≡ used → cond used (Some l.row) (repeated_after (before ++ l ∷ []) ls) ≡ None →
+    (repeated_after (before ++ l ∷ []) ls ≡ None → Apart (before ++ l ∷ []) ls) → Apart before (l ∷ ls)
 apart_step before l ls true e none rest = absurd (cc none)
 apart_step before l ls false e none rest =
     let told = rest none in
     let following : All (λ (q : ChannelLine). is_used q.row before ≡ false) ls =
     All-weaker (λ (q : ChannelLine). is_used q.row (before ++ l ∷ []) ≡ false)
-    (λ (q : ChannelLine). is_used q.row before ≡ false)
-    (λ q is. (used-front q.row before l is).0) ls told.0 in
+    (λ (q : ChannelLine). is_used q.row before ≡ false) (λ q is. (used-front q.row before l is).0) ls told.0 in
     let others : All (λ (q : ChannelLine). q.row ≢ l.row) ls =
-    All-weaker (λ (q : ChannelLine). is_used q.row (before ++ l ∷ []) ≡ false)
-    (λ (q : ChannelLine). q.row ≢ l.row)
+    All-weaker (λ (q : ChannelLine). is_used q.row (before ++ l ∷ []) ≡ false) (λ (q : ChannelLine). q.row ≢ l.row)
     (λ q is same. (used-front q.row before l is).1 (sym same)) ls told.0 in (
       All-cons (λ (q : ChannelLine). is_used q.row before ≡ false) l ls e following,
       (others, told.1),
@@ -100,25 +95,21 @@ distinct_rows (l ∷ ls) own =
     let other = λ (n : ℕ). nat_eq l.row n ≡ false in (
       recursion_from_All other (map line_row ls)
           (All-map other line_row ls
-          (All-weaker (λ (q : ChannelLine). q.row ≢ l.row)
-          (λ (q : ChannelLine). nat_eq l.row q.row ≡ false)
+          (All-weaker (λ (q : ChannelLine). q.row ≢ l.row) (λ (q : ChannelLine). nat_eq l.row q.row ≡ false)
           (λ q apart. ne_eqb l.row q.row (λ same. apart (sym same))) ls own.0)),
       distinct_rows ls own.1,
     )
 
 -- lines with rows of their own are at most as many as there are rows, of which 0 is the pilot's
-at_most : (most : ℕ) (ls : List ChannelLine) → HaveOwnRows ls → All (IsWithin most) ls →
-    length ls ≤ most
+at_most : (most : ℕ) (ls : List ChannelLine) → HaveOwnRows ls → All (IsWithin most) ls → length ls ≤ most
 at_most most ls own are =
     let rows = map line_row (channel 0 1 ∷ ls) in
     let others : All (λ (q : ChannelLine). q.row ≢ 0) ls =
-    All-weaker (IsWithin most) (λ (q : ChannelLine). q.row ≢ 0)
-    (λ q is none. omega (arith, is.0, none)) ls are in
+    All-weaker (IsWithin most) (λ (q : ChannelLine). q.row ≢ 0) (λ q is none. omega (arith, is.0, none)) ls are in
     let below : All (λ (n : ℕ). n < suc most) rows =
     All-cons (λ (n : ℕ). n < suc most) 0 (map line_row ls) (omega arith)
     (All-map (λ (n : ℕ). n < suc most) line_row ls
-    (All-weaker (IsWithin most) (λ (q : ChannelLine). q.row < suc most)
-    (λ q is. omega (arith, is.1)) ls are)) in
+    (All-weaker (IsWithin most) (λ (q : ChannelLine). q.row < suc most) (λ q is. omega (arith, is.1)) ls are)) in
     omega (
       arith,
       length-le_from_distinct_below rows (suc most) (distinct_rows (channel 0 1 ∷ ls) (others, own))
@@ -157,8 +148,7 @@ own_numbers (p ∷ paging) ls own = (
 -- no two paging channels have one number
 pub have_own_numbers : (paging : List PagingPlan) (ls : List ChannelLine) →
     repeated (paging_lines paging ++ ls) ≡ None → HaveOwnNumbers paging
-have_own_numbers paging ls none =
-    own_numbers paging ls (apart_after first_channels (paging_lines paging ++ ls) none).1
+have_own_numbers paging ls none = own_numbers paging ls (apart_after first_channels (paging_lines paging ++ ls) none).1
 
 own_lines : (paging : List PagingPlan) → HaveOwnNumbers paging → HaveOwnRows (paging_lines paging)
 own_lines [] own = tt
@@ -172,27 +162,15 @@ few_channels rate paging are own =
     All-map (IsWithin 7) line_of paging
     (All-weaker (IsStatedPaging rate) (λ (q : PagingPlan). IsWithin 7 (line_of q))
     (λ q is. (is.first, is.last)) paging are) in
-    omega (
-      arith,
-      at_most 7 (paging_lines paging) (own_lines paging own) within,
-      length-map paging line_of,
-    )
+    omega (arith, at_most 7 (paging_lines paging) (own_lines paging own) within, length-map paging line_of)
 
 -- no gain of a paging channel is 0
 pub some_gains : (rate : Rate) (paging : List PagingPlan) (ls : List ChannelLine) →
-    All (IsStatedPaging rate) paging → silent (paging_lines paging ++ ls) ≡ None →
-    All (IsPagingPlan rate) paging
+    All (IsStatedPaging rate) paging → silent (paging_lines paging ++ ls) ≡ None → All (IsPagingPlan rate) paging
 some_gains rate paging ls are quiet k d inside =
     let here = are k d inside in
-    let gains = parted (λ (l : ChannelLine). 0 < l.gain) paging ls
-    (some_gain (paging_lines paging ++ ls) quiet) in
-    record {
-      first = here.first;
-      last = here.last;
-      gain = gains.0 k d inside;
-      some = here.some;
-      pages = here.pages;
-    }
+    let gains = parted (λ (l : ChannelLine). 0 < l.gain) paging ls (some_gain (paging_lines paging ++ ls) quiet) in
+    record { first = here.first; last = here.last; gain = gains.0 k d inside; some = here.some; pages = here.pages }
 
 -- ---- the traffic channels
 
@@ -211,8 +189,7 @@ own_after : (paging : List PagingPlan) (ls : List ChannelLine) →
 own_after [] ls own = own
 own_after (p ∷ paging) ls own = own_after paging ls own.1
 
-own_traffic_rows : (traffic : List TrafficPlan) → HaveOwnRows (traffic_lines traffic) →
-    HaveOwnTrafficRows traffic
+own_traffic_rows : (traffic : List TrafficPlan) → HaveOwnRows (traffic_lines traffic) → HaveOwnTrafficRows traffic
 own_traffic_rows [] own = tt
 own_traffic_rows (t ∷ traffic) own = (
   traffic_all (λ (q : ChannelLine). q.row ≢ t.row) traffic own.0,
@@ -286,8 +263,7 @@ lawful_beside paging traffic are none quiet =
     (parted (λ (q : ChannelLine). is_used q.row first_channels ≡ false) paging ls told.0).1 in
     let gains : All (λ (t : TrafficPlan). 0 < t.gain) traffic =
     traffic_all (λ (l : ChannelLine). 0 < l.gain) traffic
-    (parted (λ (l : ChannelLine). 0 < l.gain) paging ls
-    (some_gain (paging_lines paging ++ ls) quiet)).1 in
+    (parted (λ (l : ChannelLine). 0 < l.gain) paging ls (some_gain (paging_lines paging ++ ls) quiet)).1 in
     let sent : All IsTrafficPlan traffic =
     λ k d inside. traffic_sent _ (are k d inside) (gains k d inside) (unused k d inside) in
     let own = own_after paging ls told.1 in

@@ -32,8 +32,7 @@ Spells body m = IsPagingMessage m × (body ≡ message_body m)
 -- a message was found exactly where there is one
 pub body_found : (body : List Bool) (found : Option PagingMessage) →
     IfSome found (λ m. IsPagingMessage m × (body ≡ message_body m)) →
-    ((m : PagingMessage) → IsPagingMessage m → body ≡ message_body m → found ≡ Some m) →
-    is_some found ≡ is_body body
+    ((m : PagingMessage) → IsPagingMessage m → body ≡ message_body m → found ≡ Some m) → is_some found ≡ is_body body
 body_found body found told only = by_test found told only (is_body body) refl
   where
     by_test : (found : Option PagingMessage) → IfSome found (Spells body) →

@@ -22,12 +22,10 @@ abbrev IsFreq : Option ℕ → Type 0
 IsFreq freq = IfSome freq (λ n. n < 2 ^ 11)
 
 -- the frequency may be left out
-freq_some : (given : Bool) (number : Option ℕ) (freq : Option ℕ) →
-    ((n : ℕ) → number ≡ Some n → n ≤ 2047) →
+freq_some : (given : Bool) (number : Option ℕ) (freq : Option ℕ) → ((n : ℕ) → number ≡ Some n → n ≤ 2047) →
     cond given (option_map Some number) (Some None) ≡ Some freq → IsFreq freq
 freq_some true None freq most e = absurd (cc e)
-freq_some true (Some n) freq most e =
-    subst IsFreq (same_Some (Some n) freq e) (omega (arith, most n refl))
+freq_some true (Some n) freq most e = subst IsFreq (same_Some (Some n) freq e) (omega (arith, most n refl))
 freq_some false number freq most e = subst IsFreq (same_Some None freq e) tt
 
 freq_bounds : (text : List ℕ) (freq : Option ℕ) → freq_in text ≡ Some freq → IsFreq freq
@@ -63,10 +61,7 @@ fields_fit network local freq rest up small =
                   omega arith,
                   (
                     omega arith,
-                    (
-                      omega (arith, lp),
-                      (omega (arith, ltm), (omega (arith, daylt), (omega (arith, prat), tt))),
-                    ),
+                    (omega (arith, lp), (omega (arith, ltm), (omega (arith, daylt), (omega (arith, prat), tt)))),
                   ),
                 ),
               ),
@@ -78,8 +73,7 @@ fields_fit network local freq rest up small =
 
 -- the rest has a length that the message admits, and zeros stand for what each transmission fills in
 message_writable : (gain : ℕ) (network local : List ℕ) (freq : Option ℕ) (rest : List Bool)
-    (message : SyncFields) → gain ≤ 65535 → AreUpTo network_rows network →
-    AreUpTo local_rows local → IsFreq freq →
+    (message : SyncFields) → gain ≤ 65535 → AreUpTo network_rows network → AreUpTo local_rows local → IsFreq freq →
     lawful_message (sync_fields network local freq rest) ≡ Some message →
     IsWritableSync (record { gain = gain; message = message })
 message_writable gain network local freq rest message small up few is e =
@@ -105,8 +99,7 @@ after_writable gain network local text sync small up few =
     both_steps (script_field (codes " rest=") bits_in_text _) _ λ rest rest_is.
     both_steps (lawful_message (sync_fields network local freq rest)) _ λ message message_is sync e.
     subst IsWritableSync (ended _ (record { gain = gain; message = message }) sync e)
-    (message_writable gain network local freq rest message small up few
-    (freq_bounds _ freq freq_is) message_is))
+    (message_writable gain network local freq rest message small up few (freq_bounds _ freq freq_is) message_is))
     sync
 
 sync_writable : (text : List ℕ) (sync : SyncPlan) → sync_in text ≡ Some sync → IsWritableSync sync
@@ -125,8 +118,7 @@ page_read : (follows : Bool) (text : List ℕ) (page : Page) →
     read_as (page_statement follows) text ≡ Some page → IsSaid (page_statement page.follows) page
 page_read follows text page e =
     let said = line_said (page_statement follows) (page_law follows) text page e in
-    subst (λ (b : Bool). IsSaid (page_statement b) page)
-    (ap (λ (p : Page). p.follows) said.same) said
+    subst (λ (b : Bool). IsSaid (page_statement b) page) (ap (λ (p : Page). p.follows) said.same) said
 
 frame_read : (text : List ℕ) (frame : TrafficFrame) → traffic_frame_in text ≡ Some frame →
     IsSaid (frame_statement frame.rate) frame
@@ -134,18 +126,15 @@ unfolding traffic_frame_in
 frame_read text =
     both_steps (frame_rate text) _ λ rate rate_is frame e.
     let said = line_said (frame_statement rate) (frame_law rate) text frame e in
-    subst (λ (r : FrameRate). IsSaid (frame_statement r) frame)
-    (ap (λ (f : TrafficFrame). f.rate) said.same) said
+    subst (λ (r : FrameRate). IsSaid (frame_statement r) frame) (ap (λ (f : TrafficFrame). f.rate) said.same) said
 
 -- ---- any line
 
 step_writable : {A : Type 0} (f : A → Statement) (read : Option A) (test : Bool)
-    (other : Option Statement) (statement : Statement) →
-    ((x : A) → read ≡ Some x → IsWritable (f x)) →
+    (other : Option Statement) (statement : Statement) → ((x : A) → read ≡ Some x → IsWritable (f x)) →
     (other ≡ Some statement → IsWritable statement) →
     cond test (option_map f read) other ≡ Some statement → IsWritable statement
-step_writable f (Some x) true other statement here rest e =
-    subst IsWritable (same_Some (f x) statement e) (here x refl)
+step_writable f (Some x) true other statement here rest e = subst IsWritable (same_Some (f x) statement e) (here x refl)
 step_writable f None true other statement here rest e = absurd (cc e)
 step_writable f read false other statement here rest e = rest e
 
@@ -154,21 +143,17 @@ no_line_writable statement e = absurd (cc e)
 
 -- What a line states can be written: of the eight kinds of line that are tried in turn, the first
 -- whose name the line begins with reads it, and what each kind reads can be written.
-pub line_writable : (text : List ℕ) (statement : Statement) →
-    statement_in text ≡ Some statement → IsWritable statement
+pub line_writable : (text : List ℕ) (statement : Statement) → statement_in text ≡ Some statement → IsWritable statement
 unfolding statement_in cell_in link_in pilot_in paging_in stated_page_in traffic_in
 line_writable text statement =
     step_writable statements.Cell (cell_in text) _ _ statement (line_said cell_statement cell_law text)
     (step_writable statements.Link (link_in text) _ _ statement (line_said link_statement link_law text)
-    (step_writable statements.Pilot (pilot_in text) _ _ statement
-    (line_said pilot_statement pilot_law text)
+    (step_writable statements.Pilot (pilot_in text) _ _ statement (line_said pilot_statement pilot_law text)
     (step_writable statements.Sync (sync_in text) _ _ statement (sync_writable text)
-    (step_writable statements.Paging (paging_in text) _ _ statement
-    (line_said paging_statement paging_law text)
+    (step_writable statements.Paging (paging_in text) _ _ statement (line_said paging_statement paging_law text)
     (step_writable statements.Page (stated_page_in text) _ _ statement
     (page_read (begins_with text (codes "page next ")) text)
-    (step_writable statements.Traffic (traffic_in text) _ _ statement
-    (line_said traffic_statement traffic_law text)
+    (step_writable statements.Traffic (traffic_in text) _ _ statement (line_said traffic_statement traffic_law text)
     (step_writable statements.Frame (traffic_frame_in text) _ None statement (frame_read text)
     (no_line_writable statement))))))))
 
@@ -185,8 +170,7 @@ norm_some (suc a) b some = omega (arith, square_some (suc a) (omega arith))
 
 -- A link that a line can state is within its bounds, since each of its fields is in the range of
 -- its form, and its norm is above 0, since the form's law asks that a part of its factor isn't 0.
-link_lawful : (link : LinkPlan) → IsSaid link_statement link →
-    IsStatedLink link × (0 < norm link.factor)
+link_lawful : (link : LinkPlan) → IsSaid link_statement link → IsStatedLink link × (0 < norm link.factor)
 link_lawful link said =
     let re = link.factor.i in
     let im = link.factor.q in
@@ -216,8 +200,7 @@ writable_lawful (statements.Sync sync) is = is.message
 writable_lawful (statements.Paging line) is =
     let other = eqb-false line.number 0 (not-true (line.number == 0) is.lawful) in
     (omega (arith, other), is.ranged.0)
-writable_lawful (statements.Page page) is =
-    (body_fills page.body is.lawful, body_message page.body is.lawful)
+writable_lawful (statements.Page page) is = (body_fills page.body is.lawful, body_message page.body is.lawful)
 writable_lawful (statements.Traffic line) is = (is.ranged.0, is.ranged.1.1.0)
 writable_lawful (statements.Frame frame) is =
     eqb-true (length frame.information) (information_bits_of frame.rate) is.lawful

@@ -13,32 +13,26 @@ use Rattle.cell_script.proofs.ScriptSplits.{line_counted, line_read, line_refuse
 
 stated_first : (text : List ℕ) (statement : Statement) (ended : Bool) →
     nat_lt (length_before 10 text) (length text) ≡ ended → first_stated text ≡ Some statement →
-    (length_before 10 text < length text)
-    × (statement_in (take (length_before 10 text) text) ≡ Some statement)
+    (length_before 10 text < length text) × (statement_in (take (length_before 10 text) text) ≡ Some statement)
 unfolding first_stated
-stated_first text statement true e is =
-    (ltb-true (length_before 10 text) (length text) e, sym (cond-true _ _ _ e) ∙ is)
+stated_first text statement true e is = (ltb-true (length_before 10 text) (length text) e, sym (cond-true _ _ _ e) ∙ is)
 stated_first text statement false e is =
     absurd (cc (cond-false _ (statement_in (take (length_before 10 text) text)) None e, is))
 
 first_some : (text : List ℕ) (statement : Statement) → first_stated text ≡ Some statement →
-    (length_before 10 text < length text)
-    × (statement_in (take (length_before 10 text) text) ≡ Some statement)
+    (length_before 10 text < length text) × (statement_in (take (length_before 10 text) text) ≡ Some statement)
 first_some text statement is = stated_first text statement _ refl is
 
 first_none : (text : List ℕ) → length_before 10 text < length text → first_stated text ≡ None →
     statement_in (take (length_before 10 text) text) ≡ None
 unfolding first_stated
-first_none text inside is =
-    sym (cond-true _ _ _ (lt-ltb (length_before 10 text) (length text) inside)) ∙ is
+first_none text inside is = sym (cond-true _ _ _ (lt-ltb (length_before 10 text) (length text) inside)) ∙ is
 
 -- ---- the draft after it
 
 with_line-is : (plan : CellPlan) (stage : Stage) (text : List ℕ) (statement : Statement)
-    (next : Option Stage) → statement_in text ≡ Some statement →
-    next_stage stage statement ≡ next →
-    with_line (draft_at plan stage) text
-    ≡ option_map (draft_at (with_statement plan statement)) next
+    (next : Option Stage) → statement_in text ≡ Some statement → next_stage stage statement ≡ next →
+    with_line (draft_at plan stage) text ≡ option_map (draft_at (with_statement plan statement)) next
 unfolding with_line with_next
 with_line-is plan stage text statement next is after =
     ap (option_and_then (with_next (draft_at plan stage))) is
@@ -57,21 +51,18 @@ Left script plan stage n rest = stated_plan script ≡ stated (draft_at plan sta
 abbrev following : ℕ → List ℕ → List ℕ
 following bytes rest = take (length rest - bytes) (drop bytes rest)
 
-left_next : (script rest : List ℕ) (plan : CellPlan) (stage next : Stage) (n bytes : ℕ)
-    (statement : Statement) →
+left_next : (script rest : List ℕ) (plan : CellPlan) (stage next : Stage) (n bytes : ℕ) (statement : Statement) →
     first_stated rest ≡ Some statement → bytes ≡ length_before 10 rest + 1 →
     next_stage stage statement ≡ Some next → Left script plan stage n rest →
     Left script (with_statement plan statement) next (n + 1) (following bytes rest)
 left_next script rest plan stage next n bytes statement is bytes_is after before =
     let end = length_before 10 rest in
     let told = first_some rest statement is in
-    subst (λ (b : ℕ). Left script (with_statement plan statement) next (n + 1) (following b rest))
-    (sym bytes_is)
+    subst (λ (b : ℕ). Left script (with_statement plan statement) next (n + 1) (following b rest)) (sym bytes_is)
     (line_read script (draft_at plan stage) (draft_at (with_statement plan statement) next) n end
     rest refl told.0 (with_line-is plan stage (take end rest) statement (Some next) told.1 after) before)
 
-left_refused : (script rest : List ℕ) (plan : CellPlan) (stage : Stage) (n : ℕ)
-    (statement : Statement) →
+left_refused : (script rest : List ℕ) (plan : CellPlan) (stage : Stage) (n : ℕ) (statement : Statement) →
     first_stated rest ≡ Some statement → next_stage stage statement ≡ None →
     Left script plan stage n rest → stated_plan script ≡ Err n
 left_refused script rest plan stage n statement is after before =
@@ -92,8 +83,7 @@ left_faulty script rest plan stage n true e none some before =
     (with_line-none plan stage (take end rest) (first_none rest inside none)) before)
 left_faulty script rest plan stage n false e none some before =
     let past = ltb-false (length_before 10 rest) (length rest) e in
-    sym (line_unended script (draft_at plan stage) n rest
-    (omega (arith, past, before_most 10 rest)) some before)
+    sym (line_unended script (draft_at plan stage) n rest (omega (arith, past, before_most 10 rest)) some before)
 
 left_none : (script rest : List ℕ) (plan : CellPlan) (stage : Stage) (n : ℕ) → length rest ≡ 0 →
     Left script plan stage n rest → stated_plan script ≡ ok_or (plan_at (draft_at plan stage)) n
@@ -124,10 +114,8 @@ none_read script judge is none = record {
   gains = omega (arith, none);
 }
 
-pub one_read : (script rest : List ℕ) (stage next : Stage) (judge more : Judge) (n bytes : ℕ)
-    (statement : Statement) →
-    first_stated rest ≡ Some statement → bytes ≡ length_before 10 rest + 1 →
-    next_stage stage statement ≡ Some next →
+pub one_read : (script rest : List ℕ) (stage next : Stage) (judge more : Judge) (n bytes : ℕ) (statement : Statement) →
+    first_stated rest ≡ Some statement → bytes ≡ length_before 10 rest + 1 → next_stage stage statement ≡ Some next →
     ((plan : CellPlan) → IsInOrder plan statement → HasJudged judge plan →
     HasJudged more (with_statement plan statement)) →
     more.channels.gains ≤ judge.channels.gains + 65535 →
@@ -151,21 +139,18 @@ one_read script rest stage next judge more n bytes statement is bytes_is after s
     }
 
 pub faulty_line : (script rest : List ℕ) (stage : Stage) (judge : Judge) (n : ℕ) →
-    first_stated rest ≡ None → 0 < length rest → HasRead script stage judge n rest →
-    stated_plan script ≡ Err n
+    first_stated rest ≡ None → 0 < length rest → HasRead script stage judge n rest → stated_plan script ≡ Err n
 faulty_line script rest stage judge n none some before =
     left_faulty script rest before.plan stage n _ refl none some before.left
 
-pub refused_line : (script rest : List ℕ) (stage : Stage) (judge : Judge) (n : ℕ)
-    (statement : Statement) →
+pub refused_line : (script rest : List ℕ) (stage : Stage) (judge : Judge) (n : ℕ) (statement : Statement) →
     first_stated rest ≡ Some statement → next_stage stage statement ≡ None →
     HasRead script stage judge n rest → stated_plan script ≡ Err n
 refused_line script rest stage judge n statement is after before =
     left_refused script rest before.plan stage n statement is after before.left
 
 pub missing_line : (script rest : List ℕ) (stage : Stage) (judge : Judge) (n : ℕ) →
-    length rest ≡ 0 → is_complete stage ≡ false → HasRead script stage judge n rest →
-    stated_plan script ≡ Err n
+    length rest ≡ 0 → is_complete stage ≡ false → HasRead script stage judge n rest → stated_plan script ≡ Err n
 missing_line script rest stage judge n none open_end before =
     left_none script rest before.plan stage n none before.left
     ∙ ap (λ (o : Option CellPlan). ok_or o n) (cond-false _ (Some before.plan) None open_end)
@@ -209,8 +194,7 @@ made_step : (script rest : List ℕ) (plan : CellPlan) (stage : Stage) (n bytes 
     bytes ≡ length_before 10 rest + 1 → Left script plan stage n rest →
     HasMade script (with_statement plan statement) (following bytes rest)
 made_step script rest plan stage n bytes statement None after ok is bytes_is before =
-    absurd (no_fault (stated_plan script) n ok
-    (left_refused script rest plan stage n statement is after before))
+    absurd (no_fault (stated_plan script) n ok (left_refused script rest plan stage n statement is after before))
 made_step script rest plan stage n bytes statement (Some next) after ok is bytes_is before =
     record {
       stage = next;
@@ -233,11 +217,9 @@ whole_plan r plan n true ok e = e
 whole_plan r plan n false ok e = absurd (no_fault r n ok e)
 
 end_step : (script rest : List ℕ) (plan : CellPlan) (stage : Stage) (n k : ℕ) → length rest ≡ k →
-    IsOk (stated_plan script) → first_stated rest ≡ None → Left script plan stage n rest →
-    stated_plan script ≡ Ok plan
+    IsOk (stated_plan script) → first_stated rest ≡ None → Left script plan stage n rest → stated_plan script ≡ Ok plan
 end_step script rest plan stage n zero empty ok none before =
-    whole_plan (stated_plan script) plan n (is_complete stage) ok
-    (left_none script rest plan stage n empty before)
+    whole_plan (stated_plan script) plan n (is_complete stage) ok (left_none script rest plan stage n empty before)
 end_step script rest plan stage n (suc k) long ok none before =
     absurd (no_fault (stated_plan script) n ok
     (left_faulty script rest plan stage n _ refl none (omega (arith, long)) before))

@@ -30,11 +30,9 @@ used-append k (x ∷ ls) l = step (x.row == k) (used-append k ls l)
     step true e = refl
     step false e = e
 
-repeated-append : (before ls : List ChannelLine) (l : ChannelLine) →
-    repeated_after before (ls ++ l ∷ [])
+repeated-append : (before ls : List ChannelLine) (l : ChannelLine) → repeated_after before (ls ++ l ∷ [])
     ≡ option_or (repeated_after before ls) (row_if (is_used l.row (before ++ ls)) l.row)
-repeated-append before [] l =
-    ap (λ (b : List ChannelLine). row_if (is_used l.row b) l.row) (sym (append-nil before))
+repeated-append before [] l = ap (λ (b : List ChannelLine). row_if (is_used l.row b) l.row) (sym (append-nil before))
 repeated-append before (x ∷ ls) l =
     step (is_used x.row before)
     (repeated-append (before ++ x ∷ []) ls l
@@ -42,10 +40,8 @@ repeated-append before (x ∷ ls) l =
     option_or (repeated_after (before ++ x ∷ []) ls) (row_if (is_used l.row b) l.row))
     (append_assoc before (x ∷ []) ls))
   where
-    step : (b : Bool) →
-        repeated_after (before ++ x ∷ []) (ls ++ l ∷ [])
-        ≡ option_or (repeated_after (before ++ x ∷ []) ls)
-        (row_if (is_used l.row (before ++ x ∷ ls)) l.row) →
+    step : (b : Bool) → repeated_after (before ++ x ∷ []) (ls ++ l ∷ [])
+        ≡ option_or (repeated_after (before ++ x ∷ []) ls) (row_if (is_used l.row (before ++ x ∷ ls)) l.row) →
         cond b (Some x.row) (repeated_after (before ++ x ∷ []) (ls ++ l ∷ []))
         ≡ option_or (cond b (Some x.row) (repeated_after (before ++ x ∷ []) ls))
         (row_if (is_used l.row (before ++ x ∷ ls)) l.row)
@@ -57,15 +53,13 @@ silent-append : (ls : List ChannelLine) (l : ChannelLine) →
 silent-append [] l = refl
 silent-append (x ∷ ls) l = step (x.gain == 0) (silent-append ls l)
   where
-    step : (b : Bool) →
-        silent (ls ++ l ∷ []) ≡ option_or (silent ls) (row_if (l.gain == 0) l.row) →
+    step : (b : Bool) → silent (ls ++ l ∷ []) ≡ option_or (silent ls) (row_if (l.gain == 0) l.row) →
         cond b (Some x.row) (silent (ls ++ l ∷ []))
         ≡ option_or (cond b (Some x.row) (silent ls)) (row_if (l.gain == 0) l.row)
     step true e = refl
     step false e = e
 
-gains-append : (ls : List ChannelLine) (l : ChannelLine) →
-    gains_of (ls ++ l ∷ []) ≡ gains_of ls + l.gain
+gains-append : (ls : List ChannelLine) (l : ChannelLine) → gains_of (ls ++ l ∷ []) ≡ gains_of ls + l.gain
 gains-append [] l = omega arith
 gains-append (x ∷ ls) l = omega (arith, gains-append ls l)
 
@@ -89,8 +83,7 @@ used_row used ls l k long inside before = elim (cases_eq l.row k) [
 ]
 
 pub one_row : (rows more : ChannelRows) (ls : List ChannelLine) (l : ChannelLine) (is : Bool) →
-    l.row < 64 → is ≡ get_or rows.used l.row false →
-    more.used ≡ set rows.used l.row true →
+    l.row < 64 → is ≡ get_or rows.used l.row false → more.used ≡ set rows.used l.row true →
     more.repeated ≡ option_or rows.repeated (row_if is l.row) →
     more.silent ≡ option_or rows.silent (row_if (l.gain == 0) l.row) →
     more.gains ≡ rows.gains + l.gain → HasSeen rows ls → HasSeen more (ls ++ l ∷ [])
@@ -101,8 +94,7 @@ one_row rows more ls l is inside is_used_is used repeated_is silent_is gains bef
       ∙ used_row rows.used (first_channels ++ ls) l k before.long inside (before.used k small);
   repeated =
       repeated_is
-      ∙ ap (λ (b : Bool). option_or rows.repeated (row_if b l.row))
-      (is_used_is ∙ before.used l.row inside)
+      ∙ ap (λ (b : Bool). option_or rows.repeated (row_if b l.row)) (is_used_is ∙ before.used l.row inside)
       ∙ ap (λ (o : Option ℕ).
       option_or o (row_if (is_used l.row (first_channels ++ ls)) l.row)) before.repeated
       ∙ sym (repeated-append first_channels ls l);
@@ -129,8 +121,7 @@ first_rows rows pilot sync first second used repeated_is silent_is gains =
       long = ap length is ∙ length-set with_pilot 32 true ∙ length-set blank 0 true;
       used = λ k small.
           ap (λ (u : List Bool). get_or u k false) is
-          ∙ used_row with_pilot (channel 0 1 ∷ []) (channel 32 1) k (length-set blank 0 true)
-          (omega arith)
+          ∙ used_row with_pilot (channel 0 1 ∷ []) (channel 32 1) k (length-set blank 0 true) (omega arith)
           (used_row blank [] (channel 0 1) k refl (omega arith)
           (get_or-replicate 64 k false false small));
       repeated = repeated_is;
@@ -148,8 +139,7 @@ traffic_line_of t = channel t.row t.gain
 
 -- a change that leaves the last channel's line leaves the rows and the gains
 lines-on_last : {A : Type 0} (line : A → ChannelLine) (change : A → A) →
-    ((x : A) → line (change x) ≡ line x) → (xs : List A) →
-    map line (on_last change xs) ≡ map line xs
+    ((x : A) → line (change x) ≡ line x) → (xs : List A) → map line (on_last change xs) ≡ map line xs
 lines-on_last line change same [] = refl
 lines-on_last line change same (x ∷ []) = ap (λ (l : ChannelLine). l ∷ []) (same x)
 lines-on_last line change same (x ∷ (y ∷ xs)) =
@@ -181,18 +171,15 @@ judged_frame judge plan frame before = record {
 }
 
 -- a paging channel more stands last where there is no traffic channel yet
-paging_added_last : (ls : List ChannelLine) (traffic : List TrafficPlan) (l : ChannelLine) →
-    traffic ≡ [] →
+paging_added_last : (ls : List ChannelLine) (traffic : List TrafficPlan) (l : ChannelLine) → traffic ≡ [] →
     (ls ++ traffic_lines traffic) ++ l ∷ [] ≡ (ls ++ l ∷ []) ++ traffic_lines traffic
 paging_added_last ls traffic l none =
     subst (λ (ts : List TrafficPlan).
     (ls ++ traffic_lines ts) ++ l ∷ [] ≡ (ls ++ l ∷ []) ++ traffic_lines ts) (sym none)
     (ap (λ (all : List ChannelLine). all ++ l ∷ []) (append-nil ls) ∙ sym (append-nil (ls ++ l ∷ [])))
 
-pub judged_paging : (judge : Judge) (plan : CellPlan) (line : PagingLine) (rows : ChannelRows) →
-    plan.traffic ≡ [] →
-    HasSeen rows (channel_lines plan ++ channel line.number line.gain ∷ []) →
-    HasJudged judge plan →
+pub judged_paging : (judge : Judge) (plan : CellPlan) (line : PagingLine) (rows : ChannelRows) → plan.traffic ≡ [] →
+    HasSeen rows (channel_lines plan ++ channel line.number line.gain ∷ []) → HasJudged judge plan →
     HasJudged (record judge { channels = rows })
     (record plan { paging = plan.paging ++ opened_paging line ∷ [] })
 judged_paging judge plan line rows none seen before = record {
@@ -215,8 +202,7 @@ judged_traffic judge plan line rows seen before = record {
   pilot = before.pilot;
   sync = before.sync;
   channels = subst (HasSeen rows)
-      (append_assoc (paging_lines plan.paging) (traffic_lines plan.traffic)
-      (channel line.row line.gain ∷ [])
+      (append_assoc (paging_lines plan.paging) (traffic_lines plan.traffic) (channel line.row line.gain ∷ [])
       ∙ ap (λ (ls : List ChannelLine). paging_lines plan.paging ++ ls)
       (sym (map-append traffic_line_of plan.traffic (opened_traffic line ∷ [])))) seen;
 }
@@ -231,13 +217,11 @@ paging_gains-is : (paging : List PagingPlan) → gains_of (paging_lines paging) 
 paging_gains-is [] = refl
 paging_gains-is (p ∷ paging) = ap (λ (n : ℕ). p.gain + n) (paging_gains-is paging)
 
-traffic_gains-is : (traffic : List TrafficPlan) →
-    gains_of (traffic_lines traffic) ≡ traffic_gains traffic
+traffic_gains-is : (traffic : List TrafficPlan) → gains_of (traffic_lines traffic) ≡ traffic_gains traffic
 traffic_gains-is [] = refl
 traffic_gains-is (t ∷ traffic) = ap (λ (n : ℕ). t.gain + n) (traffic_gains-is traffic)
 
-gains_are : (plan : CellPlan) →
-    gains_of (channel_lines plan) ≡ paging_gains plan.paging + traffic_gains plan.traffic
+gains_are : (plan : CellPlan) → gains_of (channel_lines plan) ≡ paging_gains plan.paging + traffic_gains plan.traffic
 gains_are plan =
     omega (
       arith,
@@ -246,8 +230,7 @@ gains_are plan =
       traffic_gains-is plan.traffic,
     )
 
-abbrev fault_from : Width → LinkPlan → PilotPlan → Option SyncPlan → Option ℕ → Option ℕ → ℕ →
-    Option ScriptFault
+abbrev fault_from : Width → LinkPlan → PilotPlan → Option SyncPlan → Option ℕ → Option ℕ → ℕ → Option ScriptFault
 fault_from width link pilot sync number quiet gains =
     option_or (walsh_fault number)
     (option_or (gain_fault pilot sync quiet)

@@ -11,13 +11,11 @@ pub lines-none : lines [] ≡ []
 unfolding lines
 lines-none = refl
 
-lines-end : (byte : ℕ) (bytes : List ℕ) → (byte == 10) ≡ true →
-    lines (byte ∷ bytes) ≡ (byte ∷ []) ∷ lines bytes
+lines-end : (byte : ℕ) (bytes : List ℕ) → (byte == 10) ≡ true → lines (byte ∷ bytes) ≡ (byte ∷ []) ∷ lines bytes
 unfolding lines
 lines-end byte bytes lf = cond-true _ _ _ lf
 
-lines-more : (byte : ℕ) (bytes : List ℕ) → (byte == 10) ≡ false →
-    lines (byte ∷ bytes) ≡ onto_first byte (lines bytes)
+lines-more : (byte : ℕ) (bytes : List ℕ) → (byte == 10) ≡ false → lines (byte ∷ bytes) ≡ onto_first byte (lines bytes)
 unfolding lines
 lines-more byte bytes other = cond-false _ _ _ other
 
@@ -25,13 +23,11 @@ is_line-none : is_line [] ≡ false
 unfolding is_line
 is_line-none = refl
 
-pub is_line-end : (byte : ℕ) (bytes : List ℕ) → (byte == 10) ≡ true →
-    is_line (byte ∷ bytes) ≡ (length bytes == 0)
+pub is_line-end : (byte : ℕ) (bytes : List ℕ) → (byte == 10) ≡ true → is_line (byte ∷ bytes) ≡ (length bytes == 0)
 unfolding is_line
 is_line-end byte bytes lf = cond-true _ _ _ lf
 
-pub is_line-more : (byte : ℕ) (bytes : List ℕ) → (byte == 10) ≡ false →
-    is_line (byte ∷ bytes) ≡ is_line bytes
+pub is_line-more : (byte : ℕ) (bytes : List ℕ) → (byte == 10) ≡ false → is_line (byte ∷ bytes) ≡ is_line bytes
 unfolding is_line
 is_line-more byte bytes other = cond-false _ _ _ other
 
@@ -39,20 +35,17 @@ pub stated-none : (draft : Draft) (n : ℕ) → stated draft n [] ≡ ok_or (pla
 unfolding stated
 stated-none draft n = refl
 
-stated-line : (draft : Draft) (n : ℕ) (line : List ℕ) (more : List (List ℕ)) →
-    stated draft n (line ∷ more)
+stated-line : (draft : Draft) (n : ℕ) (line : List ℕ) (more : List (List ℕ)) → stated draft n (line ∷ more)
     ≡ option_map_or (λ next. stated next (n + 1) more) (draft_after draft line) (Err n)
 unfolding stated
 stated-line draft n line more = refl
 
 pub stated-next : (draft next : Draft) (n : ℕ) (line : List ℕ) (more : List (List ℕ)) →
-    draft_after draft line ≡ Some next →
-    stated draft n (line ∷ more) ≡ stated next (n + 1) more
+    draft_after draft line ≡ Some next → stated draft n (line ∷ more) ≡ stated next (n + 1) more
 stated-next draft next n line more is = stated-line draft n line more
     ∙ ap (λ (o : Option Draft). option_map_or (λ s. stated s (n + 1) more) o (Err n)) is
 
-pub stated-fault : (draft : Draft) (n : ℕ) (line : List ℕ) (more : List (List ℕ)) →
-    draft_after draft line ≡ None →
+pub stated-fault : (draft : Draft) (n : ℕ) (line : List ℕ) (more : List (List ℕ)) → draft_after draft line ≡ None →
     stated draft n (line ∷ more) ≡ Err n
 stated-fault draft n line more is = stated-line draft n line more
     ∙ ap (λ (o : Option Draft). option_map_or (λ s. stated s (n + 1) more) o (Err n)) is
@@ -62,8 +55,7 @@ pub draft_after-line : (draft : Draft) (line : List ℕ) → is_line line ≡ tr
 unfolding draft_after
 draft_after-line draft line is = cond-true _ _ _ is
 
-pub draft_after-other : (draft : Draft) (line : List ℕ) → is_line line ≡ false →
-    draft_after draft line ≡ None
+pub draft_after-other : (draft : Draft) (line : List ℕ) → is_line line ≡ false → draft_after draft line ≡ None
 unfolding draft_after
 draft_after-other draft line is = cond-false _ _ _ is
 
@@ -77,8 +69,7 @@ no_bytes : (bytes : List ℕ) → (length bytes == 0) ≡ true → bytes ≡ []
 no_bytes [] none = refl
 no_bytes (byte ∷ bytes) none = absurd (omega (arith, eqb-true (length (byte ∷ bytes)) 0 none))
 
-lines_step : (byte : ℕ) (bytes following : List ℕ) (lf : Bool) → (byte == 10) ≡ lf →
-    is_line (byte ∷ bytes) ≡ true →
+lines_step : (byte : ℕ) (bytes following : List ℕ) (lf : Bool) → (byte == 10) ≡ lf → is_line (byte ∷ bytes) ≡ true →
     (is_line bytes ≡ true → lines (bytes ++ following) ≡ bytes ∷ lines following) →
     lines (byte ∷ bytes ++ following) ≡ (byte ∷ bytes) ∷ lines following
 lines_step byte bytes following true lf is rest =
@@ -91,8 +82,7 @@ lines_step byte bytes following false other is rest =
     ∙ ap (onto_first byte) (rest (sym (is_line-more byte bytes other) ∙ is))
 
 -- a whole line is the first of the lines that begin with it
-pub lines-append : (line following : List ℕ) → is_line line ≡ true →
-    lines (line ++ following) ≡ line ∷ lines following
+pub lines-append : (line following : List ℕ) → is_line line ≡ true → lines (line ++ following) ≡ line ∷ lines following
 lines-append [] following is = absurd (cc (is_line-none, is))
 lines-append (byte ∷ bytes) following is =
     lines_step byte bytes following (byte == 10) refl is (lines-append bytes following)
@@ -104,8 +94,7 @@ first script = take (suc (length_before 10 script)) script
 
 whole_step : (byte : ℕ) (bytes : List ℕ) (lf : Bool) → (byte == 10) ≡ lf →
     length_before 10 (byte ∷ bytes) < length (byte ∷ bytes) →
-    (length_before 10 bytes < length bytes → is_line (first bytes) ≡ true) →
-    is_line (first (byte ∷ bytes)) ≡ true
+    (length_before 10 bytes < length bytes → is_line (first bytes) ≡ true) → is_line (first (byte ∷ bytes)) ≡ true
 whole_step byte bytes true lf inside rest =
     ap (λ (k : ℕ). is_line (take (suc k) (byte ∷ bytes))) (before-mark 10 byte bytes (eqb-true byte 10 lf))
     ∙ is_line-end byte [] lf
@@ -114,8 +103,7 @@ whole_step byte bytes false other inside rest =
     ap (λ (k : ℕ). is_line (take (suc k) (byte ∷ bytes))) k ∙ is_line-more byte (first bytes) other
     ∙ rest (omega (arith, k, inside))
 
-whole_line : (script : List ℕ) → length_before 10 script < length script →
-    is_line (first script) ≡ true
+whole_line : (script : List ℕ) → length_before 10 script < length script → is_line (first script) ≡ true
 whole_line [] inside = absurd (omega (arith, inside))
 whole_line (byte ∷ bytes) inside = whole_step byte bytes (byte == 10) refl inside (whole_line bytes)
 
@@ -135,8 +123,7 @@ first_text : (script : List ℕ) → length_before 10 script < length script →
     take (length (first script) - 1) (first script) ≡ take (length_before 10 script) script
 first_text script inside =
     let k = length_before 10 script in
-    let long : length (first script) - 1 ≡ k =
-    omega (arith, length-take-le (suc k) script inside) in
+    let long : length (first script) - 1 ≡ k = omega (arith, length-take-le (suc k) script inside) in
     ap (λ (n : ℕ). take n (first script)) long ∙ take_fewer k script
 
 draft_after-first : (draft : Draft) (script : List ℕ) → length_before 10 script < length script →
@@ -176,8 +163,7 @@ unended (byte ∷ bytes) none some = unended_step byte bytes (byte == 10) refl n
 -- next draft on: the line ends before the first LF, and the rest is all that stands after that LF.
 pub line_read : (script : List ℕ) (draft next : Draft) (n end : ℕ) (rest : List ℕ) →
     end ≡ length_before 10 rest → end < length rest → with_line draft (take end rest) ≡ Some next →
-    stated_plan script ≡ stated draft n (lines rest) →
-    stated_plan script
+    stated_plan script ≡ stated draft n (lines rest) → stated_plan script
     ≡ stated next (n + 1) (lines (take (length rest - (end + 1)) (drop (end + 1) rest)))
 line_read script draft next n end rest end_is inside is before =
     let at_mark : length_before 10 rest < length rest = omega (arith, end_is, inside) in
@@ -185,8 +171,7 @@ line_read script draft next n end rest end_is inside is before =
     ∙ ap (λ (k : ℕ). with_line draft (take k rest)) (sym end_is) ∙ is in
     let one_more : suc (length_before 10 rest) ≡ end + 1 = omega (arith, end_is) in
     let left : take (length rest - (end + 1)) (drop (end + 1) rest) ≡ drop (end + 1) rest =
-    take_all (length rest - (end + 1)) (drop (end + 1) rest)
-    (omega (arith, length-drop (end + 1) rest)) in
+    take_all (length rest - (end + 1)) (drop (end + 1) rest) (omega (arith, length-drop (end + 1) rest)) in
     before
     ∙ ap (stated draft n) (lines-first rest at_mark)
     ∙ stated-next draft next n (first rest) (lines (drop (suc (length_before 10 rest)) rest)) told
@@ -227,12 +212,7 @@ pub line_counted : (rest : List ℕ) (n end most : ℕ) → end < length rest �
     n + 1 + length (take (length rest - (end + 1)) (drop (end + 1) rest)) ≤ most
 line_counted rest n end most inside few =
     let left = length-drop (end + 1) rest in
-    omega (
-      arith,
-      length-take-le (length rest - (end + 1)) (drop (end + 1) rest) (omega (arith, left)),
-      inside,
-      few,
-    )
+    omega (arith, length-take-le (length rest - (end + 1)) (drop (end + 1) rest) (omega (arith, left)), inside, few)
 
 pub is_left : (empty : Bool) (n : ℕ) → empty ≡ (n == 0) → empty ≡ false → 0 < n
 is_left empty zero test none = absurd (false≢true (sym none ∙ test))

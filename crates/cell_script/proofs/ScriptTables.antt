@@ -10,11 +10,9 @@ made_of_line form v text = step (lawful_line form v) (at_end text)
 
 -- the values of a link
 pub link_read : (text0 text1 text2 text3 text4 : List ℕ) (re im : ℤ) (start samples : ℕ) →
-    script_field (codes "link re=") signed_in text0 ≡ Some re →
-    text1 ≡ past (codes "link re=") text0 →
+    script_field (codes "link re=") signed_in text0 ≡ Some re → text1 ≡ past (codes "link re=") text0 →
     script_field (codes " im=") signed_in text1 ≡ Some im → text2 ≡ past (codes " im=") text1 →
-    script_field (codes " start=") (number_up_to 4294967295) text2 ≡ Some start →
-    text3 ≡ past (codes " start=") text2 →
+    script_field (codes " start=") (number_up_to 4294967295) text2 ≡ Some start → text3 ≡ past (codes " start=") text2 →
     script_field (codes " samples=") (number_up_to 18446744073709551615) text3 ≡ Some samples →
     text4 ≡ past (codes " samples=") text3 →
     link_in text0 ≡ made_of_line link_statement (re, (im, (start, (samples, tt)))) text4
@@ -35,8 +33,7 @@ link_read text0 text1 text2 text3 text4 re im start samples first past_first sec
 -- values that may not stand together, a text that goes on, and a whole line
 pub unlawful : {X : Type 0} (form : LineForm X) (v : Values form.rows) (text : List ℕ) →
     form.lawful v ≡ false → made_of_line form v text ≡ None
-unlawful form v text is =
-    ap (λ o. step o (at_end text)) (cond-false (form.lawful v) (Some (form.line v)) None is)
+unlawful form v text is = ap (λ o. step o (at_end text)) (cond-false (form.lawful v) (Some (form.line v)) None is)
 
 pub left_over : {X : Type 0} (form : LineForm X) (v : Values form.rows) (text : List ℕ) →
     (text ≡ [] → false ≡ true) → made_of_line form v text ≡ None
@@ -59,10 +56,8 @@ whole_line form v text is none =
     ∙ ap (λ t. at_end t (form.line v)) none
 
 -- the test of a link, whose parts the code holds in 64 bits
-pub link_told : (re im : ℤ) (samples : ℕ) (test : Bool) → unsigned_abs re ≤ 32768 →
-    unsigned_abs im ≤ 32768 →
-    test ≡ is_link (to_z w64 (of_z w64 re)) (to_z w64 (of_z w64 im)) samples →
-    is_link re im samples ≡ test
+pub link_told : (re im : ℤ) (samples : ℕ) (test : Bool) → unsigned_abs re ≤ 32768 → unsigned_abs im ≤ 32768 →
+    test ≡ is_link (to_z w64 (of_z w64 re)) (to_z w64 (of_z w64 im)) samples → is_link re im samples ≡ test
 link_told re im samples test in_phase quadrature is =
     sym (is
     ∙ ap (λ (z : ℤ). is_link z (to_z w64 (of_z w64 im)) samples) (read64 re (omega (arith, in_phase)))
@@ -72,11 +67,8 @@ link_told re im samples test in_phase quadrature is =
 abbrev link_of : ℤ → ℤ → ℕ → ℕ → LinkPlan
 link_of re im start samples = link_statement.line (re, (im, (start, (samples, tt))))
 
-pub link_held : (re im : ℤ) (start samples : ℕ) → unsigned_abs re ≤ 32768 →
-    unsigned_abs im ≤ 32768 →
-    Some (link_of (to_z w64 (of_z w64 re)) (to_z w64 (of_z w64 im)) start samples)
-    ≡ Some (link_of re im start samples)
+pub link_held : (re im : ℤ) (start samples : ℕ) → unsigned_abs re ≤ 32768 → unsigned_abs im ≤ 32768 →
+    Some (link_of (to_z w64 (of_z w64 re)) (to_z w64 (of_z w64 im)) start samples) ≡ Some (link_of re im start samples)
 link_held re im start samples in_phase quadrature =
-    ap (λ (z : ℤ). Some (link_of z (to_z w64 (of_z w64 im)) start samples))
-    (read64 re (omega (arith, in_phase)))
+    ap (λ (z : ℤ). Some (link_of z (to_z w64 (of_z w64 im)) start samples)) (read64 re (omega (arith, in_phase)))
     ∙ ap (λ (z : ℤ). Some (link_of re z start samples)) (read64 im (omega (arith, quadrature)))

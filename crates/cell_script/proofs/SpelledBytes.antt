@@ -12,8 +12,7 @@ use Rattle.cell_script.proofs.ScriptSplits.{is_line-end, is_line-more}
 -- whether all bytes are in a range
 abbrev pub are_within : ℕ → ℕ → List ℕ → Bool
 are_within low high [] = true
-are_within low high (byte ∷ bytes) =
-    (nat_le low byte && nat_le byte high) && are_within low high bytes
+are_within low high (byte ∷ bytes) = (nat_le low byte && nat_le byte high) && are_within low high bytes
 
 -- of two texts in a range the whole is
 pub within-append : (low high : ℕ) (xs ys : List ℕ) → are_within low high xs ≡ true →
@@ -24,14 +23,12 @@ within-append low high (x ∷ xs) ys first second =
     and_from (nat_le low x && nat_le x high) (are_within low high (xs ++ ys)) parts.0
     (within-append low high xs ys parts.1 second)
 
-byte_in : (low high byte : ℕ) → (nat_le low byte && nat_le byte high) ≡ true →
-    (low ≤ byte) × (byte ≤ high)
+byte_in : (low high byte : ℕ) → (nat_le low byte && nat_le byte high) ≡ true → (low ≤ byte) × (byte ≤ high)
 byte_in low high byte test =
     let parts = and_parts (nat_le low byte) (nat_le byte high) test in
     (leb-true low byte parts.0, leb-true byte high parts.1)
 
-in_from : (low high byte : ℕ) → low ≤ byte → byte ≤ high →
-    (nat_le low byte && nat_le byte high) ≡ true
+in_from : (low high byte : ℕ) → low ≤ byte → byte ≤ high → (nat_le low byte && nat_le byte high) ≡ true
 in_from low high byte least most =
     and_from (nat_le low byte) (nat_le byte high) (le-leb low byte least) (le-leb byte high most)
 
@@ -39,8 +36,7 @@ in_from low high byte least most =
 pub within-cons : (low high byte : ℕ) (bytes : List ℕ) → low ≤ byte → byte ≤ high →
     are_within low high bytes ≡ true → are_within low high (byte ∷ bytes) ≡ true
 within-cons low high byte bytes least most rest =
-    and_from (nat_le low byte && nat_le byte high) (are_within low high bytes)
-    (in_from low high byte least most) rest
+    and_from (nat_le low byte && nat_le byte high) (are_within low high bytes) (in_from low high byte least most) rest
 
 -- a range that holds another
 pub within-wider : (low high lower higher : ℕ) (xs : List ℕ) → lower ≤ low → high ≤ higher →
@@ -58,8 +54,7 @@ pub within-drop : (low high n : ℕ) (xs : List ℕ) → are_within low high xs 
 within-drop low high zero xs test = test
 within-drop low high (suc n) [] test = refl
 within-drop low high (suc n) (x ∷ xs) test =
-    within-drop low high n xs
-    (and_parts (nat_le low x && nat_le x high) (are_within low high xs) test).1
+    within-drop low high n xs (and_parts (nat_le low x && nat_le x high) (are_within low high xs) test).1
 
 -- ---- before a mark that no byte is
 
@@ -71,21 +66,15 @@ before_word mark low high (byte ∷ bytes) rest apart test =
     let parts = and_parts (nat_le low byte && nat_le byte high) (are_within low high bytes) test in
     let inside = byte_in low high byte parts.0 in
     let other : ¬ (byte ≡ mark) = apart byte inside.0 inside.1 in
-    omega (
-      arith,
-      before-other mark byte (bytes ++ rest) other,
-      before_word mark low high bytes rest apart parts.1,
-    )
+    omega (arith, before-other mark byte (bytes ++ rest) other, before_word mark low high bytes rest apart parts.1)
 
 -- a mark below all bytes of a text, and one above them
-pub before_low_mark : (mark low high : ℕ) (text rest : List ℕ) → mark < low →
-    are_within low high text ≡ true →
+pub before_low_mark : (mark low high : ℕ) (text rest : List ℕ) → mark < low → are_within low high text ≡ true →
     length_before mark (text ++ rest) ≡ length text + length_before mark rest
 before_low_mark mark low high text rest below test =
     before_word mark low high text rest (λ byte least most is. omega (arith, below, least, is)) test
 
-pub before_high_mark : (mark low high : ℕ) (text rest : List ℕ) → high < mark →
-    are_within low high text ≡ true →
+pub before_high_mark : (mark low high : ℕ) (text rest : List ℕ) → high < mark → are_within low high text ≡ true →
     length_before mark (text ++ rest) ≡ length text + length_before mark rest
 before_high_mark mark low high text rest above test =
     before_word mark low high text rest (λ byte least most is. omega (arith, above, most, is)) test
@@ -93,8 +82,7 @@ before_high_mark mark low high text rest above test =
 -- ---- lines
 
 -- a text without an LF makes one line
-pub is_line-within : (text : List ℕ) → are_within 32 126 text ≡ true →
-    is_line (text ++ 10 ∷ []) ≡ true
+pub is_line-within : (text : List ℕ) → are_within 32 126 text ≡ true → is_line (text ++ 10 ∷ []) ≡ true
 is_line-within [] are = is_line-end 10 [] refl
 is_line-within (byte ∷ bytes) are =
     let parts = and_parts (nat_le 32 byte && nat_le byte 126) (are_within 32 126 bytes) are in
@@ -139,18 +127,14 @@ at_below test (suc n) d all below =
     ]
 
 abbrev is_of_digits : ℕ → Bool
-is_of_digits d =
-    nat_le 48 (slice_index lower_digits d) && nat_le (slice_index lower_digits d) 102
+is_of_digits d = nat_le 48 (slice_index lower_digits d) && nat_le (slice_index lower_digits d) 102
 
-digit_within : (d : ℕ) → d < 16 →
-    (48 ≤ slice_index lower_digits d) × (slice_index lower_digits d ≤ 102)
-digit_within d below =
-    byte_in 48 102 (slice_index lower_digits d) (at_below is_of_digits 16 d refl below)
+digit_within : (d : ℕ) → d < 16 → (48 ≤ slice_index lower_digits d) × (slice_index lower_digits d ≤ 102)
+digit_within d below = byte_in 48 102 (slice_index lower_digits d) (at_below is_of_digits 16 d refl below)
 
 -- By induction over the octets, all codes of their text are from 48 to 102: each half of an octet
 -- is below 16, and the hex digit of such a number is in this range (`digit_within`).
-pub encoded_within : (bytes : List ℕ) → IsBytes bytes →
-    are_within 48 102 (encode_lower bytes) ≡ true
+pub encoded_within : (bytes : List ℕ) → IsBytes bytes → are_within 48 102 (encode_lower bytes) ≡ true
 unfolding encode_with
 encoded_within [] are = refl
 encoded_within (byte ∷ bytes) are =
@@ -160,8 +144,7 @@ encoded_within (byte ∷ bytes) are =
     let second = slice_index lower_digits (byte % 16) in
     within-cons 48 102 (slice_index lower_digits (byte / 16)) (second ∷ encode_lower bytes)
     high.0 high.1
-    (within-cons 48 102 second (encode_lower bytes) low.0 low.1
-    (encoded_within bytes (λ i. are (suc i))))
+    (within-cons 48 102 second (encode_lower bytes) low.0 low.1 (encoded_within bytes (λ i. are (suc i))))
 
 byte_small : (k n : ℕ) → byte_at k n < 256
 byte_small zero n = omega arith
@@ -177,8 +160,7 @@ bytes_are (suc k) n (suc i) = bytes_are k n i
 pub state_within : (n : ℕ) → are_within 48 102 (state_digits n) ≡ true
 unfolding state_digits
 state_within n =
-    within-drop 48 102 5 (encode_lower (to_be_bytes w64 n))
-    (encoded_within (to_be_bytes w64 n) (bytes_are 8 n))
+    within-drop 48 102 5 (encode_lower (to_be_bytes w64 n)) (encoded_within (to_be_bytes w64 n) (bytes_are 8 n))
 
 pub state_long : (n : ℕ) → length (state_digits n) ≡ 11
 unfolding state_digits
@@ -216,8 +198,7 @@ octet_digits bits = encode_lower (packed_octets (octet_count bits) (padded bits)
 -- what stands after the colon, and how long it is
 pub octet_digits_within : (bits : List Bool) → are_within 48 102 (octet_digits bits) ≡ true
 octet_digits_within bits =
-    encoded_within (packed_octets (octet_count bits) (padded bits))
-    (octets_are (octet_count bits) (padded bits))
+    encoded_within (packed_octets (octet_count bits) (padded bits)) (octets_are (octet_count bits) (padded bits))
 
 pub octet_digits_long : (bits : List Bool) → length (octet_digits bits) ≡ 2 * octet_count bits
 octet_digits_long bits =
@@ -225,8 +206,7 @@ octet_digits_long bits =
     omega (arith, all, length-packed (octet_count bits) (padded bits))
 
 -- the whole text of bits
-pub bit_text_within : (bits : List Bool) → length bits < 2 ^ 64 →
-    are_within 48 102 (bit_text bits) ≡ true
+pub bit_text_within : (bits : List Bool) → length bits < 2 ^ 64 → are_within 48 102 (bit_text bits) ≡ true
 unfolding bit_text
 bit_text_within bits few =
     within-append 48 102 (decimal (length bits) ++ codes ":") (octet_digits bits)
@@ -236,8 +216,7 @@ bit_text_within bits few =
     (octet_digits_within bits)
 
 -- is short
-pub bit_text_short : (bits : List Bool) → length bits < 2 ^ 64 →
-    length (bit_text bits) ≤ 28 + length bits
+pub bit_text_short : (bits : List Bool) → length bits < 2 ^ 64 → length (bit_text bits) ≤ 28 + length bits
 unfolding bit_text
 bit_text_short bits few =
     omega (
@@ -257,8 +236,7 @@ pub digits_of_within : (bits : List Bool) → are_within 48 102 (digits_of bits)
 unfolding digits_of
 digits_of_within [] = refl
 digits_of_within (bit ∷ bits) =
-    within-append 48 102 (digit_of bit) (digits_of bits) (digit_of_within bit)
-    (digits_of_within bits)
+    within-append 48 102 (digit_of bit) (digits_of bits) (digit_of_within bit) (digits_of_within bits)
 
 digit_of_long : (bit : Bool) → length (digit_of bit) ≡ 1
 digit_of_long true = refl
@@ -268,9 +246,4 @@ pub digits_of_long : (bits : List Bool) → length (digits_of bits) ≡ length b
 unfolding digits_of
 digits_of_long [] = refl
 digits_of_long (bit ∷ bits) =
-    omega (
-      arith,
-      length-append (digit_of bit) (digits_of bits),
-      digit_of_long bit,
-      digits_of_long bits,
-    )
+    omega (arith, length-append (digit_of bit) (digits_of bits), digit_of_long bit, digits_of_long bits)

@@ -20,10 +20,8 @@ abbrev pub IsFenced : List ℕ → List ℕ → Type 0
 IsFenced value rest = length_before 32 (value ++ rest) ≡ length value
 
 -- where the rest begins with a space, or is empty
-fenced : (value rest : List ℕ) → are_within 33 126 value ≡ true → length_before 32 rest ≡ 0 →
-    IsFenced value rest
-fenced value rest are ends =
-    omega (arith, before_low_mark 32 33 126 value rest (omega arith) are, ends)
+fenced : (value rest : List ℕ) → are_within 33 126 value ≡ true → length_before 32 rest ≡ 0 → IsFenced value rest
+fenced value rest are ends = omega (arith, before_low_mark 32 33 126 value rest (omega arith) are, ends)
 
 -- a text whose key begins with a space
 pub key_spaced : (key more rest : List ℕ) → key ≡ 32 ∷ more → length_before 32 (key ++ rest) ≡ 0
@@ -43,8 +41,7 @@ field-front key value rest read fenced =
     ∙ take-append_seam value rest in
     cond-true _ _ _ (begins-front key (value ++ rest)) ∙ ap read value_is
 
-past-front : (key value rest : List ℕ) → IsFenced value rest →
-    past key (key ++ (value ++ rest)) ≡ rest
+past-front : (key value rest : List ℕ) → IsFenced value rest → past key (key ++ (value ++ rest)) ≡ rest
 unfolding past
 past-front key value rest fenced =
     let text = key ++ (value ++ rest) in

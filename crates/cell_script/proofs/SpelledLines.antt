@@ -22,12 +22,10 @@ use Rattle.cell_script.specs.declared.statements.Statement.TheVariants as statem
 
 -- a text that a line states a statement with: it has no LF, and is read as the statement
 abbrev pub ReadsBack : List ℕ → Statement → Type 0
-ReadsBack text statement =
-    (statement_in text ≡ Some statement) × (are_within 32 126 text ≡ true)
+ReadsBack text statement = (statement_in text ≡ Some statement) × (are_within 32 126 text ≡ true)
 
 -- a line of a form whose first word tells the kind of statement
-spelled_as : {X : Type 0} (told : X → Statement) (form : LineForm X) (line : X) →
-    IsLineForm form → IsSaid form line →
+spelled_as : {X : Type 0} (told : X → Statement) (form : LineForm X) (line : X) → IsLineForm form → IsSaid form line →
     statement_in (written_as form line) ≡ option_map told (read_as form (written_as form line)) →
     ReadsBack (written_as form line) (told line)
 spelled_as told form line law said kind =
@@ -57,24 +55,15 @@ forms_small Complemented Plain = omega arith
 forms_small Complemented Complemented = omega arith
 
 abbrev cell_with : CellIdentity → CheckForm → CheckForm → CellIdentity
-cell_with cell first second = record {
-  pn = cell.pn;
-  time = cell.time;
-  lc = cell.lc;
-  check30 = first;
-  check16 = second;
-}
+cell_with cell first second = record { pn = cell.pn; time = cell.time; lc = cell.lc; check30 = first; check16 = second }
 
-same_cell : (cell : CellIdentity) →
-    cell_line cell.pn cell.time cell.lc (bits_of_forms cell.check30 cell.check16) ≡ cell
+same_cell : (cell : CellIdentity) → cell_line cell.pn cell.time cell.lc (bits_of_forms cell.check30 cell.check16) ≡ cell
 same_cell cell =
     let checks = bits_of_forms cell.check30 cell.check16 in
-    ap (λ (f : CheckForm). cell_with cell f (check_form (checks / 2)))
-    (first_form cell.check30 cell.check16)
+    ap (λ (f : CheckForm). cell_with cell f (check_form (checks / 2))) (first_form cell.check30 cell.check16)
     ∙ ap (λ (f : CheckForm). cell_with cell cell.check30 f) (second_form cell.check30 cell.check16)
 
-checks_kept : (checks : ℕ) → checks ≤ 3 →
-    bits_of_forms (check_form (checks % 2)) (check_form (checks / 2)) ≡ checks
+checks_kept : (checks : ℕ) → checks ≤ 3 → bits_of_forms (check_form (checks % 2)) (check_form (checks / 2)) ≡ checks
 checks_kept zero small = refl
 checks_kept (suc zero) small = refl
 checks_kept (suc (suc zero)) small = refl
@@ -92,10 +81,7 @@ cell_law = record {
 
 pub cell_writable : (cell : CellIdentity) → IsStatedCell cell → IsSaid cell_statement cell
 cell_writable cell is = record {
-  ranged = (
-    omega (arith, is.pn),
-    (is.time, (is.lc, (forms_small cell.check30 cell.check16, tt))),
-  );
+  ranged = (omega (arith, is.pn), (is.time, (is.lc, (forms_small cell.check30 cell.check16, tt))));
   lawful = refl;
   same = same_cell cell;
 }
@@ -158,11 +144,9 @@ past_first : (f : NumberRow) (fields : List NumberRow) (text more : List ℕ) �
 unfolding past_numbers
 past_first f fields text more is = ap (past_numbers fields) is
 
-no_numbers : (numbers rest : List ℕ) → numbers ≡ [] → length_before 32 rest ≡ 0 →
-    AreBack [] numbers rest rest
+no_numbers : (numbers rest : List ℕ) → numbers ≡ [] → length_before 32 rest ≡ 0 → AreBack [] numbers rest rest
 unfolding numbers_in past_numbers
-no_numbers numbers rest none ends =
-    record { numbers_read = ap Some (sym none); passed = refl; spaced = ends }
+no_numbers numbers rest none ends = record { numbers_read = ap Some (sym none); passed = refl; spaced = ends }
 
 -- Numbers that are written with their keys are read back, by induction over the fields: a field's
 -- value ends where the next key's space begins, or what comes after all of them, so each is read
@@ -179,8 +163,7 @@ numbers_back (f ∷ fields) (n ∷ numbers) rest are ends =
     sym (append_assoc f.key (decimal n ++ numbers_text fields numbers) rest
     ∙ ap (λ (t : List ℕ). f.key ++ t) (append_assoc (decimal n) (numbers_text fields numbers) rest)) in
     let here = field_back f.key (decimal n) more (number_up_to f.most) n
-    (number_word n (omega (arith, is.up_to, is.small))) told.spaced
-    (number_back f.most n is.small is.up_to) in
+    (number_word n (omega (arith, is.up_to, is.small))) told.spaced (number_back f.most n is.small is.up_to) in
     subst (λ (t : List ℕ). AreBack (f ∷ fields) (n ∷ numbers) t rest) text
     (record {
       numbers_read = first_number f fields n numbers (f.key ++ (decimal n ++ more)) more here
@@ -202,8 +185,7 @@ numbers_within (f ∷ fields) (n ∷ numbers) rest are rests =
     (sym (append_assoc f.key (decimal n ++ numbers_text fields numbers) rest
     ∙ ap (λ (t : List ℕ). f.key ++ t) (append_assoc (decimal n) (numbers_text fields numbers) rest)))
     (keyed_within f.key (decimal n) (numbers_text fields numbers ++ rest) is.key
-    (number_word n (omega (arith, is.up_to, is.small)))
-    (numbers_within fields numbers rest are.1 rests))
+    (number_word n (omega (arith, is.up_to, is.small))) (numbers_within fields numbers rest are.1 rests))
 
 -- the frequency, which may be left out
 record IsFreqBack (freq : Option ℕ) (text rest : List ℕ) : Type 0 where
@@ -222,8 +204,7 @@ no_freq rest = record {
   spaced = key_spaced (codes " rest=") (codes "rest=") (bit_text rest) refl;
 }
 
-some_freq : (freq : ℕ) (text rest : List ℕ) →
-    (tail : List ℕ) × (text ≡ codes " freq=" ++ tail) →
+some_freq : (freq : ℕ) (text rest : List ℕ) → (tail : List ℕ) × (text ≡ codes " freq=" ++ tail) →
     IsField (codes " freq=") (number_up_to 2047) freq text rest →
     (freq_in text ≡ Some (Some freq)) × (past_freq text ≡ rest)
 unfolding freq_in past_freq
@@ -249,8 +230,7 @@ freq_back (Some freq) rest is =
     let told = some_freq freq (codes " freq=" ++ (decimal freq ++ following)) following
     (decimal freq ++ following, refl)
     (field_back (codes " freq=") (decimal freq) following (number_up_to 2047) freq
-    (number_word freq (omega (arith, small)))
-    (key_spaced (codes " rest=") (codes "rest=") (bit_text rest) refl)
+    (number_word freq (omega (arith, small))) (key_spaced (codes " rest=") (codes "rest=") (bit_text rest) refl)
     (number_back 2047 freq (omega arith) small)) in
     subst (λ (t : List ℕ). IsFreqBack (Some freq) t following) text
     (record {
@@ -259,15 +239,13 @@ freq_back (Some freq) rest is =
       spaced = key_spaced (codes " freq=") (codes "freq=") (decimal freq ++ following) refl;
     })
 
-freq_within : (freq : Option ℕ) (rest : List Bool) → IsTail freq rest →
-    are_within 32 126 (rest_part rest) ≡ true →
+freq_within : (freq : Option ℕ) (rest : List Bool) → IsTail freq rest → are_within 32 126 (rest_part rest) ≡ true →
     are_within 32 126 (written_freq freq ++ rest_part rest) ≡ true
 freq_within None rest is rests = rests
 freq_within (Some freq) rest is rests =
     subst (λ (t : List ℕ). are_within 32 126 t ≡ true)
     (sym (append_assoc (codes " freq=") (decimal freq) (rest_part rest)))
-    (keyed_within (codes " freq=") (decimal freq) (rest_part rest) refl
-    (number_word freq (omega (arith, is.0))) rests)
+    (keyed_within (codes " freq=") (decimal freq) (rest_part rest) refl (number_word freq (omega (arith, is.0))) rests)
 
 -- the gain is in its range, and the message has zeros for what each transmission fills in
 pub record IsWritableSync (sync : SyncPlan) : Type 0 where
@@ -284,8 +262,7 @@ rest_short (Some freq) rest is = is.2
 -- P_REV, MIN_P_REV, SID and NID are numbers that their fields of a sync line hold: each fits into
 -- the bits that a sync message has for it, and the field's bound is the greatest number of these
 -- bits.
-network_numbers : (m : SyncFields) → FieldsFit (fixed_fields m) →
-    AreNumbersOf network_rows (network_values m)
+network_numbers : (m : SyncFields) → FieldsFit (fixed_fields m) → AreNumbersOf network_rows (network_values m)
 network_numbers m fit =
     let prev : m.prev < 256 = fit.1.0 in
     let min : m.min < 256 = fit.1.1.0 in
@@ -304,8 +281,7 @@ network_numbers m fit =
 -- LP_SEC, LTM_OFF, DAYLT and PRAT are numbers that their fields of a sync line hold: each fits into
 -- the bits that a sync message has for it, and the field's bound is the greatest number of these
 -- bits.
-local_numbers : (m : SyncFields) → FieldsFit (fixed_fields m) →
-    AreNumbersOf local_rows (local_values m)
+local_numbers : (m : SyncFields) → FieldsFit (fixed_fields m) → AreNumbersOf local_rows (local_values m)
 local_numbers m fit =
     let following = fit.1.1.1.1.1.1.1.1 in
     let lp : m.lp < 256 = following.0 in
@@ -348,12 +324,10 @@ same_message m pn lc time =
 
 message_back : (m : SyncFields) → IsSyncMessage m → m.pn ≡ 0 → m.lc ≡ 0 → m.time ≡ 0 →
     lawful_message (sync_fields (network_values m) (local_values m) m.freq m.rest) ≡ Some m
-message_back m is pn lc time =
-    ap lawful_message (same_message m pn lc time) ∙ is_message m is
+message_back m is pn lc time = ap lawful_message (same_message m pn lc time) ∙ is_message m is
 
 after_back : (gain : ℕ) (network local text following : List ℕ) (freq : Option ℕ) (rest : List Bool)
-    (message : SyncFields) →
-    (freq_in text ≡ Some freq) × (past_freq text ≡ following) →
+    (message : SyncFields) → (freq_in text ≡ Some freq) × (past_freq text ≡ following) →
     IsField (codes " rest=") bits_in_text rest following [] →
     lawful_message (sync_fields network local freq rest) ≡ Some message →
     sync_after gain network local text ≡ Some (record { gain = gain; message = message })
@@ -394,13 +368,11 @@ sync_back sync is =
     let freq = freq_back m.freq m.rest tail in
     let local = numbers_back local_rows (local_values m) (tail_part m) (local_numbers m fit)
     freq.spaced in
-    let network = numbers_back network_rows (network_values m) (local_part m)
-    (network_numbers m fit) local.spaced in
+    let network = numbers_back network_rows (network_values m) (local_part m) (network_numbers m fit) local.spaced in
     sync_read sync.gain (network_values m) (local_values m) (sync_part sync) (network_part m)
     (local_part m) (tail_part m) sync
     (field_back gain_row.key (decimal sync.gain) (network_part m) (number_up_to 65535) sync.gain
-    (number_word sync.gain (omega (arith, is.gain))) network.spaced
-    (number_back 65535 sync.gain (omega arith) is.gain))
+    (number_word sync.gain (omega (arith, is.gain))) network.spaced (number_back 65535 sync.gain (omega arith) is.gain))
     (network.numbers_read, network.passed) (local.numbers_read, local.passed)
     (after_back sync.gain (network_values m) (local_values m) (tail_part m) (rest_part m.rest)
     m.freq m.rest m (freq.freq_read, freq.passed)
@@ -411,8 +383,7 @@ sync_back sync is =
 -- A sync channel's line is read back as that channel, and has no LF: the message's numbers fit
 -- their fields, so they are written with printable bytes, and so are CDMA_FREQ and the bits of the
 -- rest.
-sync_spelled : (sync : SyncPlan) → IsWritableSync sync →
-    ReadsBack (written_sync sync) (statements.Sync sync)
+sync_spelled : (sync : SyncPlan) → IsWritableSync sync → ReadsBack (written_sync sync) (statements.Sync sync)
 unfolding statement_in written_sync
 sync_spelled sync is =
     let m = sync.message in
@@ -445,13 +416,8 @@ body_short body is =
     leb-true (length body) 1146
     (and_parts (nat_le (length body) 1146) (admits (number (take 8 body)) (length body)) all.1).0
 
-pub page_writable : (page : Page) → is_body page.body ≡ true →
-    IsSaid (page_statement page.follows) page
-page_writable page is = record {
-  ranged = (omega (arith, body_short page.body is), tt);
-  lawful = is;
-  same = refl;
-}
+pub page_writable : (page : Page) → is_body page.body ≡ true → IsSaid (page_statement page.follows) page
+page_writable page is = record { ranged = (omega (arith, body_short page.body is), tt); lawful = is; same = refl }
 
 -- the key tells whether the page's capsule follows the one before at once
 page_told : (follows : Bool) (v : Values (page_statement follows).rows) →
@@ -510,26 +476,19 @@ IsWritable (statements.Traffic line) = IsSaid traffic_statement line
 IsWritable (statements.Frame frame) = IsSaid (frame_statement frame.rate) frame
 
 -- is read back from its text
-pub statement_spelled : (statement : Statement) → IsWritable statement →
-    ReadsBack (statement_text statement) statement
+pub statement_spelled : (statement : Statement) → IsWritable statement → ReadsBack (statement_text statement) statement
 unfolding statement_in cell_in link_in pilot_in paging_in traffic_in written_cell written_link
     written_pilot written_paging written_page written_traffic written_frame
-statement_spelled (statements.Cell cell) is =
-    spelled_as statements.Cell cell_statement cell cell_law is refl
-statement_spelled (statements.Link link) is =
-    spelled_as statements.Link link_statement link link_law is refl
-statement_spelled (statements.Pilot pilot) is =
-    spelled_as statements.Pilot pilot_statement pilot pilot_law is refl
+statement_spelled (statements.Cell cell) is = spelled_as statements.Cell cell_statement cell cell_law is refl
+statement_spelled (statements.Link link) is = spelled_as statements.Link link_statement link link_law is refl
+statement_spelled (statements.Pilot pilot) is = spelled_as statements.Pilot pilot_statement pilot pilot_law is refl
 statement_spelled (statements.Sync sync) is = sync_spelled sync is
-statement_spelled (statements.Paging line) is =
-    spelled_as statements.Paging paging_statement line paging_law is refl
+statement_spelled (statements.Paging line) is = spelled_as statements.Paging paging_statement line paging_law is refl
 statement_spelled (statements.Page page) is =
     let form = page_statement page.follows in
-    spelled_as statements.Page form page (page_law page.follows) is
-    (page_told page.follows (form.said page))
+    spelled_as statements.Page form page (page_law page.follows) is (page_told page.follows (form.said page))
 statement_spelled (statements.Traffic line) is =
     spelled_as statements.Traffic traffic_statement line traffic_law is refl
 statement_spelled (statements.Frame frame) is =
     let form = frame_statement frame.rate in
-    spelled_as statements.Frame form frame (frame_law frame.rate) is
-    (frame_told frame.rate (form.said frame))
+    spelled_as statements.Frame form frame (frame_law frame.rate) is (frame_told frame.rate (form.said frame))

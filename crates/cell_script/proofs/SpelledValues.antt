@@ -35,8 +35,7 @@ some_from None d below same = absurd (omega (arith, below, same))
 digit_back : (d : ℕ) → d < 16 → hex_digit (slice_index lower_digits d) ≡ Some d
 digit_back d below =
     some_from (hex_digit (slice_index lower_digits d)) d below
-    (eqb-true (unwrap_or (hex_digit (slice_index lower_digits d)) 99) d
-    (at_below reads_back 16 d refl below))
+    (eqb-true (unwrap_or (hex_digit (slice_index lower_digits d)) 99) d (at_below reads_back 16 d refl below))
 
 from_digit : (n d : ℕ) (digits : List ℕ) → d < 16 →
     hex_from n (slice_index lower_digits d ∷ digits) ≡ hex_from (16 * n + d) digits
@@ -47,8 +46,7 @@ abbrev bytes_after : ℕ → List ℕ → ℕ
 bytes_after n [] = n
 bytes_after n (byte ∷ bytes) = bytes_after (256 * n + byte) bytes
 
-from_bytes : (n : ℕ) (bytes : List ℕ) → IsBytes bytes →
-    hex_from n (encode_lower bytes) ≡ Some (bytes_after n bytes)
+from_bytes : (n : ℕ) (bytes : List ℕ) → IsBytes bytes → hex_from n (encode_lower bytes) ≡ Some (bytes_after n bytes)
 unfolding encode_with
 from_bytes n [] are = hex_from-none n
 from_bytes n (byte ∷ bytes) are =
@@ -69,23 +67,20 @@ pub serial_back : (n : ℕ) → n < 2 ^ 32 → serial_number_in (serial_digits n
 unfolding serial_number_in serial_digits
 serial_back n small =
     let value : bytes_after 0 (to_be_bytes w32 n) ≡ n =
-    serial_value (byte_at 3 n) (byte_at 2 n) (byte_at 1 n) (byte_at 0 n) n
-    (from_be_bytes-to_be_bytes_4 n small) in
+    serial_value (byte_at 3 n) (byte_at 2 n) (byte_at 1 n) (byte_at 0 n) n (from_be_bytes-to_be_bytes_4 n small) in
     cond-true _ _ _ (eq-eqb (length (serial_digits n)) 8 (serial_long n))
     ∙ from_bytes 0 (to_be_bytes w32 n) (bytes_are 4 n)
     ∙ ap Some value
 
 state_value : (a b c d e f g h n : ℕ) → a * 72057594037927936 + b * 281474976710656
-    + c * 1099511627776 + d * 4294967296 + e * 16777216 + f * 65536 + g * 256 + h ≡ n →
-    n < 2 ^ 42 →
+    + c * 1099511627776 + d * 4294967296 + e * 16777216 + f * 65536 + g * 256 + h ≡ n → n < 2 ^ 42 →
     256 * (256 * (256 * (256 * (256 * (16 * 0 + c % 16) + d) + e) + f) + g) + h ≡ n
 state_value a b c d e f g h n is small =
     let low : c % 16 ≡ c = omega (arith, is, small) in
     omega (arith, is, small, low)
 
 -- the last eleven digits of sixteen
-state_digits-last : (n : ℕ) →
-    state_digits n ≡
+state_digits-last : (n : ℕ) → state_digits n ≡
     slice_index lower_digits (byte_at 5 n % 16) ∷ encode_lower (bytes_high_first 5 n)
 unfolding state_digits encode_with
 state_digits-last n = refl
@@ -103,8 +98,7 @@ state_back n is =
     let last = byte_at 5 n % 16 in
     let value : bytes_after (16 * 0 + last) (bytes_high_first 5 n) ≡ n =
     state_value (byte_at 7 n) (byte_at 6 n) (byte_at 5 n) (byte_at 4 n) (byte_at 3 n)
-    (byte_at 2 n) (byte_at 1 n) (byte_at 0 n) n
-    (from_be_bytes-to_be_bytes_8 n (omega (arith, is.1))) is.1 in
+    (byte_at 2 n) (byte_at 1 n) (byte_at 0 n) n (from_be_bytes-to_be_bytes_8 n (omega (arith, is.1))) is.1 in
     let read : hex_from 0 (state_digits n) ≡ Some n =
     ap (hex_from 0) (state_digits-last n)
     ∙ from_digit 0 last (encode_lower (bytes_high_first 5 n)) (omega arith)
@@ -159,16 +153,13 @@ unpadded-with bits more n is few =
 
 unpadded-padded : (bits : List Bool) → unpadded (length bits) (padded bits) ≡ Some bits
 unfolding padded
-unpadded-padded bits =
-    unpadded-with bits (padded bits) (8 * octet_count bits - length bits) refl (omega arith)
+unpadded-padded bits = unpadded-with bits (padded bits) (8 * octet_count bits - length bits) refl (omega arith)
 
-hex_bits_back : (bits : List Bool) → length bits ≤ 1184 →
-    hex_bits (octet_digits bits) ≡ Some (padded bits)
+hex_bits_back : (bits : List Bool) → length bits ≤ 1184 → hex_bits (octet_digits bits) ≡ Some (padded bits)
 unfolding hex_bits
 hex_bits_back bits few =
     let bytes = packed_octets (octet_count bits) (padded bits) in
-    cond-false _ _ _ (le-ltb 296 (length (octet_digits bits))
-    (omega (arith, octet_digits_long bits, few)))
+    cond-false _ _ _ (le-ltb 296 (length (octet_digits bits)) (omega (arith, octet_digits_long bits, few)))
     ∙ ap octets_in (decode_of-encode_lower bytes (octets_are (octet_count bits) (padded bits)))
     ∙ ap Some (octets_spell (octet_count bits) (padded bits) (padded_long bits))
 
@@ -186,14 +177,9 @@ unfolding bits_in_text
 bits_in-parts front hex are =
     let text = front ++ 58 ∷ hex in
     let at_mark : length_before 58 text ≡ length front =
-    omega (
-      arith,
-      before_high_mark 58 48 57 front (58 ∷ hex) (omega arith) are,
-      before-mark 58 58 hex refl,
-    ) in
+    omega (arith, before_high_mark 58 48 57 front (58 ∷ hex) (omega arith) are, before-mark 58 58 hex refl) in
     ap (λ (k : ℕ). bits_of_parts (take k text) (drop k text)) at_mark
-    ∙ ap (λ (t : List ℕ). bits_of_parts t (drop (length front) text))
-    (take-append_seam front (58 ∷ hex))
+    ∙ ap (λ (t : List ℕ). bits_of_parts t (drop (length front) text)) (take-append_seam front (58 ∷ hex))
     ∙ ap (λ (t : List ℕ). bits_of_parts front t) (drop-append_seam front (58 ∷ hex))
 
 -- Bits that were spelled are read again: the text is split at its colon into count and hex digits,
@@ -217,8 +203,7 @@ bits_back bits few =
 
 -- ---- power control bits
 
-digits_back : (before bits : List Bool) →
-    digits_after before (digits_of bits) ≡ Some (before ++ bits)
+digits_back : (before bits : List Bool) → digits_after before (digits_of bits) ≡ Some (before ++ bits)
 unfolding digits_after digits_of
 digits_back before [] = ap Some (sym (append-nil before))
 digits_back before (true ∷ bits) =

@@ -15,8 +15,7 @@ with_line-of draft text statement is = ap (option_and_then (with_next draft)) is
 
 line_text : (text : List ℕ) → take (length (with_line_feed text) - 1) (with_line_feed text) ≡ text
 line_text text =
-    let long : length (with_line_feed text) - 1 ≡ length text =
-    omega (arith, length-append text (10 ∷ [])) in
+    let long : length (with_line_feed text) - 1 ≡ length text = omega (arith, length-append text (10 ∷ [])) in
     ap (λ (n : ℕ). take n (with_line_feed text)) long ∙ take-append_seam text (10 ∷ [])
 
 -- ---- lines after one another

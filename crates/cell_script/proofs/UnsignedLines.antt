@@ -119,8 +119,7 @@ two_values_read lawful line (Some w) (Some x) (byte ∷ bytes) = more (lawful w)
 
 pub one_value_read : {X : Type 0} (line : ℕ → X) (a : Option ℕ) (rest : List ℕ) →
     step (values_of_one a) (λ v. at_end rest (line v.0))
-    ≡ option_map (λ (vs : List ℕ). line (get_or vs 0 0))
-    (step a (λ w. at_end rest (w ∷ 0 ∷ 0 ∷ 0 ∷ [])))
+    ≡ option_map (λ (vs : List ℕ). line (get_or vs 0 0)) (step a (λ w. at_end rest (w ∷ 0 ∷ 0 ∷ 0 ∷ [])))
 one_value_read line None rest = refl
 one_value_read line (Some w) [] = refl
 one_value_read line (Some w) (byte ∷ bytes) = refl
@@ -200,8 +199,7 @@ paging_by_table text =
     two_values_read (λ n. not (n == 0)) paging_with (script_field (codes "paging channel=") (number_up_to 7) text)
     (script_field (codes " gain=") (number_up_to 65535) rest) (past (codes " gain=") rest)
 
-pub pilot_by_table : (text : List ℕ) →
-    pilot_in text
+pub pilot_by_table : (text : List ℕ) → pilot_in text
     ≡ option_map pilot_of (step (script_field (codes "pilot gain=") (number_up_to 65535) text) (λ w.
     at_end (past (codes "pilot gain=") text) (w ∷ 0 ∷ 0 ∷ 0 ∷ [])))
 unfolding pilot_in

@@ -5,8 +5,7 @@ use Rattle.std.proofs.lemmas.List.{map_more, take_more}
 
 -- lines after lines
 lines_after : (first more : List Statement) (start old new : List ℕ) →
-    old ≡ start ++ lines_of first → new ≡ old ++ lines_of more →
-    new ≡ start ++ lines_of (first ++ more)
+    old ≡ start ++ lines_of first → new ≡ old ++ lines_of more → new ≡ start ++ lines_of (first ++ more)
 lines_after first more start old new old_is new_is =
     new_is
     ∙ ap (λ (t : List ℕ). t ++ lines_of more) old_is
@@ -34,8 +33,7 @@ pub channel_written : {A : Type 0} (told : A → List Statement) (items : List A
     (first : Statement) (more : List Statement) (start old middle new : List ℕ) →
     k < length items → item ≡ get_or items k item → told item ≡ first ∷ more →
     old ≡ start ++ lines_of (flat_map told (take k items)) → middle ≡ old ++ statement_line first →
-    new ≡ middle ++ lines_of more →
-    new ≡ start ++ lines_of (flat_map told (take (k + 1) items))
+    new ≡ middle ++ lines_of more → new ≡ start ++ lines_of (flat_map told (take (k + 1) items))
 channel_written told items k item first more start old middle new inside item_is told_is old_is
     middle_is new_is =
     let following = flat_map told (take k items) in
@@ -47,8 +45,7 @@ channel_written told items k item first more start old middle new inside item_is
     let all : flat_map told (take (k + 1) items) ≡ following ++ told item =
     ap (flat_map told) (take_more items k item inside)
     ∙ flat_map-append told (take k items) (get_or items k item ∷ [])
-    ∙ ap (λ (ss : List Statement). following ++ ss)
-    (append-nil (told (get_or items k item)) ∙ ap told (sym item_is)) in
+    ∙ ap (λ (ss : List Statement). following ++ ss) (append-nil (told (get_or items k item)) ∙ ap told (sym item_is)) in
     lines_after following (told item) start old new old_is both
     ∙ ap (λ (ss : List Statement). start ++ lines_of ss) (sym all)
 
@@ -56,5 +53,4 @@ channel_written told items k item first more start old middle new inside item_is
 pub items_written : {A : Type 0} (told : List A → List Statement) (items : List A) (k : ℕ)
     (start new : List ℕ) → length items ≤ k → new ≡ start ++ lines_of (told (take k items)) →
     new ≡ start ++ lines_of (told items)
-items_written told items k start new past is =
-    is ∙ ap (λ xs. start ++ lines_of (told xs)) (take_all k items past)
+items_written told items k start new past is = is ∙ ap (λ xs. start ++ lines_of (told xs)) (take_all k items past)

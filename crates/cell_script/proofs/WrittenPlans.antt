@@ -56,8 +56,7 @@ nothing_sent sync paging traffic no_sync no_paging no_traffic =
     ∙ ap (λ (ps : List PagingPlan). channels_of None ps traffic) no_paging
     ∙ ap (λ (ts : List TrafficPlan). channels_of None [] ts) no_traffic
 
-one_channel : (sync : SyncPlan) (paging : List PagingPlan) (traffic : List TrafficPlan) →
-    paging ≡ [] → traffic ≡ [] →
+one_channel : (sync : SyncPlan) (paging : List PagingPlan) (traffic : List TrafficPlan) → paging ≡ [] → traffic ≡ [] →
     channels_of (Some sync) paging traffic ≡ statements.Sync sync ∷ []
 one_channel sync paging traffic no_paging no_traffic =
     ap (λ (ps : List PagingPlan). channels_of (Some sync) ps traffic) no_paging
@@ -74,10 +73,8 @@ paging_more sync paging next traffic more none is =
     let after = flat_map paging_statements next in
     let last = flat_map traffic_statements traffic in
     let bare : last ≡ [] = ap (flat_map traffic_statements) none in
-    let old : before ++ last ≡ before =
-    ap (λ (ts : List Statement). before ++ ts) bare ∙ append-nil before in
-    let new : after ++ last ≡ after =
-    ap (λ (ts : List Statement). after ++ ts) bare ∙ append-nil after in
+    let old : before ++ last ≡ before = ap (λ (ts : List Statement). before ++ ts) bare ∙ append-nil before in
+    let new : after ++ last ≡ after = ap (λ (ts : List Statement). after ++ ts) bare ∙ append-nil after in
     append_assoc first (before ++ last) more
     ∙ ap (λ (ss : List Statement). first ++ (ss ++ more)) old
     ∙ ap (λ (ss : List Statement). first ++ ss) (sym is)
@@ -113,19 +110,16 @@ last_more told change all before last more all_is is =
     ∙ channel_more told before (change last)
     ∙ ap (λ (ss : List Statement). flat_map told before ++ ss) is
     ∙ sym (append_assoc (flat_map told before) (told last) more)
-    ∙ ap (λ (ss : List Statement). ss ++ more)
-    (sym (channel_more told before last) ∙ ap (flat_map told) (sym all_is))
+    ∙ ap (λ (ss : List Statement). ss ++ more) (sym (channel_more told before last) ∙ ap (flat_map told) (sym all_is))
 
 -- ---- the statements that make a plan
 
 abbrev head_of : CellPlan → List Statement → List Statement
-head_of plan more =
-    statements.Cell plan.cell ∷ (statements.Link plan.link ∷ (statements.Pilot plan.pilot ∷ more))
+head_of plan more = statements.Cell plan.cell ∷ (statements.Link plan.link ∷ (statements.Pilot plan.pilot ∷ more))
 
 next_told : (stage next : Stage) (plan : CellPlan) (said : List Statement) →
     Some stage ≡ Some next → said ≡ said_at stage plan → said ≡ said_at next plan
-next_told stage next plan said e told =
-    subst (λ (s : Stage). said ≡ said_at s plan) (same_Some stage next e) told
+next_told stage next plan said e told = subst (λ (s : Stage). said ≡ said_at s plan) (same_Some stage next e) told
 
 after_told : (sync : SyncPlan) (plan : CellPlan) → statements_of plan ≡ said_at (stage_after_sync sync) plan
 after_told sync plan =
@@ -147,8 +141,7 @@ paging_told : (plan : CellPlan) (line : PagingLine) → plan.traffic ≡ [] →
 paging_told plan line bare =
     ap (head_of plan)
     (paging_more plan.sync plan.paging (plan.paging ++ opened_paging line ∷ []) plan.traffic
-    (statements.Paging line ∷ []) bare
-    (channel_more paging_statements plan.paging (opened_paging line)))
+    (statements.Paging line ∷ []) bare (channel_more paging_statements plan.paging (opened_paging line)))
 
 -- A page is added to the last paging channel: that channel's statements end with its pages and no
 -- traffic channel comes after it, so the new one comes at the end.
@@ -167,8 +160,7 @@ traffic_told : (plan : CellPlan) (line : TrafficLine) →
 traffic_told plan line =
     ap (head_of plan)
     (traffic_more plan.sync plan.paging plan.traffic (plan.traffic ++ opened_traffic line ∷ [])
-    (statements.Traffic line ∷ [])
-    (channel_more traffic_statements plan.traffic (opened_traffic line)))
+    (statements.Traffic line ∷ []) (channel_more traffic_statements plan.traffic (opened_traffic line)))
 
 -- A frame is added to the last traffic channel, whose statements end with its frames.
 frame_told : (plan : CellPlan) (frame : TrafficFrame) → IsOpenTraffic plan →
@@ -186,8 +178,7 @@ page_staged : (rate : Rate) (count : ℕ) (next : Stage) (plan : CellPlan) (page
 unfolding page_stage
 page_staged rate count next plan page e =
     let following = count_after rate count page in
-    let is = cond_some (may_follow rate count page.follows && is_cycle rate following)
-    (Pages rate following) next e in
+    let is = cond_some (may_follow rate count page.follows && is_cycle rate following) (Pages rate following) next e in
     subst (λ (s : Stage). statements_of plan ≡ said_at s plan) is.1 refl
 
 -- the statements after one more
@@ -198,15 +189,12 @@ said_with stage plan statement = said_at stage plan ++ statement ∷ []
 said_more : (statement : Statement) (stage next : Stage) (plan : CellPlan) →
     HasChannels stage plan → next_stage stage statement ≡ Some next →
     said_with stage plan statement ≡ said_at next (with_statement plan statement)
-said_more (statements.Cell cell) Cell next plan has e =
-    next_told Link next (record plan { cell = cell }) _ e refl
-said_more (statements.Link link) Link next plan has e =
-    next_told Pilot next (record plan { link = link }) _ e refl
+said_more (statements.Cell cell) Cell next plan has e = next_told Link next (record plan { cell = cell }) _ e refl
+said_more (statements.Link link) Link next plan has e = next_told Pilot next (record plan { link = link }) _ e refl
 said_more (statements.Pilot pilot) Pilot next plan has e =
     let now : CellPlan = record plan { pilot = pilot } in
     next_told Sync next now _ e
-    (ap (head_of now)
-    (sym (nothing_sent plan.sync plan.paging plan.traffic has.1 has.0.0 has.0.1)))
+    (ap (head_of now) (sym (nothing_sent plan.sync plan.paging plan.traffic has.1 has.0.0 has.0.1)))
 said_more (statements.Sync sync) Sync next plan has e =
     let now : CellPlan = record plan { sync = Some sync } in
     next_told (stage_after_sync sync) next now _ e (sync_told plan sync has ∙ after_told sync now)
@@ -243,8 +231,7 @@ record IsMade (draft : Draft) (said : List Statement) : Type 0 where
 made_next : (draft next : Draft) (said : List Statement) (statement : Statement)
     (stage : Option Stage) → IsMade draft said → IsLawfulStatement statement →
     IsWritable statement → with_next draft statement ≡ Some next → next_stage draft.stage statement ≡ stage →
-    option_map (draft_at (with_statement draft.plan statement)) stage ≡ Some next →
-    IsMade next (said ++ statement ∷ [])
+    option_map (draft_at (with_statement draft.plan statement)) stage ≡ Some next → IsMade next (said ++ statement ∷ [])
 made_next draft next said statement None made lawful is e after same = absurd (cc same)
 made_next draft next said statement (Some stage) made lawful is e after same =
     let following : Draft = draft_at (with_statement draft.plan statement) stage in
@@ -268,15 +255,13 @@ next_made draft next said statement made lawful is e =
     made_next draft next said statement (next_stage draft.stage statement) made lawful is e refl e
 
 -- what a line that may stand next states
-line_stated : (draft next : Draft) (line : List ℕ) → draft_after draft line ≡ Some next →
-    (statement : Statement)
+line_stated : (draft next : Draft) (line : List ℕ) → draft_after draft line ≡ Some next → (statement : Statement)
     × ((statement_in (take (length line - 1) line) ≡ Some statement)
     × (with_next draft statement ≡ Some next))
 unfolding draft_after with_line
 line_stated draft next line e =
     let text = take (length line - 1) line in
-    let told = tried (with_next draft) (statement_in text) next
-    (passed (is_line line) (with_line draft text) next e) in
+    let told = tried (with_next draft) (statement_in text) next (passed (is_line line) (with_line draft text) next e) in
     (told.0, (told.1, told.2))
 
 line_made : (draft next : Draft) (said : List Statement) (line : List ℕ) → IsMade draft said →
@@ -291,8 +276,7 @@ line_made draft next said line made e =
 
 -- ---- the plan
 
-some_plan : (read : Option CellPlan) (n : ℕ) (plan : CellPlan) → ok_or read n ≡ Ok plan →
-    read ≡ Some plan
+some_plan : (read : Option CellPlan) (n : ℕ) (plan : CellPlan) → ok_or read n ≡ Ok plan → read ≡ Some plan
 some_plan None n plan e = absurd (cc e)
 some_plan (Some said) n plan e = cc e
 
@@ -319,13 +303,11 @@ end_back draft said plan made e =
     )
 
 step_back : (draft : Draft) (n : ℕ) (said : List Statement) (line : List ℕ)
-    (more : List (List ℕ)) (plan : CellPlan) (next : Option Draft) →
-    draft_after draft line ≡ next → IsMade draft said →
+    (more : List (List ℕ)) (plan : CellPlan) (next : Option Draft) → draft_after draft line ≡ next → IsMade draft said →
     ((d : Draft) (ss : List Statement) → IsMade d ss → stated d (n + 1) more ≡ Ok plan →
     IsBack plan) →
     stated draft n (line ∷ more) ≡ Ok plan → IsBack plan
-step_back draft n said line more plan None after made rest e =
-    absurd (cc (stated-fault draft n line more after, e))
+step_back draft n said line more plan None after made rest e = absurd (cc (stated-fault draft n line more after, e))
 step_back draft n said line more plan (Some next) after made rest e =
     let told = line_made draft next said line made after in
     rest next told.0 told.1 (sym (stated-next draft next n line more after) ∙ e)
@@ -333,8 +315,7 @@ step_back draft n said line more plan (Some next) after made rest e =
 lines_back : (draft : Draft) (n : ℕ) (said : List Statement) (ls : List (List ℕ))
     (plan : CellPlan) → IsMade draft said → stated draft n ls ≡ Ok plan → IsBack plan
 lines_back draft n said [] plan made e =
-    end_back draft said plan made
-    (some_plan (plan_at draft) n plan (sym (stated-none draft n) ∙ e))
+    end_back draft said plan made (some_plan (plan_at draft) n plan (sym (stated-none draft n) ∙ e))
 lines_back draft n said (line ∷ more) plan made e =
     step_back draft n said line more plan (draft_after draft line) refl made
     (λ d ss now told. lines_back d (n + 1) ss more plan now told) e

@@ -38,8 +38,7 @@ binary-and (suc w) a b =
     let long : length (binary w (a / 2)) ≡ length (binary w (b / 2)) = length-binary w (a / 2) ∙
     sym (length-binary w (b / 2)) in
     rw (half, low_and a b, binary-and w (a / 2) (b / 2))
-    (sym (zip_push both (binary w (a / 2)) (binary w (b / 2)) (nat_eq (a % 2) 1)
-    (nat_eq (b % 2) 1) long))
+    (sym (zip_push both (binary w (a / 2)) (binary w (b / 2)) (nat_eq (a % 2) 1) (nat_eq (b % 2) 1) long))
 
 parity-push : (bs : List Bool) (b : Bool) → parity (bs ++ b ∷ []) ≡ xor (parity bs) b
 parity-push [] true = refl

@@ -25,8 +25,7 @@ origin-plus x =
 
 pub sum_of-append : (xs ys : List Pair) → sum_of (xs ++ ys) ≡ plus (sum_of xs) (sum_of ys)
 sum_of-append [] ys = sym (origin-plus (sum_of ys))
-sum_of-append (x ∷ xs) ys =
-    ap (plus x) (sum_of-append xs ys) ∙ sym (plus_assoc x (sum_of xs) (sum_of ys))
+sum_of-append (x ∷ xs) ys = ap (plus x) (sum_of-append xs ys) ∙ sym (plus_assoc x (sum_of xs) (sum_of ys))
 
 -- the parts of (x + iy) times the conjugate of (c + id)
 pub real_part : (x y c d : ℤ) → (x *ℤ c) +ℤ (y *ℤ d) ≡ (x *ℤ c) -ℤ (y *ℤ neg_ℤ d)

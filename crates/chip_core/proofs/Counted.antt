@@ -4,12 +4,10 @@ use Rattle.chip_core.proofs.Common.{append_assoc, append-nil, take_at, places}
 use Rattle.chip_core.proofs.Places.{length-map-places, map-places-more, places-none}
 use Rattle.chip_core.proofs.Ranges.{flat_map-places-more}
 
-pub map-next : {X : Type 0} (f : ℕ → X) (n : ℕ) →
-    map f (places (suc n)) ≡ map f (places n) ++ f n ∷ []
+pub map-next : {X : Type 0} (f : ℕ → X) (n : ℕ) → map f (places (suc n)) ≡ map f (places n) ++ f n ∷ []
 map-next f n = let e : n + 1 ≡ suc n = omega arith in rw e at (map-places-more f n)
 
-pub flat_map-next : {X : Type 0} (f : ℕ → List X) (n : ℕ) →
-    flat_map f (places (suc n)) ≡ flat_map f (places n) ++ f n
+pub flat_map-next : {X : Type 0} (f : ℕ → List X) (n : ℕ) → flat_map f (places (suc n)) ≡ flat_map f (places n) ++ f n
 flat_map-next f n = let e : n + 1 ≡ suc n = omega arith in rw e at (flat_map-places-more f n)
 
 pub map-zero : {X : Type 0} (f : ℕ → X) → map f (places 0) ≡ []
@@ -49,8 +47,7 @@ map-add {X} f a (suc b) =
     ∙ append_assoc (map f (places a)) (map (λ i. f (a + i)) (places b)) (f (a + b) ∷ [])
     ∙ ap (λ (l : List X). map f (places a) ++ l) (sym (map-next (λ i. f (a + i)) b))
 
-pub flat_map-nothing : {X : Type 0} (f : ℕ → List X) (n : ℕ) → ((k : ℕ) → k < n → f k ≡ []) →
-    flat_map f (places n) ≡ []
+pub flat_map-nothing : {X : Type 0} (f : ℕ → List X) (n : ℕ) → ((k : ℕ) → k < n → f k ≡ []) → flat_map f (places n) ≡ []
 flat_map-nothing f zero none = flat_map-zero f
 flat_map-nothing {X} f (suc n) none =
     flat_map-next f n
@@ -58,8 +55,7 @@ flat_map-nothing {X} f (suc n) none =
     ∙ none n (omega arith)
 
 -- the first k of n places
-pub take-map-places : {X : Type 0} (f : ℕ → X) (k n : ℕ) → k ≤ n →
-    take k (map f (places n)) ≡ map f (places k)
+pub take-map-places : {X : Type 0} (f : ℕ → X) (k n : ℕ) → k ≤ n → take k (map f (places n)) ≡ map f (places k)
 take-map-places f k n le =
     let e : n ≡ k + (n - k) = omega (arith, le) in
     ap (λ (m : ℕ). take k (map f (places m))) e

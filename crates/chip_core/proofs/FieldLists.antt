@@ -19,8 +19,7 @@ spelled-append (f ∷ fs) gs =
     sym (append_assoc (binary f.width f.value) (spelled fs) (spelled gs))
 
 -- one more field
-pub spelled_more : (fs : List Field) (i : ℕ) (d : Field) → i < length fs →
-    spelled (take (i + 1) fs) ≡
+pub spelled_more : (fs : List Field) (i : ℕ) (d : Field) → i < length fs → spelled (take (i + 1) fs) ≡
     spelled (take i fs) ++ binary (get_or fs i d).width (get_or fs i d).value
 spelled_more fs i d within =
     let f = get_or fs i d in

@@ -17,8 +17,7 @@ sum_front (suc n) f =
     let e = sum_front n f in
     rw e (omega (arith, ints))
 
-pub sum_append : (a b : ℕ) (f : ℕ → ℤ) →
-    sum_below (a + b) f ≡ sum_below a f +ℤ sum_below b (λ k. f (a + k))
+pub sum_append : (a b : ℕ) (f : ℕ → ℤ) → sum_below (a + b) f ≡ sum_below a f +ℤ sum_below b (λ k. f (a + k))
 unfolding sum_below
 sum_append a zero f = let e : a + 0 ≡ a = omega arith in rw e (omega (arith, ints))
 sum_append a (suc b) f =

@@ -22,8 +22,7 @@ places-none = refl
 
 pub places-more : (n : ℕ) → places (n + 1) ≡ places n ++ n ∷ []
 unfolding places
-places-more n =
-    rw add-one (range-suc 0 n ∙ ap (λ (m : ℕ). range_with_len 0 n ++ m ∷ []) (omega arith))
+places-more n = rw add-one (range-suc 0 n ∙ ap (λ (m : ℕ). range_with_len 0 n ++ m ∷ []) (omega arith))
 
 pub length-places : (n : ℕ) → length (places n) ≡ n
 unfolding places
@@ -38,13 +37,11 @@ pub length-map-places : {X : Type 0} (f : ℕ → X) (n : ℕ) → length (map f
 unfolding places
 length-map-places f n = length-map-range_with_len f 0 n
 
-pub get_or-map-places : {X : Type 0} (f : ℕ → X) (n i : ℕ) (d : X) → i < n →
-    get_or (map f (places n)) i d ≡ f i
+pub get_or-map-places : {X : Type 0} (f : ℕ → X) (n i : ℕ) (d : X) → i < n → get_or (map f (places n)) i d ≡ f i
 unfolding places
 get_or-map-places f n i d h = get_or-map-range_with_len f 0 n i i d h (omega arith)
 
-pub map-places-more : {X : Type 0} (f : ℕ → X) (n : ℕ) →
-    map f (places (n + 1)) ≡ map f (places n) ++ f n ∷ []
+pub map-places-more : {X : Type 0} (f : ℕ → X) (n : ℕ) → map f (places (n + 1)) ≡ map f (places n) ++ f n ∷ []
 unfolding places
 map-places-more f n = map-range_with_len_more f 0 n n (omega arith)
 

@@ -6,8 +6,7 @@ use Rattle.std.proofs.lemmas.List.Elements.{filter-append}
 use Rattle.chip_core.proofs.Places.{places-more}
 
 -- maps that agree from a place on, below its end
-pub map_ext_range : {A : Type 0} (f g : ℕ → A) (a n : ℕ) →
-    ((k : ℕ) → a ≤ k → k < a + n → f k ≡ g k) →
+pub map_ext_range : {A : Type 0} (f g : ℕ → A) (a n : ℕ) → ((k : ℕ) → a ≤ k → k < a + n → f k ≡ g k) →
     map f (range_with_len a n) ≡ map g (range_with_len a n)
 map_ext_range f g a zero h = refl
 map_ext_range f g a (suc n) h =
@@ -15,8 +14,7 @@ map_ext_range f g a (suc n) h =
     let rest = map_ext_range f g (a + 1) n (λ k low high. h k (omega arith) (omega arith)) in
     cc
 
-pub flat_map_ext_range : {A : Type 0} (f g : ℕ → List A) (a n : ℕ) →
-    ((k : ℕ) → a ≤ k → k < a + n → f k ≡ g k) →
+pub flat_map_ext_range : {A : Type 0} (f g : ℕ → List A) (a n : ℕ) → ((k : ℕ) → a ≤ k → k < a + n → f k ≡ g k) →
     flat_map f (range_with_len a n) ≡ flat_map g (range_with_len a n)
 flat_map_ext_range f g a zero h = refl
 flat_map_ext_range f g a (suc n) h =
@@ -42,8 +40,7 @@ filter_none_range p a (suc n) h =
 
 -- Where the first of some places passes a test, the places that pass are that one and then those
 -- after it that pass: asking of each place that it lie after this one leaves out just the first.
-first_here : (p : ℕ → Bool) (a n m : ℕ) → a ≡ m → p m ≡ true →
-    filter p (range_with_len a (suc n))
+first_here : (p : ℕ → Bool) (a n m : ℕ) → a ≡ m → p m ≡ true → filter p (range_with_len a (suc n))
     ≡ m ∷ filter (λ k. nat_le (m + 1) k && p k) (range_with_len a (suc n))
 first_here p a n m e here =
     let pa : p a ≡ true = rw e here in
@@ -68,8 +65,7 @@ filter_first_range p a (suc n) m low high here before =
           let pa : p a ≡ false = before a (omega arith) less in
           let past : nat_le (m + 1) a ≡ false = lt-leb (m + 1) a (omega arith) in
           let rest =
-          filter_first_range p (a + 1) n m (omega arith) (omega arith) here
-          (λ k l h. before k (omega arith) h) in
+          filter_first_range p (a + 1) n m (omega arith) (omega arith) here (λ k l h. before k (omega arith) h) in
           rw (pa, past) rest
       | inr (inr more) ↦ absurd (omega arith)
     ]
@@ -119,8 +115,7 @@ pub filter_ext_places : (p q : ℕ → Bool) (n : ℕ) → ((k : ℕ) → k < n 
 unfolding places
 filter_ext_places p q n h = filter_ext_range p q 0 n (λ k l below. h k (omega arith))
 
-pub filter_none_places : (p : ℕ → Bool) (n : ℕ) → ((k : ℕ) → k < n → p k ≡ false) →
-    filter p (places n) ≡ []
+pub filter_none_places : (p : ℕ → Bool) (n : ℕ) → ((k : ℕ) → k < n → p k ≡ false) → filter p (places n) ≡ []
 unfolding places
 filter_none_places p n h = filter_none_range p 0 n (λ k l below. h k (omega arith))
 
@@ -129,30 +124,24 @@ pub every : (xs : List ℕ) → filter (λ k. true) xs ≡ xs
 every [] = refl
 every (x ∷ xs) = ap (λ (ys : List ℕ). x ∷ ys) (every xs)
 
-pub filter_all_places : (p : ℕ → Bool) (n : ℕ) → ((k : ℕ) → k < n → p k ≡ true) →
-    filter p (places n) ≡ places n
+pub filter_all_places : (p : ℕ → Bool) (n : ℕ) → ((k : ℕ) → k < n → p k ≡ true) → filter p (places n) ≡ places n
 filter_all_places p n all = filter_ext_places p (λ k. true) n all ∙ every (places n)
 
-pub filter_first_places : (p : ℕ → Bool) (n m : ℕ) → m < n → p m ≡ true →
-    ((k : ℕ) → k < m → p k ≡ false) →
+pub filter_first_places : (p : ℕ → Bool) (n m : ℕ) → m < n → p m ≡ true → ((k : ℕ) → k < m → p k ≡ false) →
     filter p (places n) ≡ m ∷ filter (λ k. nat_le (m + 1) k && p k) (places n)
 unfolding places
 filter_first_places p n m below here before =
     filter_first_range p 0 n m (omega arith) (omega arith) here (λ k l less. before k less)
 
 pub map_ext_filter_places : {A : Type 0} (p : ℕ → Bool) (f g : ℕ → A) (n : ℕ) →
-    ((k : ℕ) → k < n → p k ≡ true → f k ≡ g k) →
-    map f (filter p (places n)) ≡ map g (filter p (places n))
+    ((k : ℕ) → k < n → p k ≡ true → f k ≡ g k) → map f (filter p (places n)) ≡ map g (filter p (places n))
 unfolding places
-map_ext_filter_places p f g n h =
-    map_ext_filter_range p f g 0 n (λ k below kept. h k (omega arith) kept)
+map_ext_filter_places p f g n h = map_ext_filter_range p f g 0 n (λ k below kept. h k (omega arith) kept)
 
 pub flat_map_ext_filter_places : {A : Type 0} (p : ℕ → Bool) (f g : ℕ → List A) (n : ℕ) →
-    ((k : ℕ) → k < n → p k ≡ true → f k ≡ g k) →
-    flat_map f (filter p (places n)) ≡ flat_map g (filter p (places n))
+    ((k : ℕ) → k < n → p k ≡ true → f k ≡ g k) → flat_map f (filter p (places n)) ≡ flat_map g (filter p (places n))
 unfolding places
-flat_map_ext_filter_places p f g n h =
-    flat_map_ext_filter_range p f g 0 n (λ k below kept. h k (omega arith) kept)
+flat_map_ext_filter_places p f g n h = flat_map_ext_filter_range p f g 0 n (λ k below kept. h k (omega arith) kept)
 
 pub map_ext_places : {A : Type 0} (f g : ℕ → A) (n : ℕ) → ((k : ℕ) → k < n → f k ≡ g k) →
     map f (places n) ≡ map g (places n)
@@ -165,8 +154,7 @@ pub flat_map-places-more : {A : Type 0} (f : ℕ → List A) (n : ℕ) →
 flat_map-places-more f n =
     rw (places-more n, flat_map-append) (ap (λ xs. flat_map f (places n) ++ xs) (append-nil (f n)))
 
-pub filter-places-more : (p : ℕ → Bool) (n : ℕ) → p n ≡ true →
-    filter p (places (n + 1)) ≡ filter p (places n) ++ n ∷ []
+pub filter-places-more : (p : ℕ → Bool) (n : ℕ) → p n ≡ true → filter p (places (n + 1)) ≡ filter p (places n) ++ n ∷ []
 filter-places-more p n kept = rw (places-more n, filter-append, kept) refl
 
 -- a filter over more numbers, none of which passes

@@ -24,8 +24,7 @@ xor_step false false false = refl
 -- One place more moves its bit out of what is left and into the sum: the bit that is read is the
 -- register's at place i, and the code's `!=` adds it (`xor_step`).
 pub parity_more : (n : ℕ) (sum : Bool) (at : List ℕ) (i : ℕ) → i < length at →
-    xor (not (beq sum (nat_eq (bit_and (n / 2 ^ get_or at i 0) 1) 1)))
-    (parity (map (bit_of n) (drop (i + 1) at)))
+    xor (not (beq sum (nat_eq (bit_and (n / 2 ^ get_or at i 0) 1) 1))) (parity (map (bit_of n) (drop (i + 1) at)))
     ≡ xor sum (parity (map (bit_of n) (drop i at)))
 parity_more n sum at i h =
     let bit = bit_of n (get_or at i 0) in
@@ -48,12 +47,9 @@ parity_done f sum all at i done is =
 pub low_bit : (n w k : ℕ) → k < w → bit_of (n % 2 ^ w) k ≡ bit_of n k
 low_bit n w k h =
     let parts : w - k - 1 + 1 + k ≡ w = omega arith in
-    let e : n % 2 ^ (w - k - 1 + 1 + k) / 2 ^ k ≡ n / 2 ^ k % 2 ^ (w - k - 1 + 1) =
-    field_of n (w - k - 1 + 1) k in
-    let f : n / 2 ^ k % 2 ^ (w - k - 1 + 1) % 2 ≡ n / 2 ^ k % 2 =
-    mod-mod-pow (n / 2 ^ k) (w - k - 1) 1 in
-    let g : n % 2 ^ w / 2 ^ k % 2 ≡ n / 2 ^ k % 2 ^ (w - k - 1 + 1) % 2 =
-    (rw parts at (ap (λ m. m % 2) e)) in
+    let e : n % 2 ^ (w - k - 1 + 1 + k) / 2 ^ k ≡ n / 2 ^ k % 2 ^ (w - k - 1 + 1) = field_of n (w - k - 1 + 1) k in
+    let f : n / 2 ^ k % 2 ^ (w - k - 1 + 1) % 2 ≡ n / 2 ^ k % 2 = mod-mod-pow (n / 2 ^ k) (w - k - 1) 1 in
+    let g : n % 2 ^ w / 2 ^ k % 2 ≡ n / 2 ^ k % 2 ^ (w - k - 1 + 1) % 2 = (rw parts at (ap (λ m. m % 2) e)) in
     ap (λ m. nat_eq m 1) (g ∙ f)
 
 -- the bits of a register with one more bit at its low end
@@ -82,11 +78,9 @@ get_or-binary zero n k h = absurd (omega (arith, h))
 get_or-binary (suc w) n zero h =
     let place : suc w - 1 - 0 ≡ w = omega arith in
     let whole : n / 2 ^ 0 ≡ n = omega arith in
-    rw (place, whole)
-    (get_or_push (binary w (n / 2)) (nat_eq (n % 2) 1) false w (length-binary w (n / 2)))
+    rw (place, whole) (get_or_push (binary w (n / 2)) (nat_eq (n % 2) 1) false w (length-binary w (n / 2)))
 get_or-binary (suc w) n (suc k) h =
     let place : suc w - 1 - suc k ≡ w - 1 - k = omega arith in
-    let within : w - 1 - k < length (binary w (n / 2)) =
-    omega (arith, h, length-binary w (n / 2)) in
+    let within : w - 1 - k < length (binary w (n / 2)) = omega (arith, h, length-binary w (n / 2)) in
     rw place (get_or_append_left (binary w (n / 2)) _ false (w - 1 - k) within ∙
     get_or-binary w (n / 2) k (omega (arith, h)) ∙ sym (bit_of-half n k))

@@ -11,8 +11,7 @@ repeated (suc n) xs = repeated n xs ++ xs
 
 pub length-repeated : {X : Type 0} (n : ℕ) (xs : List X) → length (repeated n xs) ≡ length xs * n
 length-repeated zero xs = omega arith
-length-repeated (suc n) xs =
-    omega (arith, length-append (repeated n xs) xs, length-repeated n xs)
+length-repeated (suc n) xs = omega (arith, length-append (repeated n xs) xs, length-repeated n xs)
 
 -- By induction over the rounds, place i of a repeated list has what the list has at i modulo its
 -- length: i lies in the rounds before the last, or in the last one at i less their length.
@@ -31,22 +30,17 @@ get_or-repeated (suc n) xs i d lt =
           let e : i ≡ n * w + r = omega (arith, over) in
           let low : r < w = omega (arith, lt, over) in
           get_or-append_right (repeated n xs) xs (w * n) i d long over
-          ∙ ap (λ (k : ℕ). get_or xs k d)
-          (sym (ap (λ (k : ℕ). k % w) e ∙ mod-mul-add n w r low))
+          ∙ ap (λ (k : ℕ). get_or xs k d) (sym (ap (λ (k : ℕ). k % w) e ∙ mod-mul-add n w r low))
     ]
 
 -- `many` of them from place `first` on
-pub repeated-part : {X : Type 0} (n : ℕ) (xs : List X) (first many : ℕ) (d : X) →
-    first + many ≤ length xs * n →
-    map (λ j. get_or xs ((first + j) % length xs) d) (places many)
-    ≡ take many (drop first (repeated n xs))
+pub repeated-part : {X : Type 0} (n : ℕ) (xs : List X) (first many : ℕ) (d : X) → first + many ≤ length xs * n →
+    map (λ j. get_or xs ((first + j) % length xs) d) (places many) ≡ take many (drop first (repeated n xs))
 repeated-part n xs first many d within =
     let all = repeated n xs in
     let long : length (take many (drop first all)) ≡ many =
-    length-take-le many (drop first all)
-    (omega (arith, length-drop first all, length-repeated n xs, within)) in
-    sym (map-places-all (λ j. get_or xs ((first + j) % length xs) d)
-    (take many (drop first all)) many d long
+    length-take-le many (drop first all) (omega (arith, length-drop first all, length-repeated n xs, within)) in
+    sym (map-places-all (λ j. get_or xs ((first + j) % length xs) d) (take many (drop first all)) many d long
     (λ k lt.
     get_or-take many (drop first all) k d lt
     ∙ get_or-drop first all k d

@@ -49,25 +49,19 @@ unfolding diff
 diff-same p q r s e = omega (arith, ints)
 
 pub distrib : (a b c : ℤ) → a *ℤ (b +ℤ c) ≡ (a *ℤ b) +ℤ (a *ℤ c)
-distrib a b c =
-    rw (split a, split b, split c) (simp (diff-times, diff-plus) (diff-same _ _ _ _ (omega arith)))
+distrib a b c = rw (split a, split b, split c) (simp (diff-times, diff-plus) (diff-same _ _ _ _ (omega arith)))
 
 pub mul_assoc_ℤ : (a b c : ℤ) → (a *ℤ b) *ℤ c ≡ a *ℤ (b *ℤ c)
-mul_assoc_ℤ a b c =
-    rw (split a, split b, split c) (simp diff-times (diff-same _ _ _ _ (omega arith)))
+mul_assoc_ℤ a b c = rw (split a, split b, split c) (simp diff-times (diff-same _ _ _ _ (omega arith)))
 
 pub distrib_right : (a b c : ℤ) → (a +ℤ b) *ℤ c ≡ (a *ℤ c) +ℤ (b *ℤ c)
-distrib_right a b c =
-    rw (split a, split b, split c) (simp (diff-times, diff-plus) (diff-same _ _ _ _ (omega arith)))
+distrib_right a b c = rw (split a, split b, split c) (simp (diff-times, diff-plus) (diff-same _ _ _ _ (omega arith)))
 
 pub swap_products : (a b c d : ℤ) → (a *ℤ b) *ℤ (c *ℤ d) ≡ (a *ℤ c) *ℤ (b *ℤ d)
-swap_products a b c d =
-    rw (split a, split b, split c, split d) (simp diff-times (diff-same _ _ _ _ (omega arith)))
+swap_products a b c d = rw (split a, split b, split c, split d) (simp diff-times (diff-same _ _ _ _ (omega arith)))
 
 pub times_neg : (a b : ℤ) → a *ℤ neg_ℤ b ≡ neg_ℤ (a *ℤ b)
-times_neg a b =
-    rw (split a, split b) (simp (diff-times, diff-neg) (diff-same _ _ _ _ (omega arith)))
+times_neg a b = rw (split a, split b) (simp (diff-times, diff-neg) (diff-same _ _ _ _ (omega arith)))
 
 pub neg_times : (a b : ℤ) → neg_ℤ a *ℤ b ≡ neg_ℤ (a *ℤ b)
-neg_times a b =
-    rw (split a, split b) (simp (diff-times, diff-neg) (diff-same _ _ _ _ (omega arith)))
+neg_times a b = rw (split a, split b) (simp (diff-times, diff-neg) (diff-same _ _ _ _ (omega arith)))

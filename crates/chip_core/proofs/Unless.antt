@@ -13,8 +13,7 @@ pub record IsGreatestUnless (taken : List ℕ) (f : ℕ → ℤ) (n best : ℕ) 
   pub first : (k : ℕ) → k < best → list_any (nat_eq k) taken ≡ false → f k <ℤ f best
 
 -- there is one at most
-unique : (taken : List ℕ) (f : ℕ → ℤ) (n a b : ℕ) → IsGreatestUnless taken f n a →
-    IsGreatestUnless taken f n b → a ≡ b
+unique : (taken : List ℕ) (f : ℕ → ℤ) (n a b : ℕ) → IsGreatestUnless taken f n a → IsGreatestUnless taken f n b → a ≡ b
 unique taken f n a b p q = ⊎_elim (λ e. e)
     (⊎_elim
     (λ lt. let first = q.first a lt p.free in let most = p.greatest b q.below q.free in
@@ -27,8 +26,7 @@ is_less-none : (x : Option ℤ) → is_less x None ≡ false
 is_less-none None = refl
 is_less-none (Some x) = refl
 
-value_of_taken : (taken : List ℕ) (f : ℕ → ℤ) (k : ℕ) → list_any (nat_eq k) taken ≡ true →
-    value_unless taken f k ≡ None
+value_of_taken : (taken : List ℕ) (f : ℕ → ℤ) (k : ℕ) → list_any (nat_eq k) taken ≡ true → value_unless taken f k ≡ None
 value_of_taken taken f k e = rw e
 
 value_of_free : (taken : List ℕ) (f : ℕ → ℤ) (k : ℕ) → list_any (nat_eq k) taken ≡ false →
@@ -63,8 +61,7 @@ next_best-taken taken f n best e =
 still_taken : (taken : List ℕ) (f : ℕ → ℤ) (n best : ℕ) → list_any (nat_eq n) taken ≡ true →
     Scanned taken f n best → Scanned taken f (n + 1) best
 still_taken taken f n best e h = ⊎_elim
-    (λ none. inl
-    (record { all = below_more (λ k. list_any (nat_eq k) taken ≡ true) n none.0.all e }, none.1))
+    (λ none. inl (record { all = below_more (λ k. list_any (nat_eq k) taken ≡ true) n none.0.all e }, none.1))
     (λ is. inr (record {
       below = let b = is.below in omega (arith, b);
       free = is.free;
@@ -96,8 +93,7 @@ next_best-first taken f zero best none start e =
     same_either (is_less (value_unless taken f best) (value_unless taken f zero)) zero best start
 next_best-first taken f (suc n) best none start e =
     let before : list_any (nat_eq best) taken ≡ true = none.all best (omega (arith, start)) in
-    ap (λ (x : Option ℤ). pick (suc n) best x (value_unless taken f (suc n)))
-    (value_of_taken taken f best before)
+    ap (λ (x : Option ℤ). pick (suc n) best x (value_unless taken f (suc n))) (value_of_taken taken f best before)
     ∙ ap (λ (y : Option ℤ). pick (suc n) best None y) (value_of_free taken f (suc n) e)
 
 -- a number that isn't taken, after others
@@ -123,8 +119,7 @@ keeps taken f n best is less = record {
 }
 
 picked : (taken : List ℕ) (f : ℕ → ℤ) (n best : ℕ) → IsGreatestUnless taken f n best →
-    list_any (nat_eq n) taken ≡ false →
-    (b : Bool) → int_lt (f best) (f n) ≡ b →
+    list_any (nat_eq n) taken ≡ false → (b : Bool) → int_lt (f best) (f n) ≡ b →
     IsGreatestUnless taken f (n + 1) (if b then n else best)
 picked taken f n best is e true t = takes taken f n best is e (tested (f best) (f n) t)
 picked taken f n best is e false t = keeps taken f n best is (untested (f best) (f n) t)
@@ -135,8 +130,7 @@ next_best-picked : (taken : List ℕ) (f : ℕ → ℤ) (n best : ℕ) → IsGre
     list_any (nat_eq n) taken ≡ false → IsGreatestUnless taken f (n + 1) (next_best taken f n best)
 next_best-picked taken f n best is e =
     let both : next_best taken f n best ≡ (if int_lt (f best) (f n) then n else best) =
-    ap (λ (x : Option ℤ). pick n best x (value_unless taken f n))
-    (value_of_free taken f best is.free)
+    ap (λ (x : Option ℤ). pick n best x (value_unless taken f n)) (value_of_free taken f best is.free)
     ∙ ap (λ (y : Option ℤ). pick n best (Some (f best)) y) (value_of_free taken f n e) in
     let P : ℕ → Type 0 = λ m. IsGreatestUnless taken f (n + 1) m in
     subst P (sym both) (picked taken f n best is e (int_lt (f best) (f n)) refl)
@@ -160,15 +154,12 @@ pub scanned : (taken : List ℕ) (f : ℕ → ℤ) (n : ℕ) → Scanned taken f
 unfolding greatest_unless
 scanned taken f zero = inl (record { all = λ k lt. absurd (omega (arith, lt)) }, refl)
 scanned taken f (suc n) =
-    rw add-one at (scan_more taken f n (greatest_unless taken f n) (list_any (nat_eq n) taken) refl
-    (scanned taken f n))
+    rw add-one at (scan_more taken f n (greatest_unless taken f n) (list_any (nat_eq n) taken) refl (scanned taken f n))
 
 pub only : (taken : List ℕ) (f : ℕ → ℤ) (n best : ℕ) → IsGreatestUnless taken f n best →
     best ≡ greatest_unless taken f n
-only taken f n best is = ⊎_elim
-    (λ none. free_taken (list_any (nat_eq best) taken) is.free (none.0.all best is.below))
-    (λ found. unique taken f n best (greatest_unless taken f n) is found)
-    (scanned taken f n)
+only taken f n best is = ⊎_elim (λ none. free_taken (list_any (nat_eq best) taken) is.free (none.0.all best is.below))
+    (λ found. unique taken f n best (greatest_unless taken f n) is found) (scanned taken f n)
 
 -- one place more
 pub first_places-none : (f : ℕ → ℤ) (n : ℕ) → first_places 0 f n ≡ []
@@ -182,5 +173,4 @@ pub first_places-more : (k : ℕ) (f : ℕ → ℤ) (n best : ℕ) (before : Lis
     first_places k f n ≡ before → length before < n → IsGreatestUnless before f n best →
     first_places (suc k) f n ≡ before ++ best ∷ []
 unfolding first_places
-first_places-more k f n best before e room is =
-    rw (e, nat_lt-true (length before) n room, ← only before f n best is)
+first_places-more k f n best before e room is = rw (e, nat_lt-true (length before) n room, ← only before f n best is)

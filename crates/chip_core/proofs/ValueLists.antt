@@ -23,25 +23,21 @@ front w bits room =
 
 -- a number that was spelled is read again
 pub number_front : (w n : ℕ) (rest : List Bool) → n < 2 ^ w → number_at 0 w (binary w n ++ rest) ≡ n
-number_front w n rest fits =
-    ap number (take_at (binary w n) rest w (length-binary w n)) ∙ number-binary w n fits
+number_front w n rest fits = ap number (take_at (binary w n) rest w (length-binary w n)) ∙ number-binary w n fits
 
 pub after_front : (w n : ℕ) (rest : List Bool) → drop w (binary w n ++ rest) ≡ rest
 after_front w n rest = drop_at (binary w n) rest w (length-binary w n)
 
 -- MANY FIELDS
-pub length-in_widths : (ws vs : List ℕ) → length ws ≡ length vs →
-    length (spelled (in_widths ws vs)) ≡ total_width ws
+pub length-in_widths : (ws vs : List ℕ) → length ws ≡ length vs → length (spelled (in_widths ws vs)) ≡ total_width ws
 length-in_widths [] [] h = refl
 length-in_widths [] (x ∷ vs) h = absurd (omega (arith, h))
 length-in_widths (x ∷ ws) [] h = absurd (omega (arith, h))
 length-in_widths (x ∷ ws) (y ∷ vs) h =
-    let more : length (spelled (in_widths ws vs)) ≡ total_width ws =
-    length-in_widths ws vs (omega (arith, h)) in
+    let more : length (spelled (in_widths ws vs)) ≡ total_width ws = length-in_widths ws vs (omega (arith, h)) in
     omega (arith, length-append (binary x y) (spelled (in_widths ws vs)), length-binary x y, more)
 
-pub total_room : (ws : List ℕ) (i : ℕ) → i < length ws →
-    total_width (take i ws) + get_or ws i 0 ≤ total_width ws
+pub total_room : (ws : List ℕ) (i : ℕ) → i < length ws → total_width (take i ws) + get_or ws i 0 ≤ total_width ws
 total_room [] i h = absurd (omega (arith, h))
 total_room (w ∷ ws) zero h = omega arith
 total_room (w ∷ ws) (suc i) h = omega (arith, total_room ws i (omega (arith, h)))
@@ -54,8 +50,7 @@ total_more (w ∷ ws) (suc i) h =
     let e : suc i + 1 ≡ suc (i + 1) = omega arith in
     rw e (omega (arith, total_more ws i (omega (arith, h))))
 
-pub width_within : (ws : List ℕ) (i : ℕ) → AreWidths ws → i < length ws →
-    (1 ≤ get_or ws i 0) × (get_or ws i 0 ≤ 64)
+pub width_within : (ws : List ℕ) (i : ℕ) → AreWidths ws → i < length ws → (1 ≤ get_or ws i 0) × (get_or ws i 0 ≤ 64)
 width_within [] i are h = absurd (omega (arith, h))
 width_within (w ∷ ws) zero are h = (are.0, are.1)
 width_within (w ∷ ws) (suc i) are h = width_within ws i are.2 (omega (arith, h))
@@ -65,8 +60,7 @@ pub fit_value : (ws vs : List ℕ) (i : ℕ) → FieldsFit (in_widths ws vs) →
 fit_value [] vs i fit a b = absurd (omega (arith, a))
 fit_value (w ∷ ws) [] i fit a b = absurd (omega (arith, b))
 fit_value (w ∷ ws) (v ∷ vs) zero fit a b = fit.0
-fit_value (w ∷ ws) (v ∷ vs) (suc i) fit a b =
-    fit_value ws vs i fit.1 (omega (arith, a)) (omega (arith, b))
+fit_value (w ∷ ws) (v ∷ vs) (suc i) fit a b = fit_value ws vs i fit.1 (omega (arith, a)) (omega (arith, b))
 
 -- By induction over the widths, values that were spelled are read again: the first field is read as
 -- its value, which fits its width, and what is left after it spells the other values.
@@ -77,8 +71,7 @@ values_again [] (v ∷ vs) rest h fit = absurd (omega (arith, h))
 values_again (w ∷ ws) [] rest h fit = absurd (omega (arith, h))
 values_again (w ∷ ws) (v ∷ vs) rest h fit =
     let more = spelled (in_widths ws vs) in
-    let parts : (binary w v ++ more) ++ rest ≡ binary w v ++ (more ++ rest) =
-    append_assoc (binary w v) more rest in
+    let parts : (binary w v ++ more) ++ rest ≡ binary w v ++ (more ++ rest) = append_assoc (binary w v) more rest in
     let first : number_at 0 w ((binary w v ++ more) ++ rest) ≡ v =
     ap (number_at 0 w) parts ∙ number_front w v (more ++ rest) fit.0 in
     let later : values_at ws (drop w ((binary w v ++ more) ++ rest)) ≡ vs =
@@ -117,18 +110,15 @@ taken_more (w ∷ ws) [] i a b = absurd (omega (arith, b))
 taken_more (w ∷ ws) (v ∷ vs) zero a b = refl
 taken_more (w ∷ ws) (v ∷ vs) (suc i) a b =
     let e : suc i + 1 ≡ suc (i + 1) = omega arith in
-    rw e (ap (λ (fs : List Field). field w v ∷ fs)
-    (taken_more ws vs i (omega (arith, a)) (omega (arith, b))))
+    rw e (ap (λ (fs : List Field). field w v ∷ fs) (taken_more ws vs i (omega (arith, a)) (omega (arith, b))))
 
-pub spelled_push : (fs : List Field) (w v : ℕ) →
-    spelled (fs ++ field w v ∷ []) ≡ spelled fs ++ binary w v
+pub spelled_push : (fs : List Field) (w v : ℕ) → spelled (fs ++ field w v ∷ []) ≡ spelled fs ++ binary w v
 spelled_push fs w v = spelled-append fs (field w v ∷ [])
     ∙ ap (λ (r : List Bool). spelled fs ++ r) (append-nil (binary w v))
 
 -- one more field is written
 pub write_push : (w v : ℕ) (fs : List Field) (first before after : List Bool) →
-    before ≡ first ++ spelled fs → after ≡ before ++ binary w v →
-    after ≡ first ++ spelled (fs ++ field w v ∷ [])
+    before ≡ first ++ spelled fs → after ≡ before ++ binary w v → after ≡ first ++ spelled (fs ++ field w v ∷ [])
 write_push w v fs first before after is next =
     next ∙ ap (λ (r : List Bool). r ++ binary w v) is
     ∙ append_assoc first (spelled fs) (binary w v)
@@ -142,8 +132,7 @@ write_room ws vs i h within =
     ∙ sym (length-take-le i vs (omega (arith, within, h))) in
     omega (arith, length-in_widths (take i ws) (take i vs) a, total_room ws i within)
 
-pub written_more : (ws vs : List ℕ) (i : ℕ) (before after first : List Bool) → i < length ws →
-    i < length vs →
+pub written_more : (ws vs : List ℕ) (i : ℕ) (before after first : List Bool) → i < length ws → i < length vs →
     before ≡ first ++ spelled (in_widths (take i ws) (take i vs)) →
     after ≡ before ++ binary (get_or ws i 0) (get_or vs i 0) →
     after ≡ first ++ spelled (in_widths (take (i + 1) ws) (take (i + 1) vs))
@@ -154,8 +143,7 @@ written_more ws vs i before after first a b is next =
 
 -- By induction over the widths, one width more gives one value more, the number of its bits after
 -- the total of the widths before: dropping width by width drops their total (`dropped`).
-pub values_more : (ws : List ℕ) (i : ℕ) (bits : List Bool) → i < length ws →
-    values_at (take (i + 1) ws) bits
+pub values_more : (ws : List ℕ) (i : ℕ) (bits : List Bool) → i < length ws → values_at (take (i + 1) ws) bits
     ≡ values_at (take i ws) bits ++ number_at (total_width (take i ws)) (get_or ws i 0) bits ∷ []
 values_more [] i bits h = absurd (omega (arith, h))
 values_more (w ∷ ws) zero bits h = refl
@@ -169,8 +157,7 @@ values_more (w ∷ ws) (suc i) bits h =
     ∙ ap (λ (r : List Bool). values_at (take i ws) (drop w bits) ++ number (take v r) ∷ []) place))
 
 -- one more number of a column
-pub column_more : (size place width n : ℕ) (bits : List Bool) →
-    column_at size place width (n + 1) bits
+pub column_more : (size place width n : ℕ) (bits : List Bool) → column_at size place width (n + 1) bits
     ≡ column_at size place width n bits ++ number_at (n * size + place) width bits ∷ []
 column_more size place width zero bits = let e : 0 * size + place ≡ place = omega arith in
     rw e refl
@@ -183,8 +170,6 @@ column_more size place width (suc n) bits =
     ∙ ap (λ (r : List Bool). column_at size place width n (drop size bits)
     ++ number (take width r) ∷ []) there))
 
-pub length-column : (size place width n : ℕ) (bits : List Bool) →
-    length (column_at size place width n bits) ≡ n
+pub length-column : (size place width n : ℕ) (bits : List Bool) → length (column_at size place width n bits) ≡ n
 length-column size place width zero bits = refl
-length-column size place width (suc n) bits =
-    ap suc (length-column size place width n (drop size bits))
+length-column size place width (suc n) bits = ap suc (length-column size place width n (drop size bits))

@@ -20,8 +20,7 @@ or_nothing word place i =
 
 pub set_here : (word place v : ℕ) (bit : Bool) → place < 64 → v ≡ bool_byte bit →
     bit_of word place ≡ false → bit_of (bit_or word (v * 2 ^ place % 2 ^ 64)) place ≡ bit
-set_here word place v true within is clear =
-    rw is (ap (λ (m : ℕ). nat_eq m 1) (bit_at_set_same w64 word place within))
+set_here word place v true within is clear = rw is (ap (λ (m : ℕ). nat_eq m 1) (bit_at_set_same w64 word place within))
 set_here word place v false within is clear = rw is (or_nothing word place place ∙ clear)
 
 pub set_others : (word place v : ℕ) (bit : Bool) → place < 64 → v ≡ bool_byte bit → (i : ℕ) →
@@ -34,8 +33,7 @@ set_others word place v false within is i other = rw is (or_nothing word place i
 pub record SetsBit (words : List ℕ) (count v : ℕ) (bit : Bool) : Type 0 where
   pub within : count / 64 < length words
   pub here : bit_of v (count % 64) ≡ bit
-  pub others : (i : ℕ) → i < 64 → i ≢ count % 64 →
-      bit_of v i ≡ bit_of (get_or words (count / 64) 0) i
+  pub others : (i : ℕ) → i < 64 → i ≢ count % 64 → bit_of v i ≡ bit_of (get_or words (count / 64) 0) i
 
 pub sets : (words : List ℕ) (count v : ℕ) (bit : Bool) → IsPacked words count → count < 1184 →
     (bit_of (get_or words (count / 64) 0) (count % 64) ≡ false → bit_of v (count % 64) ≡ bit) →
@@ -55,8 +53,7 @@ word_bit-same words count v bit s =
 
 -- Setting one bit of a packed list changes no other: a bit of another word stays with its word, and
 -- one of the same word lies at another of its 64 places, which the new word has as before.
-pub word_bit-other : (words : List ℕ) (count v : ℕ) (bit : Bool) → SetsBit words count v bit →
-    (i : ℕ) → i ≢ count →
+pub word_bit-other : (words : List ℕ) (count v : ℕ) (bit : Bool) → SetsBit words count v bit → (i : ℕ) → i ≢ count →
     word_bit (set words (count / 64) v) i ≡ word_bit words i
 word_bit-other words count v bit s i other =
     ⊎_elim
@@ -80,18 +77,15 @@ unfolding unpacked
 unpacked-more words count v bit s =
     let new = word_bit (set words (count / 64) v) in
     let front : map new (range_with_len 0 count) ≡ map (word_bit words) (range_with_len 0 count) =
-    fill_by_all (word_bit words) (map new (range_with_len 0 count)) count false
-    (length-map-range_with_len new 0 count)
+    fill_by_all (word_bit words) (map new (range_with_len 0 count)) count false (length-map-range_with_len new 0 count)
     (λ k lt. get_or-map-range_with_len new 0 count k k false lt (omega arith) ∙
     word_bit-other words count v bit s k (λ (e : k ≡ count). omega (arith, lt, e))) in
     map-range_with_len_more new 0 count count (omega arith)
-    ∙ ap (λ (b : Bool). map new (range_with_len 0 count) ++ b ∷ [])
-    (word_bit-same words count v bit s)
+    ∙ ap (λ (b : Bool). map new (range_with_len 0 count) ++ b ∷ []) (word_bit-same words count v bit s)
     ∙ ap (λ (bs : List Bool). bs ++ bit ∷ []) front
 
 pub IsPacked-more : (words : List ℕ) (count v : ℕ) (bit : Bool) → IsPacked words count →
-    count < 1184 → v < 2 ^ 64 → SetsBit words count v bit →
-    IsPacked (set words (count / 64) v) (count + 1)
+    count < 1184 → v < 2 ^ 64 → SetsBit words count v bit → IsPacked (set words (count / 64) v) (count + 1)
 IsPacked-more words count v bit p room fits s = record {
   room = omega (arith, room);
   long = length-set words (count / 64) v ∙ p.long;
@@ -110,12 +104,10 @@ IsPacked-more words count v bit p room fits s = record {
 }
 
 -- how many bits there are, and the read of one
-pub length_is : (words : List ℕ) (count : ℕ) (bits : List Bool) → unpacked words count ≡ bits →
-    count ≡ length bits
+pub length_is : (words : List ℕ) (count : ℕ) (bits : List Bool) → unpacked words count ≡ bits → count ≡ length bits
 length_is words count bits is = sym (ap length (sym is) ∙ length-unpacked words count)
 
-pub bit_read : (words : List ℕ) (count i : ℕ) (bits : List Bool) → unpacked words count ≡ bits →
-    i < length bits →
+pub bit_read : (words : List ℕ) (count i : ℕ) (bits : List Bool) → unpacked words count ≡ bits → i < length bits →
     slice_get bits i ≡ Some (nat_eq (bit_and (get_or words (i / 64) 0 / 2 ^ (i % 64)) 1) 1)
 bit_read words count i bits is within =
     let below : i < count = omega (arith, within, length_is words count bits is) in
@@ -139,8 +131,7 @@ and_swap false false = refl
 -- Two lists are compared by their counts and words: packing the bits that words hold gives these
 -- words again (`words_again`), and the counts are the lists' lengths.
 pub same_words : (r s : Bool) (words words' : List ℕ) (count count' : ℕ) (bits bits' : List Bool) →
-    unpacked words count ≡ bits → unpacked words' count' ≡ bits' → IsPacked words count →
-    IsPacked words' count' →
+    unpacked words count ≡ bits → unpacked words' count' ≡ bits' → IsPacked words count → IsPacked words' count' →
     r ≡ (s && pointwise nat_eq words words') → s ≡ nat_eq count count' →
     r ≡ (pointwise nat_eq (packed bits) (packed bits') && nat_eq (length bits) (length bits'))
 same_words r s words words' count count' bits bits' is is' p p' both counts =
@@ -148,5 +139,4 @@ same_words r s words words' count count' bits bits' is is' p p' both counts =
     let again' : packed bits' ≡ words' = ap packed (sym is') ∙ sym (words_again words' count' p') in
     let long : length bits ≡ count = sym (length_is words count bits is) in
     let long' : length bits' ≡ count' = sym (length_is words' count' bits' is') in
-    rw (again, again', long, long', both, counts)
-    (and_swap (nat_eq count count') (pointwise nat_eq words words'))
+    rw (again, again', long, long', both, counts) (and_swap (nat_eq count count') (pointwise nat_eq words words'))

@@ -48,5 +48,4 @@ told_by_first plan m (sending ∷ sendings) = Some (told_superframes plan.cell m
 -- the superframes up to the mark, where the cell sends a sync channel
 abbrev pub told_with_sync : CellPlan → Option SyncPlan → Option ℕ
 told_with_sync plan None = None
-told_with_sync plan (Some sync) =
-    told_by_first plan sync.message (whole_sendings plan sync.message)
+told_with_sync plan (Some sync) = told_by_first plan sync.message (whole_sendings plan sync.message)

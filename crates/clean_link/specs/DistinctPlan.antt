@@ -39,8 +39,7 @@ abbrev pub frame_at : Rate → SetOneFrame
 frame_at rate = distinct_frame_with rate (distinct_bits_of rate)
 
 abbrev pub frame2_at : Rate2 → SetTwoFrame
-frame2_at rate =
-    record { rate = rate; information = bits_of2 rate; power_bits = replicate 16 true }
+frame2_at rate = record { rate = rate; information = bits_of2 rate; power_bits = replicate 16 true }
 
 -- a channel with these frames
 abbrev pub channel_on : ℕ → List TrafficFrame → TrafficPlan
@@ -61,11 +60,7 @@ second_channel =
 abbrev pub distinct_plan : CellPlan
 distinct_plan = record {
   cell = record { pn = 0; time = 1000; lc = before 1 686592; check30 = Plain; check16 = Plain };
-  link = record {
-    factor = record { i = pos 0; q = negsuc 2 };
-    start = 0;
-    samples = 786432;
-  };
+  link = record { factor = record { i = pos 0; q = negsuc 2 }; start = 0; samples = 786432 };
   pilot = record { gain = 100 };
   sync = Some (some_sync 1);
   paging = [];

@@ -6,18 +6,10 @@ use Rattle.clean_link.specs.HeardFrames.{frames_sent}
 
 -- two frames, whose power control bits tell a handset to raise its power, and to lower it
 slow : SetOneFrame
-slow = record {
-  rate = R1200;
-  information = replicate 16 true;
-  power_bits = replicate 16 false;
-}
+slow = record { rate = R1200; information = replicate 16 true; power_bits = replicate 16 false }
 
 faster : SetOneFrame
-faster = record {
-  rate = R2400;
-  information = replicate 40 true;
-  power_bits = replicate 16 true;
-}
+faster = record { rate = R2400; information = replicate 40 true; power_bits = replicate 16 true }
 
 -- so much of a cell, from a local chip on, with a traffic channel that sends the two in turn
 cell : ℕ → ℕ → CellPlan

@@ -27,8 +27,7 @@ frame_told plan p frame =
 
 -- the frames of a channel from the mark on, which is at this local chip
 abbrev pub frames_of_channel : CellPlan → TrafficPlan → ℕ → List Event
-frames_of_channel plan p mark_chip =
-    flat_map (frame_told plan p) (received_frames plan p mark_chip)
+frames_of_channel plan p mark_chip = flat_map (frame_told plan p) (received_frames plan p mark_chip)
 
 -- what is told of the first channel on a row
 abbrev pub told_on_row : (TrafficPlan → List Event) → List TrafficPlan → ℕ → List Event

@@ -143,12 +143,7 @@ NoneIsDirected = HoldsOfDistinct (λ plan p t traffic m samples.
 -- whatever its score is.
 pub record IsDecodedAs (f : SetOneFrame) (decoded : Decoded) : Type 0 where
   pub score : ℤ
-  pub same : decoded ≡ record {
-    rate = f.rate;
-    good = true;
-    bits = f.information;
-    score = score;
-  }
+  pub same : decoded ≡ record { rate = f.rate; good = true; bits = f.information; score = score }
 
 -- There are as many samples as the cell's. Of each frame that is heard from the reference's pilot
 -- alone the power control bits come back, and so do its rate and its information bits where it is

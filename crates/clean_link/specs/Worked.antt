@@ -10,8 +10,7 @@ use Rattle.clean_link.specs.DistinctPlan.{told_message}
 -- a second of a cell, from a local chip on, whose sync message has 25 octets, and so nine frames of
 -- which seven have bits of it
 cell : ℕ → ℕ → CellPlan
-cell start samples =
-    cell_with start samples Plain (Some (some_sync 1)) [] []
+cell start samples = cell_with start samples Plain (Some (some_sync 1)) [] []
 
 -- when the whole transmissions have been heard
 heard : CellPlan → List ℕ

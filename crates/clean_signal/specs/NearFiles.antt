@@ -55,8 +55,7 @@ OtherPathsAreNoise = (plan : CellPlan) (link : LinkPlan) (e : ℕ) →
 
 -- the same cell over a link whose factor is so many times this one's
 abbrev pub louder : ℕ → CellPlan → CellPlan
-louder d plan =
-    over_link (record plan.link { factor = scaled (pos d) plan.link.factor }) plan
+louder d plan = over_link (record plan.link { factor = scaled (pos d) plan.link.factor }) plan
 
 abbrev pub louder_sample : ℕ → Sample → Sample
 louder_sample d x = record { i = pos d *ℤ x.i; q = pos d *ℤ x.q }

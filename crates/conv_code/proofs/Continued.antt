@@ -28,11 +28,9 @@ split {X} f m (suc n) =
     ∙ append_assoc (flat_map f (places m)) (flat_map g (places n)) (flat_map f ((m + n) ∷ []))
     ∙ ap (λ (xs : List X). flat_map f (places m) ++ xs) (sym last))
 
-taps_same : (x y : List Bool) (j k : ℕ) (generator : List ℕ) →
-    list_all (λ back. nat_le back 8) generator ≡ true →
+taps_same : (x y : List Bool) (j k : ℕ) (generator : List ℕ) → list_all (λ back. nat_le back 8) generator ≡ true →
     ((back : ℕ) → back ≤ 8 → get_or x (8 + j - back) false ≡ get_or y (8 + k - back) false) →
-    map (λ back. get_or x (8 + j - back) false) generator ≡
-    map (λ back. get_or y (8 + k - back) false) generator
+    map (λ back. get_or x (8 + j - back) false) generator ≡ map (λ back. get_or y (8 + k - back) false) generator
 taps_same x y j k [] all h = refl
 taps_same x y j k (back ∷ backs) all h =
     let parts = and_parts (nat_le back 8) (list_all (λ back. nat_le back 8) backs) all in
@@ -42,8 +40,7 @@ taps_same x y j k (back ∷ backs) all h =
 
 -- a pair depends on its bit and the eight before
 pub pair_same : (x y : List Bool) (j k : ℕ) →
-    ((back : ℕ) → back ≤ 8 → get_or x (8 + j - back) false ≡ get_or y (8 + k - back) false) →
-    pair x j ≡ pair y k
+    ((back : ℕ) → back ≤ 8 → get_or x (8 + j - back) false ≡ get_or y (8 + k - back) false) → pair x j ≡ pair y k
 pair_same x y j k h =
     let first = ap parity (taps_same x y j k g0 refl h) in
     let second = ap parity (taps_same x y j k g1 refl h) in
@@ -54,8 +51,7 @@ pub before : (start xs ys : List Bool) (j : ℕ) → length start ≡ 8 → j < 
 before start xs ys j eight lt =
     pair_same (start ++ (xs ++ ys)) (start ++ xs) j j
     (λ back le.
-    let within : 8 + j - back < length (start ++ xs) =
-    omega (arith, lt, eight, length-append start xs) in
+    let within : 8 + j - back < length (start ++ xs) = omega (arith, lt, eight, length-append start xs) in
     ap (λ (r : List Bool). get_or r (8 + j - back) false) (sym (append_assoc start xs ys))
     ∙ get_or_append_left (start ++ xs) ys false (8 + j - back) within)
 
@@ -95,14 +91,12 @@ continued start xs ys eight =
 pub code_symbols-none : (start : List Bool) → code_symbols start [] ≡ []
 code_symbols-none start = rw places-none
 
-pub code_symbols-one : (start : List Bool) (bit : Bool) →
-    code_symbols start (bit ∷ []) ≡ pair (start ++ bit ∷ []) 0
+pub code_symbols-one : (start : List Bool) (bit : Bool) → code_symbols start (bit ∷ []) ≡ pair (start ++ bit ∷ []) 0
 unfolding places
 code_symbols-one start bit = refl
 
 pub length-state_after : (start bits : List Bool) → length (state_after start bits) ≡ length start
-length-state_after start bits =
-    omega (arith, length-drop (length bits) (start ++ bits), length-append start bits)
+length-state_after start bits = omega (arith, length-drop (length bits) (start ++ bits), length-append start bits)
 
 pub state_after-none : (start : List Bool) → state_after start [] ≡ start
 state_after-none start = append-nil start
@@ -120,16 +114,13 @@ state_after-append start xs ys =
     ap (drop n) (drop-append-le m (start ++ xs) ys within))
 
 -- one bit more
-pub code_symbols-push : (start xs : List Bool) (bit : Bool) → length start ≡ 8 →
-    code_symbols start (xs ++ bit ∷ []) ≡
+pub code_symbols-push : (start xs : List Bool) (bit : Bool) → length start ≡ 8 → code_symbols start (xs ++ bit ∷ []) ≡
     code_symbols start xs ++ pair (state_after start xs ++ bit ∷ []) 0
 code_symbols-push start xs bit eight =
     continued start xs (bit ∷ []) eight ∙
-    ap (λ (r : List Bool). code_symbols start xs ++ r)
-    (code_symbols-one (state_after start xs) bit)
+    ap (λ (r : List Bool). code_symbols start xs ++ r) (code_symbols-one (state_after start xs) bit)
 
-pub length_pairs : (f g : ℕ → Bool) (n : ℕ) →
-    length (flat_map (λ j. f j ∷ g j ∷ []) (places n)) ≡ 2 * n
+pub length_pairs : (f g : ℕ → Bool) (n : ℕ) → length (flat_map (λ j. f j ∷ g j ∷ []) (places n)) ≡ 2 * n
 length_pairs f g zero = rw places-none
 length_pairs f g (suc n) =
     let h = λ (j : ℕ). f j ∷ g j ∷ [] in
@@ -142,7 +133,5 @@ length_pairs f g (suc n) =
     )
     (omega (arith, length_pairs f g n))
 
-pub length-code_symbols : (start bits : List Bool) →
-    length (code_symbols start bits) ≡ 2 * length bits
-length-code_symbols start bits =
-    length_pairs (symbol g0 (start ++ bits)) (symbol g1 (start ++ bits)) (length bits)
+pub length-code_symbols : (start bits : List Bool) → length (code_symbols start bits) ≡ 2 * length bits
+length-code_symbols start bits = length_pairs (symbol g0 (start ++ bits)) (symbol g1 (start ++ bits)) (length bits)

@@ -7,10 +7,8 @@ use Rattle.conv_code.proofs.Pairs.{AreAt, symbols_at, pair_from_state}
 
 -- one bit more and its two symbols
 pub symbols_more : (start register : ℕ) (xs symbols : List Bool) (bit first second : Bool) →
-    symbols ≡ code_symbols (binary 8 start) xs →
-    binary 8 register ≡ state_after (binary 8 start) xs →
-    first ≡ symbol g0 (binary 8 register ++ bit ∷ []) 0 →
-    second ≡ symbol g1 (binary 8 register ++ bit ∷ []) 0 →
+    symbols ≡ code_symbols (binary 8 start) xs → binary 8 register ≡ state_after (binary 8 start) xs →
+    first ≡ symbol g0 (binary 8 register ++ bit ∷ []) 0 → second ≡ symbol g1 (binary 8 register ++ bit ∷ []) 0 →
     symbols ++ first ∷ second ∷ [] ≡ code_symbols (binary 8 start) (xs ++ bit ∷ [])
 symbols_more start register xs symbols bit first second given state one two =
     let eight : length (binary 8 start) ≡ 8 = length-binary 8 start in
@@ -18,8 +16,7 @@ symbols_more start register xs symbols bit first second given state one two =
 
 -- the state after one bit more
 pub state_more : (start register next : ℕ) (xs : List Bool) (bit : Bool) →
-    binary 8 register ≡ state_after (binary 8 start) xs →
-    binary 8 next ≡ state_after (binary 8 register) (bit ∷ []) →
+    binary 8 register ≡ state_after (binary 8 start) xs → binary 8 next ≡ state_after (binary 8 register) (bit ∷ []) →
     binary 8 next ≡ state_after (binary 8 start) (xs ++ bit ∷ [])
 state_more start register next xs bit state moved =
     moved ∙ ap (λ (s : List Bool). state_after s (bit ∷ [])) state ∙
@@ -27,8 +24,7 @@ state_more start register next xs bit state moved =
 
 -- two appended one after another
 pub two_appended : (out one two : List Bool) (first second : Bool) → one ≡ out ++ first ∷ [] →
-    two ≡ one ++ second ∷ [] →
-    two ≡ out ++ first ∷ second ∷ []
+    two ≡ one ++ second ∷ [] → two ≡ out ++ first ∷ second ∷ []
 two_appended out one two first second is is' =
     is' ∙ ap (λ (r : List Bool). r ++ second ∷ []) is ∙ append_assoc out (first ∷ []) (second ∷ [])
 

@@ -13,8 +13,7 @@ pub record AreAt (symbols : List Bool) (j : ℕ) (first second : Bool) : Type 0 
 -- In a list with the pair f j, g j for each number j, that pair stands at places 2 j and 2 j + 1.
 -- By induction over the numbers: a pair that is put at the end stands after two values for each
 -- number before it, and those keep their places.
-pub pairs_at : (f g : ℕ → Bool) (n j : ℕ) → j < n →
-    AreAt (flat_map (λ j. f j ∷ g j ∷ []) (places n)) j (f j) (g j)
+pub pairs_at : (f g : ℕ → Bool) (n j : ℕ) → j < n → AreAt (flat_map (λ j. f j ∷ g j ∷ []) (places n)) j (f j) (g j)
 pairs_at f g zero j lt = absurd (omega (arith, lt))
 pairs_at f g (suc n) j lt =
     let h = λ (j : ℕ). f j ∷ g j ∷ [] in
@@ -40,8 +39,7 @@ pairs_at f g (suc n) j lt =
 
 pub symbols_at : (start bits : List Bool) (j : ℕ) → j < length bits →
     AreAt (code_symbols start bits) j (symbol g0 (start ++ bits) j) (symbol g1 (start ++ bits) j)
-symbols_at start bits j lt =
-    pairs_at (symbol g0 (start ++ bits)) (symbol g1 (start ++ bits)) (length bits) j lt
+symbols_at start bits j lt = pairs_at (symbol g0 (start ++ bits)) (symbol g1 (start ++ bits)) (length bits) j lt
 
 -- The pair at place j depends only on the state before it and on bit j: the code after the first j
 -- bits goes on from their state (`following`), and later bits don't enter the pair (`before`).
@@ -66,16 +64,9 @@ pair_from_state start codeword j eight lt =
 
 -- two symbols more
 pub take_pair : (symbols : List Bool) (j : ℕ) (first second : Bool) → 2 * j + 1 < length symbols →
-    AreAt symbols j first second →
-    take (2 * (j + 1)) symbols ≡ take (2 * j) symbols ++ first ∷ second ∷ []
+    AreAt symbols j first second → take (2 * (j + 1)) symbols ≡ take (2 * j) symbols ++ first ∷ second ∷ []
 take_pair symbols j first second room is =
     let place : 2 * (j + 1) ≡ 2 * j + 1 + 1 = omega arith in
     let within : 2 * j < length symbols = omega (arith, room) in
-    rw (
-      place,
-      take_more symbols (2 * j + 1) false room,
-      take_more symbols (2 * j) false within,
-      is.even,
-      is.odd,
-    )
+    rw (place, take_more symbols (2 * j + 1) false room, take_more symbols (2 * j) false within, is.even, is.odd)
     (append_assoc (take (2 * j) symbols) (first ∷ []) (second ∷ []))

@@ -6,8 +6,7 @@ use Rattle.conv_code.proofs.Continued.{length-code_symbols}
 use Rattle.conv_code.proofs.Pairs.{AreAt, symbols_at}
 use Rattle.conv_code.proofs.Solved.{solutions, generator_of, place_of, entry_solved}
 
-either : (symbols joined : List Bool) (j r : ℕ) → r < 2 →
-    AreAt symbols j (symbol g0 joined j) (symbol g1 joined j) →
+either : (symbols joined : List Bool) (j r : ℕ) → r < 2 → AreAt symbols j (symbol g0 joined j) (symbol g1 joined j) →
     get_or symbols (2 * j + r) false ≡ symbol (cond (nat_eq r 1) g1 g0) joined j
 either symbols joined j zero lt is = let place : 2 * j + 0 ≡ 2 * j = omega arith in rw place is.even
 either symbols joined j (suc zero) lt is = is.odd
@@ -44,13 +43,11 @@ all_early = refl
 -- Each start bit is the sum of the symbols that its row of `solutions` names (`entry_solved`): all
 -- of these are among the first 16 code symbols, which are those of the equations (`symbol_of`).
 pub start_entry : (start bits symbols : List Bool) (i : ℕ) → i < 8 → length start ≡ 8 →
-    16 ≤ length symbols → code_symbols start bits ≡ symbols →
-    get_or start i false ≡
+    16 ≤ length symbols → code_symbols start bits ≡ symbols → get_or start i false ≡
     parity (map (λ place. get_or symbols place false) (get_or solutions i []))
 start_entry start bits symbols i lt eight long gives =
     let ks = get_or solutions i [] in
-    let enough : 8 ≤ length bits =
-    omega (arith, long, length-code_symbols start bits, ap length gives) in
+    let enough : 8 ≤ length bits = omega (arith, long, length-code_symbols start bits, ap length gives) in
     let early : list_all (λ k. nat_lt k 16) ks ≡ true =
     agree_below_at are_early (λ i. true) 16 i all_early (omega (arith, lt)) in
     let within : i < length start = omega (arith, lt, eight) in
@@ -58,8 +55,7 @@ start_entry start bits symbols i lt eight long gives =
     ∙ entry_solved (start ++ bits) i (omega (arith, lt))
     ∙ ap parity
     (sym (map_below (λ k. get_or (code_symbols start bits) k false)
-    (λ k. symbol (generator_of k) (start ++ bits) (place_of k)) ks early
-    (λ k l. symbol_of start bits k l enough)))
+    (λ k. symbol (generator_of k) (start ++ bits) (place_of k)) ks early (λ k l. symbol_of start bits k l enough)))
     ∙ ap (λ (r : List Bool). parity (map (λ place. get_or r place false) ks)) gives
 
 -- eight bits, one by one
@@ -71,13 +67,11 @@ eight_entries s eight = absurd (omega (arith, eight))
 
 -- A register of eight bits that took eight more holds just these: each step drops the oldest bit
 -- and puts the new one at the end, so that after eight steps no bit from before is left.
-pub eight_pushed : (s s1 s2 s3 s4 s5 s6 s7 s8 : List Bool) (b1 b2 b3 b4 b5 b6 b7 b8 : Bool) →
-    length s ≡ 8 →
+pub eight_pushed : (s s1 s2 s3 s4 s5 s6 s7 s8 : List Bool) (b1 b2 b3 b4 b5 b6 b7 b8 : Bool) → length s ≡ 8 →
     s1 ≡ state_after s (b1 ∷ []) → s2 ≡ state_after s1 (b2 ∷ []) → s3 ≡ state_after s2 (b3 ∷ []) →
     s4 ≡ state_after s3 (b4 ∷ []) →
     s5 ≡ state_after s4 (b5 ∷ []) → s6 ≡ state_after s5 (b6 ∷ []) → s7 ≡ state_after s6 (b7 ∷ []) →
-    s8 ≡ state_after s7 (b8 ∷ []) →
-    s8 ≡ b1 ∷ b2 ∷ b3 ∷ b4 ∷ b5 ∷ b6 ∷ b7 ∷ b8 ∷ []
+    s8 ≡ state_after s7 (b8 ∷ []) → s8 ≡ b1 ∷ b2 ∷ b3 ∷ b4 ∷ b5 ∷ b6 ∷ b7 ∷ b8 ∷ []
 eight_pushed (a ∷ b ∷ c ∷ d ∷ e ∷ f ∷ g ∷ h ∷ []) s1 s2 s3 s4 s5 s6 s7 s8 b1 b2 b3 b4 b5 b6 b7 b8
     eight e1 e2 e3 e4 e5 e6 e7 e8 =
     let t2 : s2 ≡ c ∷ d ∷ e ∷ f ∷ g ∷ h ∷ b1 ∷ b2 ∷ [] = e2 ∙

@@ -25,8 +25,7 @@ window_bits state bit (suc k) lt =
     (sym (get_or_append_left (binary 8 state) (bit ∷ []) false (8 - 1 - k) within ∙
     get_or-binary 8 state k (omega (arith, lt))))
 
-window_taps : (state : ℕ) (bit : Bool) (generator : List ℕ) →
-    list_all (λ back. nat_le back 8) generator ≡ true →
+window_taps : (state : ℕ) (bit : Bool) (generator : List ℕ) → list_all (λ back. nat_le back 8) generator ≡ true →
     map (bit_of (window state bit)) generator ≡
     map (λ back. get_or (binary 8 state ++ bit ∷ []) (8 + 0 - back) false) generator
 window_taps state bit [] all = refl
@@ -37,10 +36,8 @@ window_taps state bit (back ∷ backs) all =
     cc
 
 -- the window's parity at a generator's taps is the generator's symbol
-pub window_symbol : (state : ℕ) (bit : Bool) (generator : List ℕ) →
-    list_all (λ back. nat_le back 8) generator ≡ true →
-    parity (map (bit_of (window state bit)) generator) ≡
-    symbol generator (binary 8 state ++ bit ∷ []) 0
+pub window_symbol : (state : ℕ) (bit : Bool) (generator : List ℕ) → list_all (λ back. nat_le back 8) generator ≡ true →
+    parity (map (bit_of (window state bit)) generator) ≡ symbol generator (binary 8 state ++ bit ∷ []) 0
 window_symbol state bit generator all = ap parity (window_taps state bit generator all)
 
 -- The window's low eight bits are the last eight of the joined list, place by place: digit j is bit

@@ -28,8 +28,7 @@ commas_push (first ∷ items) item =
 -- a comma and an item after those before it
 pub comma_item : (before text with_comma next : List ℕ) (items : List (List ℕ)) (i : ℕ)
     (item : List ℕ) → length items ≡ i → text ≡ before ++ commas items →
-    with_comma ≡ text ++ comma_before i → next ≡ with_comma ++ item →
-    next ≡ before ++ commas (items ++ item ∷ [])
+    with_comma ≡ text ++ comma_before i → next ≡ with_comma ++ item → next ≡ before ++ commas (items ++ item ∷ [])
 comma_item before text with_comma next items i item long is added following =
     following ∙ ap (λ (xs : List ℕ). xs ++ item) (added
     ∙ ap (λ (xs : List ℕ). xs ++ comma_before i) is
@@ -46,22 +45,18 @@ no_values before = sym (append-nil before)
 
 -- The text of i + 1 values is that of the first i, and then the next value after its name, by
 -- induction over the fields: the first field's text stands in front of both.
-named_values-more : (names : List (List ℕ)) (values : List ℕ) (i : ℕ) → i < length names →
-    i < length values →
-    named_values (take (i + 1) names) (take (i + 1) values) ≡
-    named_values (take i names) (take i values)
+named_values-more : (names : List (List ℕ)) (values : List ℕ) (i : ℕ) → i < length names → i < length values →
+    named_values (take (i + 1) names) (take (i + 1) values) ≡ named_values (take i names) (take i values)
     ++ (spaced_key (get_or names i []) ++ decimal (get_or values i 0))
 unfolding named_values
 named_values-more [] values i a b = absurd (omega (arith, a))
 named_values-more (name ∷ names) [] i a b = absurd (omega (arith, b))
-named_values-more (name ∷ names) (value ∷ values) zero a b =
-    append-nil (spaced_key name ++ decimal value)
+named_values-more (name ∷ names) (value ∷ values) zero a b = append-nil (spaced_key name ++ decimal value)
 named_values-more (name ∷ names) (value ∷ values) (suc i) a b =
     let more : suc i + 1 ≡ suc (i + 1) = omega arith in
     let field = spaced_key name ++ decimal value in
     rw more
-    (ap (λ (text : List ℕ). field ++ text)
-    (named_values-more names values i (omega (arith, a)) (omega (arith, b)))
+    (ap (λ (text : List ℕ). field ++ text) (named_values-more names values i (omega (arith, a)) (omega (arith, b)))
     ∙ sym (append_assoc field (named_values (take i names) (take i values))
     (spaced_key (get_or names i []) ++ decimal (get_or values i 0))))
 
@@ -85,14 +80,12 @@ pub length-named : (name : List ℕ) → length (spaced_key name) ≡ length nam
 length-named name = omega (arith, length-append (codes " " ++ name) (codes "="))
 
 -- names and values of a table of short ones
-name_test : (names : List (List ℕ)) (widths : List ℕ) (i : ℕ) → are_short names widths ≡ true →
-    i < length names →
+name_test : (names : List (List ℕ)) (widths : List ℕ) (i : ℕ) → are_short names widths ≡ true → i < length names →
     (list_all (λ byte. nat_lt byte 128) (get_or names i [])
     && nat_lt (length (get_or names i [])) 8) ≡ true
 unfolding are_short
 name_test names widths i short within =
-    AllPass-from_list_all
-    (λ (name : List ℕ). list_all (λ byte. nat_lt byte 128) name && nat_lt (length name) 8) names
+    AllPass-from_list_all (λ (name : List ℕ). list_all (λ byte. nat_lt byte 128) name && nat_lt (length name) 8) names
     (and_parts (list_all (λ (name : List ℕ). list_all (λ byte. nat_lt byte 128) name
     && nat_lt (length name) 8) names)
     (list_all (λ (width : ℕ). nat_lt (2 ^ width) (10 ^ 7)) widths) short).0 i [] within
@@ -148,6 +141,5 @@ length-few_bits bits few =
 pub few_alone : (empty alone whole : List ℕ) (bits : List Bool) → empty ≡ [] →
     alone ≡ empty ++ bit_text bits → whole ≡ alone → length bits ≤ 56 → length whole ≤ 17
 few_alone empty alone whole bits none made is few =
-    let text : whole ≡ bit_text bits =
-    is ∙ made ∙ ap (λ (t : List ℕ). t ++ bit_text bits) none in
+    let text : whole ≡ bit_text bits = is ∙ made ∙ ap (λ (t : List ℕ). t ++ bit_text bits) none in
     omega (arith, ap length text, length-few_bits bits few)

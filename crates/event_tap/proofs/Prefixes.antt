@@ -8,15 +8,13 @@ pub use Rattle.event_tap.proofs.TapLists.{prefix_before, prefix_after}
 
 -- a list begins with what stands at its front
 pub front_begins : (all front back : List ℕ) → all ≡ front ++ back → StartsWith all front
-front_begins all front back is =
-    ap (take (length front)) is ∙ take_at front back (length front) refl
+front_begins all front back is = ap (take (length front)) is ∙ take_at front back (length front) refl
 
 pub taken_begins : (all : List ℕ) (n : ℕ) → n ≤ length all → StartsWith all (take n all)
 taken_begins all n fits = ap (λ (k : ℕ). take k all) (length-take-le n all fits)
 
 -- the same list stands before both
-pub begins_more : (front all part : List ℕ) → StartsWith all part →
-    StartsWith (front ++ all) (front ++ part)
+pub begins_more : (front all part : List ℕ) → StartsWith all part → StartsWith (front ++ all) (front ++ part)
 begins_more front all part begins =
     let back = drop (length part) all in
     front_begins (front ++ all) (front ++ part) back

@@ -16,8 +16,7 @@ pub run_text-append : (taps : List KeptTap) (events more : List Event) →
 unfolding run_text run_taps
 run_text-append taps [] more = refl
 run_text-append taps (event ∷ events) more =
-    ap (λ (text : List ℕ). heard_text taps event ++ text)
-    (run_text-append (taps_after taps event) events more)
+    ap (λ (text : List ℕ). heard_text taps event ++ text) (run_text-append (taps_after taps event) events more)
     ∙ sym (append_assoc (heard_text taps event) (run_text (taps_after taps event) events)
     (run_text (run_taps (taps_after taps event) events) more))
 
@@ -33,29 +32,24 @@ unfolding run_text
 run_text-none taps = refl
 
 -- one event
-pub run_text-one : (taps : List KeptTap) (event : Event) →
-    run_text taps (event ∷ []) ≡ heard_text taps event
+pub run_text-one : (taps : List KeptTap) (event : Event) → run_text taps (event ∷ []) ≡ heard_text taps event
 unfolding run_text
 run_text-one taps event = append-nil (heard_text taps event)
 
-pub run_taps-one : (taps : List KeptTap) (event : Event) →
-    run_taps taps (event ∷ []) ≡ taps_after taps event
+pub run_taps-one : (taps : List KeptTap) (event : Event) → run_taps taps (event ∷ []) ≡ taps_after taps event
 unfolding run_taps
 run_taps-one taps event = refl
 
 -- one event more
-pub run_text-more : (taps : List KeptTap) (events : List Event) (event : Event) →
-    run_text taps (events ++ event ∷ []) ≡
+pub run_text-more : (taps : List KeptTap) (events : List Event) (event : Event) → run_text taps (events ++ event ∷ []) ≡
     run_text taps events ++ heard_text (run_taps taps events) event
 run_text-more taps events event =
     run_text-append taps events (event ∷ [])
-    ∙ ap (λ (text : List ℕ). run_text taps events ++ text)
-    (run_text-one (run_taps taps events) event)
+    ∙ ap (λ (text : List ℕ). run_text taps events ++ text) (run_text-one (run_taps taps events) event)
 
 pub run_taps-more : (taps : List KeptTap) (events : List Event) (event : Event) →
     run_taps taps (events ++ event ∷ []) ≡ taps_after (run_taps taps events) event
-run_taps-more taps events event =
-    run_taps-append taps events (event ∷ []) ∙ run_taps-one (run_taps taps events) event
+run_taps-more taps events event = run_taps-append taps events (event ∷ []) ∙ run_taps-one (run_taps taps events) event
 
 -- NO TAPS
 
@@ -78,8 +72,7 @@ kept_with-left form (suc left) some = search rules
 
 -- A SINGLE TAP
 
-single_step : (form left : ℕ) (line : Option (List ℕ)) (events : List Event)
-    (lines : List (List ℕ)) →
+single_step : (form left : ℕ) (line : Option (List ℕ)) (events : List Event) (lines : List (List ℕ)) →
     ((n : ℕ) → run_text (kept_with form n) events ≡ joined_lines (take n lines)) →
     (line_text line ++ []) ++ run_text (kept_with form (left_after line (suc left)) ++ []) events
     ≡ joined_lines (take (suc left) (line_list line ++ lines))
@@ -88,8 +81,7 @@ single_step form left None events lines below =
     ∙ below (suc left)
 single_step form left (Some line) events lines below =
     let one : suc left - 1 ≡ left = omega arith in
-    ap (λ (text : List ℕ). text ++ run_text (kept_with form (suc left - 1) ++ []) events)
-    (append-nil line)
+    ap (λ (text : List ℕ). text ++ run_text (kept_with form (suc left - 1) ++ []) events) (append-nil line)
     ∙ ap (λ (n : ℕ). line ++ run_text (kept_with form n ++ []) events) one
     ∙ ap (λ (taps : List KeptTap). line ++ run_text taps events) (append-nil (kept_with form left))
     ∙ ap (λ (text : List ℕ). line ++ text) (below left)
@@ -102,10 +94,8 @@ run_text-single form zero [] = refl
 run_text-single form (suc limit) [] = refl
 run_text-single form zero (event ∷ events) = run_text-no_taps (event ∷ events)
 run_text-single form (suc limit) (event ∷ events) =
-    ap (λ (taps : List KeptTap). run_text taps (event ∷ events))
-    (kept_with-left form (suc limit) (omega arith))
-    ∙ single_step form limit (form_line form event) events (form_lines form events)
-    (λ n. run_text-single form n events)
+    ap (λ (taps : List KeptTap). run_text taps (event ∷ events)) (kept_with-left form (suc limit) (omega arith))
+    ∙ single_step form limit (form_line form event) events (form_lines form events) (λ n. run_text-single form n events)
 
 -- A RUN WITHOUT LIMITS
 
@@ -116,31 +106,25 @@ plain_taps pilots messages frames = tap 0 pilots ∷ tap 1 messages ∷ tap 2 fr
 plain_heard : (pilots messages frames : ℕ) (event : Event) →
     heard_text (plain_taps pilots messages frames) event ≡ event_line event
 unfolding form_line
-plain_heard pilots messages frames (Pilot phase energy) =
-    append-nil (event_line (Pilot phase energy))
+plain_heard pilots messages frames (Pilot phase energy) = append-nil (event_line (Pilot phase energy))
 plain_heard pilots messages frames event = append-nil (event_line event)
 
-left_after-least : (line : Option (List ℕ)) (left more : ℕ) → more + 1 < left →
-    more < left_after line left
+left_after-least : (line : Option (List ℕ)) (left more : ℕ) → more + 1 < left → more < left_after line left
 left_after-least None left more few = omega (arith, few)
 left_after-least (Some line) left more few = omega (arith, few)
 
 plain_after : (pilots messages frames : ℕ) (event : Event) →
     1 ≤ left_after (form_line 0 event) pilots → 1 ≤ left_after (form_line 1 event) messages →
-    1 ≤ left_after (form_line 2 event) frames →
-    taps_after (plain_taps pilots messages frames) event ≡
+    1 ≤ left_after (form_line 2 event) frames → taps_after (plain_taps pilots messages frames) event ≡
     plain_taps (left_after (form_line 0 event) pilots) (left_after (form_line 1 event) messages)
     (left_after (form_line 2 event) frames)
 plain_after pilots messages frames event one two three =
     let first = left_after (form_line 0 event) pilots in
     let second = left_after (form_line 1 event) messages in
     let third = left_after (form_line 2 event) frames in
-    ap (λ (taps : List KeptTap). taps ++ (kept_with 1 second ++ (kept_with 2 third ++ [])))
-    (kept_with-left 0 first one)
-    ∙ ap (λ (taps : List KeptTap). tap 0 first ∷ (taps ++ (kept_with 2 third ++ [])))
-    (kept_with-left 1 second two)
-    ∙ ap (λ (taps : List KeptTap). tap 0 first ∷ tap 1 second ∷ (taps ++ []))
-    (kept_with-left 2 third three)
+    ap (λ (taps : List KeptTap). taps ++ (kept_with 1 second ++ (kept_with 2 third ++ []))) (kept_with-left 0 first one)
+    ∙ ap (λ (taps : List KeptTap). tap 0 first ∷ (taps ++ (kept_with 2 third ++ []))) (kept_with-left 1 second two)
+    ∙ ap (λ (taps : List KeptTap). tap 0 first ∷ tap 1 second ∷ (taps ++ [])) (kept_with-left 2 third three)
 
 -- they write the lines of fewer events than their limits, each once
 pub plain_text : (pilots messages frames : ℕ) (events : List Event) →
@@ -159,8 +143,7 @@ plain_text pilots messages frames (event ∷ events) few_pilots few_messages few
     run_text (taps_after (plain_taps pilots messages frames) event) events)
     (plain_heard pilots messages frames event)
     ∙ ap (λ (taps : List KeptTap). event_line event ++ run_text taps events)
-    (plain_after pilots messages frames event (omega (arith, first)) (omega (arith, second))
-    (omega (arith, third)))
+    (plain_after pilots messages frames event (omega (arith, first)) (omega (arith, second)) (omega (arith, third)))
     ∙ ap (λ (text : List ℕ). event_line event ++ text)
     (plain_text (left_after (form_line 0 event) pilots) (left_after (form_line 1 event) messages)
     (left_after (form_line 2 event) frames) events first second third)
@@ -169,8 +152,7 @@ plain_text pilots messages frames (event ∷ events) few_pilots few_messages few
 -- and none of raw messages
 pub plain_text-forms : (pilots messages frames : ℕ) (events : List Event) →
     length events < pilots → length events < messages → length events < frames →
-    run_text (kept_by (pilots ∷ messages ∷ frames ∷ 0 ∷ []) (0 ∷ 1 ∷ 2 ∷ 3 ∷ [])) events ≡
-    events_text events
+    run_text (kept_by (pilots ∷ messages ∷ frames ∷ 0 ∷ []) (0 ∷ 1 ∷ 2 ∷ 3 ∷ [])) events ≡ events_text events
 plain_text-forms pilots messages frames events few_pilots few_messages few_frames =
     ap (λ (taps : List KeptTap).
     run_text (taps ++ (kept_with 1 messages ++ (kept_with 2 frames ++ []))) events)

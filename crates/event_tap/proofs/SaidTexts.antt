@@ -17,8 +17,7 @@ use Rattle.paging_message.proofs.ByLayout.{passes}
 use Rattle.paging_message.specs.Layouts.{paging_names_of, paging_shape_of}
 
 -- what stands after a text stands in front of what follows it
-pub in_front : (text a b c d e : List ℕ) →
-    ((((text ++ a) ++ b) ++ c) ++ d) ++ e ≡ text ++ ((((a ++ b) ++ c) ++ d) ++ e)
+pub in_front : (text a b c d e : List ℕ) → ((((text ++ a) ++ b) ++ c) ++ d) ++ e ≡ text ++ ((((a ++ b) ++ c) ++ d) ++ e)
 in_front text a b c d e =
     ap (λ (xs : List ℕ). ((xs ++ c) ++ d) ++ e) (append_assoc text a b)
     ∙ ap (λ (xs : List ℕ). (xs ++ d) ++ e) (append_assoc text (a ++ b) c)
@@ -58,8 +57,7 @@ slash_short widths columns i j l h here =
           ))
       | inr past ↦
           let outside = le-ltb j (length widths) past in
-          let none = le-ltb i (length column)
-          (omega (arith, long ∙ ap (λ b. cond b (height columns) 0) outside)) in
+          let none = le-ltb i (length column) (omega (arith, long ∙ ap (λ b. cond b (height columns) 0) outside)) in
           rw (outside, none) (omega arith)
     ]
 
@@ -81,8 +79,7 @@ record_short widths columns i l h =
 
 -- a number that was read in a column
 pub column_number : (columns : List (List ℕ)) (j i : ℕ) (column : List ℕ) (n : ℕ) →
-    j < length columns → slice_get (get_or columns j column) i ≡ Some n →
-    get_or (get_or columns j []) i 0 ≡ n
+    j < length columns → slice_get (get_or columns j column) i ≡ Some n → get_or (get_or columns j []) i 0 ≡ n
 column_number columns j i column n h read =
     ap (λ (c : List ℕ). get_or c i 0) (get_or_default columns j [] column h)
     ∙ get_or_from_slice_get (get_or columns j column) i n 0 read
@@ -101,8 +98,7 @@ ascii_name name all = IsAscii-from_all name (all_below name all)
 
 -- the numbers of contents of it fit
 numbers_fit : (s : MessageShape) (c : Contents) (i j : ℕ) → IsOf s c → length s.records ≤ 3 →
-    i < height c.columns → j < length s.records →
-    get_or (get_or c.columns j []) i 0 < 2 ^ get_or s.records j 0
+    i < height c.columns → j < length s.records → get_or (get_or c.columns j []) i 0 < 2 ^ get_or s.records j 0
 numbers_fit s c i j is few h within =
     let number = λ (column : List ℕ). get_or column i 0 in
     let three = three_long s.records (height c.columns) c.columns is.columns in

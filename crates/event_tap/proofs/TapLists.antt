@@ -55,8 +55,7 @@ pub record IsHearing {T : Type 0} (shape left : T →
   pub appended : Appends before after text
   pub whole : text ++ heard_text (map (seen shape left) (drop place now)) event ≡
       heard_text (map (seen shape left) all) event
-  pub following : map (seen shape left) (take place now) ++
-      taps_after (map (seen shape left) (drop place now)) event ≡
+  pub following : map (seen shape left) (take place now) ++ taps_after (map (seen shape left) (drop place now)) event ≡
       taps_after (map (seen shape left) all) event
   pub kept : All (λ t. IsKept (seen shape left t)) now
 
@@ -105,10 +104,8 @@ module _ {T : Type 0} where
   pub All-seen : (shape left : T → ℕ) (xs : List T) → All IsKept (map (seen shape left) xs) →
       All (λ t. IsKept (seen shape left t)) xs
   All-seen shape left xs h k d within =
-      let long : k < length (map (seen shape left) xs) =
-      rw (length-map xs (seen shape left)) within in
-      subst IsKept (get_or-map (seen shape left) xs k d (seen shape left d) within)
-      (h k (seen shape left d) long)
+      let long : k < length (map (seen shape left) xs) = rw (length-map xs (seen shape left)) within in
+      subst IsKept (get_or-map (seen shape left) xs k d (seen shape left d) within) (h k (seen shape left d) long)
 
   -- a list without a place, whatever stood there
   pub remove_set : (xs : List T) (place : ℕ) (y : T) →
@@ -130,25 +127,21 @@ module _ {T : Type 0} where
 
   -- the text after the next tap
   whole_more : (shape left : T → ℕ) (event : Event) (all now : List T) (place : ℕ) (t y : T)
-      (text line : List ℕ) (answer : Heard) →
-      text ++ heard_text (map (seen shape left) (drop place now)) event ≡
-      heard_text (map (seen shape left) all) event →
-      HasHeard shape left event t y line answer → place < length now →
+      (text line : List ℕ) (answer : Heard) → text ++ heard_text (map (seen shape left) (drop place now)) event ≡
+      heard_text (map (seen shape left) all) event → HasHeard shape left event t y line answer → place < length now →
       t ≡ slice_index_or now place t →
       (text ++ line) ++ heard_text (map (seen shape left) (drop (place + 1) now)) event ≡
       heard_text (map (seen shape left) all) event
   whole_more shape left event all now place t y text line answer whole h within is =
       append_assoc text line (heard_text (map (seen shape left) (drop (place + 1) now)) event)
-      ∙ ap (λ (l : List ℕ). text ++
-      (l ++ heard_text (map (seen shape left) (drop (place + 1) now)) event)) h.line_is
+      ∙ ap (λ (l : List ℕ). text ++ (l ++ heard_text (map (seen shape left) (drop (place + 1) now)) event)) h.line_is
       ∙ sym (at_place (λ (xs : List T). text ++ heard_text (map (seen shape left) xs) event) now
       place t within is)
       ∙ whole
 
   -- what the next tap leaves of itself
   self_after : (shape left : T → ℕ) (event : Event) (t y : T) (line : List ℕ) (answer : Heard) →
-      HasHeard shape left event t y line answer →
-      tap_after event (seen shape left t) ≡ kept_with (shape y) (left y)
+      HasHeard shape left event t y line answer → tap_after event (seen shape left t) ≡ kept_with (shape y) (left y)
   self_after shape left event t y line answer h =
       sym (ap (λ (n : ℕ). kept_with n (left y)) h.form_is ∙
       ap (λ (n : ℕ). kept_with (shape t) n) h.left_is)
@@ -158,8 +151,7 @@ module _ {T : Type 0} where
       (line : List ℕ) (answer : Heard) →
       map (seen shape left) (take place now) ++ taps_after (map (seen shape left) (drop place now))
       event ≡ taps_after (map (seen shape left) all) event →
-      HasHeard shape left event t y line answer → place < length now →
-      t ≡ slice_index_or now place t →
+      HasHeard shape left event t y line answer → place < length now → t ≡ slice_index_or now place t →
       map (seen shape left) (take place now) ++
       (kept_with (shape y) (left y) ++
       taps_after (map (seen shape left) (drop (place + 1) now)) event) ≡
@@ -177,8 +169,7 @@ module _ {T : Type 0} where
   pub hearing_kept : (shape left : T → ℕ) (event : Event) (before mid after : Option (List ℕ))
       (all now : List T) (place : ℕ) (t y : T) (line : List ℕ) (answer : Heard) →
       IsHearing shape left event before mid all now place →
-      HasHeard shape left event t y line answer → place < length now →
-      t ≡ slice_index_or now place t →
+      HasHeard shape left event t y line answer → place < length now → t ≡ slice_index_or now place t →
       answer ≡ Keep → Appends mid after line →
       IsHearing shape left event before after all (slice_set now place y) (place + 1)
   hearing_kept shape left event before mid after all now place t y line answer i h within is kept
@@ -203,8 +194,7 @@ module _ {T : Type 0} where
         following = ap (λ (ks : List KeptTap). ks ++
             taps_after (map (seen shape left) (drop (place + 1) (slice_set now place y))) event)
             front
-            ∙ ap (λ (xs : List T).
-            (map (seen shape left) (take place now) ++ seen shape left y ∷ []) ++
+            ∙ ap (λ (xs : List T). (map (seen shape left) (take place now) ++ seen shape left y ∷ []) ++
             taps_after (map (seen shape left) xs) event) rest
             ∙ append_assoc (map (seen shape left) (take place now)) (seen shape left y ∷ [])
             (taps_after (map (seen shape left) (drop (place + 1) now)) event)
@@ -220,8 +210,7 @@ module _ {T : Type 0} where
   pub hearing_done : (shape left : T → ℕ) (event : Event) (before mid after : Option (List ℕ))
       (all now : List T) (place : ℕ) (t y : T) (line : List ℕ) (answer : Heard) →
       IsHearing shape left event before mid all now place →
-      HasHeard shape left event t y line answer → place < length now →
-      t ≡ slice_index_or now place t →
+      HasHeard shape left event t y line answer → place < length now → t ≡ slice_index_or now place t →
       answer ≡ Done → Appends mid after line →
       IsHearing shape left event before after all (remove (slice_set now place y) place) place
   hearing_done shape left event before mid after all now place t y line answer i h within is done
@@ -244,20 +233,16 @@ module _ {T : Type 0} where
             (length-take-le place now (omega (arith, within))))
             ∙ whole_more shape left event all now place t y i.text line answer i.whole h within is;
         following = ap (λ (xs : List T). map (seen shape left) xs ++
-            taps_after
-            (map (seen shape left) (drop place (take place now ++ drop (place + 1) now))) event)
-            (take_at (take place now) (drop (place + 1) now) place
-            (length-take-le place now (omega (arith, within))))
+            taps_after (map (seen shape left) (drop place (take place now ++ drop (place + 1) now))) event)
+            (take_at (take place now) (drop (place + 1) now) place (length-take-le place now (omega (arith, within))))
             ∙ ap (λ (xs : List T). map (seen shape left) (take place now) ++
             taps_after (map (seen shape left) xs) event)
-            (drop_at (take place now) (drop (place + 1) now) place
-            (length-take-le place now (omega (arith, within))))
+            (drop_at (take place now) (drop (place + 1) now) place (length-take-le place now (omega (arith, within))))
             ∙ ap (λ (ks : List KeptTap). map (seen shape left) (take place now) ++
             (ks ++ taps_after (map (seen shape left) (drop (place + 1) now)) event))
             (sym (none_when (shape y) (left y) gone))
             ∙ after_more shape left event all now place t y line answer i.following h within is;
-        kept = All-append (λ (x : T). IsKept (seen shape left x)) (take place now)
-            (drop (place + 1) now)
+        kept = All-append (λ (x : T). IsKept (seen shape left x)) (take place now) (drop (place + 1) now)
             (All-take (λ (x : T). IsKept (seen shape left x)) place now i.kept)
             (All-drop (λ (x : T). IsKept (seen shape left x)) (place + 1) now i.kept);
       } in
@@ -267,16 +252,13 @@ module _ {T : Type 0} where
   pub hearing_failed : (shape left : T → ℕ) (event : Event) (before mid after : Option (List ℕ))
       (all now : List T) (place : ℕ) (t y : T) (line : List ℕ) (answer : Heard) →
       IsHearing shape left event before mid all now place →
-      HasHeard shape left event t y line answer → place < length now →
-      t ≡ slice_index_or now place t →
-      AppendsPrefix mid after line →
-      AppendsPrefix before after (heard_text (map (seen shape left) all) event)
+      HasHeard shape left event t y line answer → place < length now → t ≡ slice_index_or now place t →
+      AppendsPrefix mid after line → AppendsPrefix before after (heard_text (map (seen shape left) all) event)
   hearing_failed shape left event before mid after all now place t y line answer i h within is
       part =
       subst (AppendsPrefix before after)
       (whole_more shape left event all now place t y i.text line answer i.whole h within is)
-      (prefix_before before after (i.text ++ line)
-      (heard_text (map (seen shape left) (drop (place + 1) now)) event)
+      (prefix_before before after (i.text ++ line) (heard_text (map (seen shape left) (drop (place + 1) now)) event)
       (prefix_after before mid after i.text line i.appended part))
 
   pub All-seen-back : (shape left : T → ℕ) (xs : List T) →
@@ -285,8 +267,7 @@ module _ {T : Type 0} where
 
   -- none has heard it yet
   pub hearing_none : (shape left : T → ℕ) (event : Event) (written : Option (List ℕ))
-      (all : List T) → All IsKept (map (seen shape left) all) →
-      IsHearing shape left event written written all all 0
+      (all : List T) → All IsKept (map (seen shape left) all) → IsHearing shape left event written written all all 0
   hearing_none shape left event written all h = record {
     within = omega arith;
     text = [];

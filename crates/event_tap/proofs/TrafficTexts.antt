@@ -31,17 +31,9 @@ listed_records m is =
       fit_at i (suc (suc (suc j))) h within = absurd (omega (arith, within))
 
 -- a message has at most 62 of them
-pub few_records_in : (m : Message) (b : TrafficBody) → IsTrafficMessage m → m.body ≡ b →
-    HasFewRecords b
+pub few_records_in : (m : Message) (b : TrafficBody) → IsTrafficMessage m → m.body ≡ b → HasFewRecords b
 few_records_in m (Handoff d) is body =
-    omega (
-      arith,
-      is.fills.whole,
-      is.fills.most,
-      length-message m,
-      ap (λ b. length (bits_of b)) body,
-      records_room d,
-    )
+    omega (arith, is.fills.whole, is.fills.most, length-message m, ap (λ b. length (bits_of b)) body, records_room d)
 few_records_in m (System d) is body = tt
 few_records_in m (Neighbors d) is body = tt
 few_records_in m (Other kind bits) is body = tt

@@ -56,8 +56,7 @@ digits_in width = width * 3 / 10 + 1
 
 -- whether such a number is of 32 bits, and has so few digits
 abbrev pub is_short_width : ℕ → Bool
-is_short_width width =
-    nat_le (2 ^ width) (2 ^ 32) && nat_le (2 ^ width) (10 ^ digits_in width)
+is_short_width width = nat_le (2 ^ width) (2 ^ 32) && nat_le (2 ^ width) (10 ^ digits_in width)
 
 -- how many bytes field j of a record takes at most, with the slash or comma before it
 abbrev pub field_bytes : List ℕ → ℕ → ℕ

@@ -5,8 +5,7 @@ use Rattle.event_tap.specs.Parts.{commas}
 
 -- a pilot of the active set as `P/R/S`: its offset, its row and its power control subchannel
 abbrev pub active_text : Active → List ℕ
-active_text a =
-    decimal a.pilot ++ codes "/" ++ decimal a.row ++ codes "/" ++ decimal a.subchannel
+active_text a = decimal a.pilot ++ codes "/" ++ decimal a.row ++ codes "/" ++ decimal a.subchannel
 
 -- `sets at=A time=T active=P/R/S,.. candidate=P,.. report=B` and LF
 unfoldable pub sets_line : ℕ → ℕ → List Active → List ℕ → Bool → List ℕ

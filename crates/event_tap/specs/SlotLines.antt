@@ -51,8 +51,7 @@ is_heard key cycle count s m n slot =
 
 -- the soft values of its frames
 abbrev pub slot_softs : List Sample → Stream → ℕ → List ℤ
-slot_softs samples s slot =
-    flat_map (λ i. frame_softs samples s (frame_of_slot slot i)) (places 4)
+slot_softs samples s slot = flat_map (λ i. frame_softs samples s (frame_of_slot slot i)) (places 4)
 
 -- its line, and those of the messages of its bits
 abbrev pub lines_of_slot : CheckForm → Mark → List Sample → Stream → ℕ → List ℕ

@@ -75,8 +75,7 @@ kept_with form left = if nat_eq left 0 then [] else record { form = form; left =
 
 -- a kept tap after an event, where it has events left
 abbrev pub tap_after : Event → KeptTap → List KeptTap
-tap_after event tap =
-    kept_with tap.form (left_after (form_line tap.form event) tap.left)
+tap_after event tap = kept_with tap.form (left_after (form_line tap.form event) tap.left)
 
 -- the text that kept taps make of an event, in their order
 abbrev pub heard_text : List KeptTap → Event → List ℕ

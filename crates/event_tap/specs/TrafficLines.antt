@@ -15,8 +15,7 @@ use Rattle.traffic_message.specs.declared.body.TrafficBody.TheVariants as bodies
 
 -- `traffic at=A ack=.. seq=.. req=.. enc=..`, with which each line begins
 unfoldable pub start_text : ℕ → Head → List ℕ
-start_text place h =
-    codes "traffic at=" ++ decimal place ++ named_values head_names (head_values h)
+start_text place h = codes "traffic at=" ++ decimal place ++ named_values head_names (head_values h)
 
 -- the search parameters stand only where the direction brings them
 abbrev pub search_text : Option Search → List ℕ

@@ -32,8 +32,7 @@ rate2_text place descrambled (Some power) =
 
 -- the line of a frame of rate set 1, of which this was decoded
 abbrev pub decoded_line : ℕ → Decoded → List Bool → List ℕ
-decoded_line place frame power_bits =
-    frame_line place frame.rate frame.good frame.bits power_bits
+decoded_line place frame power_bits = frame_line place frame.rate frame.good frame.bits power_bits
 
 -- the line of a frame of rate set 1 with the first k codewords of a rate; one of a channel without
 -- power control bits has none

@@ -18,13 +18,7 @@ tuned deltas = record {
 }
 
 mark_with : ℕ → Mark
-mark_with prat = record {
-  sample = 688128;
-  time = 1007;
-  state = 1;
-  pilot = 511;
-  prat = prat;
-}
+mark_with prat = record { sample = 688128; time = 1007; state = 1; pilot = 511; prat = prat }
 
 stream : List ℤ → Stream
 stream deltas = channel_stream (tuned deltas) (Paging 1) (mark_with 0)

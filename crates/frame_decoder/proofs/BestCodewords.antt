@@ -7,8 +7,7 @@ use Rattle.frame_decoder.proofs.Parts.{within}
 use Rattle.frame_decoder.proofs.Gathered.{channel, length-gathered_span}
 use Rattle.frame_decoder.proofs.Scores.{score_is}
 
-pub first_greatest-same : (f g : ℕ → ℤ) (n : ℕ) → ((k : ℕ) → f k ≡ g k) →
-    first_greatest f n ≡ first_greatest g n
+pub first_greatest-same : (f g : ℕ → ℤ) (n : ℕ) → ((k : ℕ) → f k ≡ g k) → first_greatest f n ≡ first_greatest g n
 unfolding first_greatest
 first_greatest-same f g zero h = refl
 first_greatest-same f g (suc n) h =
@@ -26,8 +25,7 @@ length-codeword_at n r =
 
 pub length-best_codeword : (f : Codeword → ℤ) (n : ℕ) → length (best_codeword f Free n).bits ≡ n
 unfolding best_codeword
-length-best_codeword f n =
-    length-codeword_at n (first_greatest (λ r. f (codeword_at Free n r)) (codeword_count Free n))
+length-best_codeword f n = length-codeword_at n (first_greatest (λ r. f (codeword_at Free n r)) (codeword_count Free n))
 
 -- scores that agree on the codewords of n bits have the same best codeword of n bits
 pub best_codeword-same : (f g : Codeword → ℤ) (n : ℕ) → ((w : Codeword) → length w.bits ≡ n → f w ≡ g w) →
@@ -41,8 +39,7 @@ best_codeword-same f g n h =
 -- how many bits the span's codeword has
 pub length-best : (kind : Kind) (bits repeats n : ℕ) (softs : List ℤ) (best : Codeword) →
     2 * bits * repeats ≡ size (shape_of kind) →
-    IsBestCodeword (gathered_span (channel kind bits repeats) n softs) Free best →
-    length best.bits ≡ bits * n
+    IsBestCodeword (gathered_span (channel kind bits repeats) n softs) Free best → length best.bits ≡ bits * n
 length-best kind bits repeats n softs best e h =
     let half = h.half in
     let long = length-gathered_span kind bits repeats n softs e in
@@ -52,8 +49,7 @@ length-best kind bits repeats n softs best e h =
 -- frame `own` lies within the codeword
 pub own_within : (kind : Kind) (bits repeats n own : ℕ) (softs : List ℤ) (best : Codeword) →
     2 * bits * repeats ≡ size (shape_of kind) → own < n →
-    IsBestCodeword (gathered_span (channel kind bits repeats) n softs) Free best →
-    bits * own + bits ≤ length best.bits
+    IsBestCodeword (gathered_span (channel kind bits repeats) n softs) Free best → bits * own + bits ≤ length best.bits
 own_within kind bits repeats n own softs best e h is =
     let room = within bits n own h in
     let long = length-best kind bits repeats n softs best e is in
@@ -62,8 +58,7 @@ own_within kind bits repeats n own softs best e h is =
 -- The bits of frame `own` are the definition's: codewords of the span's length have the same scores
 -- under the gathered soft values (`score_is`), so the best one is the same (`by_definition`).
 pub own_is : (kind : Kind) (bits repeats n own : ℕ) (softs : List ℤ) (best : Codeword) → 8 ≤ bits →
-    2 * bits * repeats ≡ size (shape_of kind) →
-    length softs ≡ size (shape_of kind) * n → own < n →
+    2 * bits * repeats ≡ size (shape_of kind) → length softs ≡ size (shape_of kind) * n → own < n →
     IsBestCodeword (gathered_span (channel kind bits repeats) n softs) Free best →
     take bits (drop (bits * own) best.bits) ≡ own_bits (channel kind bits repeats) n own softs
 own_is kind bits repeats n own softs best least e long h is =

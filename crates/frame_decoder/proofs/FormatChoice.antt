@@ -48,18 +48,15 @@ keeps {R} d y h = ⊎_elim
     ap (λ (b : Bool). if b then y else d) f) h
 
 gives_way : {R : Type 0} (d x : DecodedFrame R) → Below d x → better x d ≡ d
-gives_way {R} d x h = ⊎_elim
-    (λ (e : x ≡ d). ap (λ (y : DecodedFrame R). better y d) e ∙ keeps d d (inl refl))
+gives_way {R} d x h = ⊎_elim (λ (e : x ≡ d). ap (λ (y : DecodedFrame R). better y d) e ∙ keeps d d (inl refl))
     (λ (l : x.score <ℤ d.score).
     ap (λ (b : Bool). if b then d else x) (lt_true x.score d.score l)) h
 
-takes : {R : Type 0} (d : DecodedFrame R) (y : Option (DecodedFrame R)) → IsBelow d y →
-    preferred (Some d) y ≡ Some d
+takes : {R : Type 0} (d : DecodedFrame R) (y : Option (DecodedFrame R)) → IsBelow d y → preferred (Some d) y ≡ Some d
 takes d None h = refl
 takes d (Some y) h = ap Some (keeps d y h)
 
-passes : {R : Type 0} (d : DecodedFrame R) (x : Option (DecodedFrame R)) → IsBelow d x →
-    preferred x (Some d) ≡ Some d
+passes : {R : Type 0} (d : DecodedFrame R) (x : Option (DecodedFrame R)) → IsBelow d x → preferred x (Some d) ≡ Some d
 passes d None h = refl
 passes d (Some x) h = ap Some (gives_way d x h)
 
@@ -73,14 +70,12 @@ kept_rising {R} d f (r ∷ rates) best each is =
 
 taken_rising : {R : Type 0} (d : DecodedFrame R) (f : R → Option (DecodedFrame R)) (before : List R)
     (rate : R) (after : List R) (best : Option (DecodedFrame R)) → ((r : R) → IsBelow d (f r)) →
-    f rate ≡ Some d → IsBelow d best →
-    rising_choice best (map f (before ++ rate ∷ after)) ≡ Some d
+    f rate ≡ Some d → IsBelow d best → rising_choice best (map f (before ++ rate ∷ after)) ≡ Some d
 taken_rising {R} d f [] rate after best each is low =
     kept_rising d f after (preferred (f rate) best) each
     (ap (λ (c : Option (DecodedFrame R)). preferred c best) is ∙ takes d best low)
 taken_rising d f (r ∷ before) rate after best each is low =
-    taken_rising d f before rate after (preferred (f r) best) each is
-    (preferred_of (Below d) (f r) best (each r) low)
+    taken_rising d f before rate after (preferred (f r) best) each is (preferred_of (Below d) (f r) best (each r) low)
 
 -- the formats of a set's rates, the highest after the others
 pub rising_rates : {R : Type 0} (f : FrameFormat R → Option (DecodedFrame R)) (format_of : R → FrameFormat R)

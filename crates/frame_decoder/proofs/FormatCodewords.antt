@@ -33,8 +33,7 @@ length-symbols_in format w = length-sent_by (place_in format) 384 (code_symbols 
 pub length-codeword_in : {R : Type 0} (softs : List ℤ) (format : FrameFormat R) →
     length (codeword_in softs format).bits ≡ bits_in format
 unfolding codeword_in
-length-codeword_in softs format =
-    length-best_zero_codeword (score_in softs format) (bits_in format) (bits_least format)
+length-codeword_in softs format = length-best_zero_codeword (score_in softs format) (bits_in format) (bits_least format)
 
 -- a codeword's score under the gathered soft values is its score as it is sent
 pub gathered_score : {R : Type 0} (softs : List ℤ) (format : FrameFormat R) (w : Codeword) → IsFormat format →
@@ -42,8 +41,7 @@ pub gathered_score : {R : Type 0} (softs : List ℤ) (format : FrameFormat R) (w
     score_of (gathered_in format softs) w ≡ score_in softs format w
 gathered_score softs format w h long long' =
     let code = code_symbols w.start w.bits in
-    let size : length code ≡ 2 * bits_in format =
-    length-code_symbols w.start w.bits ∙ ap (λ (n : ℕ). 2 * n) long' in
+    let size : length code ≡ 2 * bits_in format = length-code_symbols w.start w.bits ∙ ap (λ (n : ℕ). 2 * n) long' in
     sym
     (agreement-gathered_by (place_in format) 384 (2 * bits_in format) softs code long size
     (λ i lt. place_lt format i h lt))
@@ -63,15 +61,13 @@ best_is softs format best h long is =
 pub always_right : {R : Type 0} (format : FrameFormat R) (bits : List Bool) → format.quality ≡ None →
     true ≡ is_right format bits
 always_right format bits e =
-    ap (λ (o : Option Check). pointwise beq
-    (take (quality_length o) (drop format.information bits))
+    ap (λ (o : Option Check). pointwise beq (take (quality_length o) (drop format.information bits))
     (quality_indicator o (take format.information bits))) (sym e)
 
 -- there are information bits before it
 pub check_fits : {R : Type 0} (format : FrameFormat R) (check : Check) (bits checked : List Bool) (count : ℕ) →
     1 ≤ format.information → format.quality ≡ Some check → length bits ≡ bits_in format →
-    count ≡ length bits - 8 → checked ≡ take count (drop 0 bits) →
-    (generator_of check).degree < length checked
+    count ≡ length bits - 8 → checked ≡ take count (drop 0 bits) → (generator_of check).degree < length checked
 check_fits format check bits checked count told e long few is =
     let fills : format.information + (generator_of check).degree + 8 ≡ length bits =
     ap (λ (o : Option Check). format.information + quality_length o + 8) (sym e) ∙ sym long in
@@ -83,8 +79,7 @@ check_fits format check bits checked count told e long few is =
 -- The code's test of the bits before the tail is the format's: these are the information and the
 -- quality indicator, and both tests ask whether the indicator is the one made of the information.
 pub right_is : {R : Type 0} (format : FrameFormat R) (check : Check) (bits : List Bool) (count : ℕ)
-    (right : Bool) → format.quality ≡ Some check → length bits ≡ bits_in format →
-    count ≡ length bits - 8 →
+    (right : Bool) → format.quality ≡ Some check → length bits ≡ bits_in format → count ≡ length bits - 8 →
     IsTrue right ↔ IsChecked check Plain (take count (drop 0 bits)) → right ≡ is_right format bits
 right_is format check bits count right e long few h =
     let info = format.information in
@@ -93,8 +88,7 @@ right_is format check bits count right e long few h =
     ap (λ (o : Option Check). info + quality_length o + 8) (sym e) ∙ sym long in
     let counted : count ≡ info + degree = omega (arith, few, fills) in
     let body = take (info + degree) bits in
-    let size : length body ≡ info + degree =
-    length-take-le (info + degree) bits (omega (arith, fills)) in
+    let size : length body ≡ info + degree = length-take-le (info + degree) bits (omega (arith, fills)) in
     let front : body_length check body ≡ info = omega (arith, size) in
     let is : IsTrue right ↔ IsChecked check Plain body =
     subst (λ (n : ℕ). IsTrue right ↔ IsChecked check Plain (take n bits)) counted h in

@@ -7,8 +7,7 @@ use Rattle.frame_decoder.proofs.Parts.{length-frames, take-frames}
 
 -- a channel whose frames are of a kind
 abbrev pub channel : Kind → ℕ → ℕ → Channel
-channel kind bits repeats =
-    record { shape = shape_of kind; bits = bits; repeats = repeats }
+channel kind bits repeats = record { shape = shape_of kind; bits = bits; repeats = repeats }
 
 -- the soft values of frame k of a span
 abbrev pub frame_of : ℕ → ℕ → List ℤ → List ℤ
@@ -28,8 +27,7 @@ frame_small size k softs =
     let rest = sum_by-take-drop unsigned_abs softs (size * k) in
     omega (arith, here, rest)
 
-pub none_gathered : (c : Channel) (softs out : List ℤ) →
-    take (2 * c.bits * 0) out ≡ gathered_span c 0 softs
+pub none_gathered : (c : Channel) (softs out : List ℤ) → take (2 * c.bits * 0) out ≡ gathered_span c 0 softs
 none_gathered c softs out =
     let none : 2 * c.bits * 0 ≡ 0 = omega arith in
     rw none (sym (flat_map-zero (λ k. gathered c.shape c.repeats (frame_of (size c.shape) k softs))))
@@ -41,8 +39,7 @@ none_small code size softs out =
     rw none (omega arith)
 
 -- a frame's part is written after those before
-pub written : (bits code k : ℕ) (out part : List ℤ) → code ≡ 2 * bits → length part ≡ code →
-    code * k ≤ length out →
+pub written : (bits code k : ℕ) (out part : List ℤ) → code ≡ 2 * bits → length part ≡ code → code * k ≤ length out →
     take (2 * bits * (k + 1)) (put_mid (code * k) (code * k + code - code * k) out part)
     ≡ take (2 * bits * k) out ++ part
 written bits code k out part e long room =
@@ -54,8 +51,7 @@ written bits code k out part e long room =
 -- one frame more
 pub one_gathered : (c : Channel) (code symbols k : ℕ) (softs out part : List ℤ) →
     code ≡ 2 * c.bits → symbols ≡ size c.shape → length part ≡ code → code * k ≤ length out →
-    take (2 * c.bits * k) out ≡ gathered_span c k softs →
-    part ≡ gathered c.shape c.repeats
+    take (2 * c.bits * k) out ≡ gathered_span c k softs → part ≡ gathered c.shape c.repeats
     (take (symbols * k + symbols - symbols * k) (drop (symbols * k) softs)) →
     take (2 * c.bits * (k + 1)) (put_mid (code * k) (code * k + code - code * k) out part)
     ≡ gathered_span c (k + 1) softs
@@ -74,10 +70,8 @@ one_gathered c code symbols k softs out part e f long room before here =
 pub one_small : (bits size code symbols k : ℕ) (softs out part : List ℤ) → code ≡ 2 * bits →
     symbols ≡ size → length part ≡ code → code * k ≤ length out →
     sum_by unsigned_abs (take (2 * bits * k) out) ≤ sum_by unsigned_abs (take (size * k) softs) →
-    sum_by unsigned_abs part
-    ≤ sum_by unsigned_abs
-    (take (symbols * k + symbols - symbols * k) (drop (symbols * k) softs)) →
-    sum_by unsigned_abs
+    sum_by unsigned_abs part ≤ sum_by unsigned_abs
+    (take (symbols * k + symbols - symbols * k) (drop (symbols * k) softs)) → sum_by unsigned_abs
     (take (2 * bits * (k + 1)) (put_mid (code * k) (code * k + code - code * k) out part))
     ≤ sum_by unsigned_abs (take (size * (k + 1)) softs)
 one_small bits size code symbols k softs out part e f long room before here =
@@ -87,8 +81,7 @@ one_small bits size code symbols k softs out part e f long room before here =
     ap (λ (n : ℕ). take (size * n) softs) (add-one k) ∙ take-frames softs size k in
     let sum = sum_by-append unsigned_abs (take (2 * bits * k) out) part in
     let sum' = sum_by-append unsigned_abs (take (size * k) softs) (frame_of size k softs) in
-    rw (written bits code k out part e long room, all, sum, sum')
-    (omega (arith, before, one))
+    rw (written bits code k out part e long room, all, sum, sum') (omega (arith, before, one))
 
 -- how many soft values are gathered
 pub length-gathered_span : (kind : Kind) (bits repeats n : ℕ) (softs : List ℤ) →

@@ -52,6 +52,5 @@ frame_long told format_of highest lower replaced softs each =
     let best = rising_choice None (map (candidate_in kept) (map format_of lower)) in
     or_long told format w.bits (score_in kept format w) (preferred (candidate_in kept format) best) (each highest)
     (length-codeword_in kept format)
-    (preferred_of (IsLong told) (candidate_in kept format) best
-    (candidate_long told kept format (each highest))
+    (preferred_of (IsLong told) (candidate_in kept format) best (candidate_long told kept format (each highest))
     (rising_long told format_of kept lower None each tt))

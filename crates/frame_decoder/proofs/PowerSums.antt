@@ -5,8 +5,7 @@ use Rattle.frame_decoder.proofs.Common.{length-set, sum_by-set, get_or-le-sum_by
 
 -- a list is made place by place
 pub set_more : {A : Type 0} (f : ℕ → A) (xs : List A) (n : ℕ) (v d : A) → n < length xs →
-    v ≡ f n → ((k : ℕ) → k < n → get_or xs k d ≡ f k) →
-    (k : ℕ) → k < n + 1 → get_or (set xs n v) k d ≡ f k
+    v ≡ f n → ((k : ℕ) → k < n → get_or xs k d ≡ f k) → (k : ℕ) → k < n + 1 → get_or (set xs n v) k d ≡ f k
 set_more f xs n v d within is each =
     below_more (λ k. get_or (set xs n v) k d ≡ f k) n
     (λ k lt. let other : k ≢ n = omega (arith, lt) in
@@ -15,8 +14,7 @@ set_more f xs n v d within is each =
 
 -- The sizes of two soft values at different places add up to at most 2^62: with the first one set
 -- to 0, the sum of all sizes is less by its size and still has the second one as a part.
-two_small : (xs : List ℤ) (p q : ℕ) → p < q → q < length xs →
-    sum_by unsigned_abs xs ≤ 2 ^ 62 →
+two_small : (xs : List ℤ) (p q : ℕ) → p < q → q < length xs → sum_by unsigned_abs xs ≤ 2 ^ 62 →
     unsigned_abs (get_or xs p (pos 0)) + unsigned_abs (get_or xs q (pos 0)) ≤ 2 ^ 62
 two_small xs p q less within bound =
     let ys = set xs p (pos 0) in
@@ -36,8 +34,7 @@ two_small xs p q less within bound =
 pub pair_small : (replaced : List ℕ) (softs : List ℤ) (g first second : ℕ) →
     first ≡ get_or replaced (2 * g) 0 → second ≡ get_or replaced (2 * g + 1) 0 →
     g < 16 → length replaced ≡ 32 → length softs ≡ 384 →
-    All (λ place. place < 384) replaced → IsStrictlyIncreasing replaced →
-    sum_by unsigned_abs softs ≤ 2 ^ 62 →
+    All (λ place. place < 384) replaced → IsStrictlyIncreasing replaced → sum_by unsigned_abs softs ≤ 2 ^ 62 →
     unsigned_abs (get_or softs first (pos 0)) + unsigned_abs (get_or softs second (pos 0)) ≤ 2 ^ 62
 pair_small replaced softs g first second a b low many long below rising bound =
     let next : 2 * g + 1 < length replaced = omega (arith, low, many) in

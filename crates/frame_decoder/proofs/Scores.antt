@@ -17,8 +17,7 @@ correlation-append (x ∷ xs) ys (b ∷ bs) cs e =
 
 -- frame k of the code symbols, as it is sent
 abbrev sent_frame : Kind → ℕ → ℕ → List Bool → ℕ → List Bool
-sent_frame kind bits repeats symbols k =
-    sent (shape_of kind) repeats (take (2 * bits) (drop (2 * bits * k) symbols))
+sent_frame kind bits repeats symbols k = sent (shape_of kind) repeats (take (2 * bits) (drop (2 * bits * k) symbols))
 
 length-sent_frames : (kind : Kind) (bits repeats n : ℕ) (symbols : List Bool) →
     length (sent_frames (sending (channel kind bits repeats) n) symbols) ≡ size (shape_of kind) * n
@@ -31,8 +30,7 @@ length-part : {A : Type 0} (xs : List A) (size n : ℕ) → size * suc n ≤ len
     length (take size (drop (size * n) xs)) ≡ size
 length-part xs size n room =
     let more : size * suc n ≡ size * n + size = omega arith in
-    length-take-le size (drop (size * n) xs)
-    (rw (length-drop (size * n) xs) (omega (arith, room, more)))
+    length-take-le size (drop (size * n) xs) (rw (length-drop (size * n) xs) (omega (arith, room, more)))
 
 length-front : {A : Type 0} (xs : List A) (size n : ℕ) → size * suc n ≤ length xs →
     length (take (size * n) xs) ≡ size * n
@@ -45,8 +43,7 @@ length-front xs size n room =
 frames_agree : (kind : Kind) (bits repeats n : ℕ) (softs : List ℤ) (symbols : List Bool) →
     2 * bits * repeats ≡ size (shape_of kind) →
     size (shape_of kind) * n ≤ length softs → 2 * bits * n ≤ length symbols →
-    correlation (take (size (shape_of kind) * n) softs)
-    (sent_frames (sending (channel kind bits repeats) n) symbols)
+    correlation (take (size (shape_of kind) * n) softs) (sent_frames (sending (channel kind bits repeats) n) symbols)
     ≡ correlation (gathered_span (channel kind bits repeats) n softs) (take (2 * bits * n) symbols)
 frames_agree kind bits repeats zero softs symbols e room room' =
     let none : size (shape_of kind) * 0 ≡ 0 = omega arith in
@@ -65,8 +62,7 @@ frames_agree kind bits repeats (suc n) softs symbols e room room' =
     let sent_front = sent_frames (sending c n) symbols in
     let gathered_front = gathered_span c n softs in
     let rest =
-    frames_agree kind bits repeats n softs symbols e (omega (arith, room, more))
-    (omega (arith, room', more')) in
+    frames_agree kind bits repeats n softs symbols e (omega (arith, room, more)) (omega (arith, room', more')) in
     let long : length here ≡ size s = length-part softs (size s) n room in
     let long' : length here' * repeats ≡ size s =
     ap (λ (k : ℕ). k * repeats) (length-part symbols (2 * bits) n room')
@@ -79,22 +75,18 @@ frames_agree kind bits repeats (suc n) softs symbols e room room' =
     let gathered_long = length-gathered_span kind bits repeats n softs e in
     ap (λ (xs : List ℤ). correlation xs sent_all) (take-frames softs (size s) n)
     ∙ ap (correlation (front ++ here)) (flat_map-next (sent_frame kind bits repeats symbols) n)
-    ∙ correlation-append front here sent_front (sent s repeats here')
-    (front_long ∙ sym sent_long)
+    ∙ correlation-append front here sent_front (sent s repeats here') (front_long ∙ sym sent_long)
     ∙ ap (λ (z : ℤ). z +ℤ correlation here (sent s repeats here')) rest
-    ∙ ap (λ (z : ℤ). correlation gathered_front front' +ℤ z)
-    (agreement-gathered kind repeats here here' long long')
+    ∙ ap (λ (z : ℤ). correlation gathered_front front' +ℤ z) (agreement-gathered kind repeats here here' long long')
     ∙ sym
-    (correlation-append gathered_front (gathered s repeats here) front' here'
-    (gathered_long ∙ sym front_long'))
+    (correlation-append gathered_front (gathered s repeats here) front' here' (gathered_long ∙ sym front_long'))
     ∙ ap (λ (xs : List ℤ). correlation xs (front' ++ here')) (sym (flat_map-next gathered_frame n))
     ∙ ap (correlation (gathered_span c (suc n) softs)) (sym (take-frames symbols (2 * bits) n))
 
 -- A codeword of the span's length has the same score under the gathered soft values as under those
 -- that were sent: it is `frames_agree` for n frames, which are all of the soft values and symbols.
 pub score_is : (kind : Kind) (bits repeats n : ℕ) (softs : List ℤ) (w : Codeword) →
-    2 * bits * repeats ≡ size (shape_of kind) →
-    length softs ≡ size (shape_of kind) * n → length w.bits ≡ bits * n →
+    2 * bits * repeats ≡ size (shape_of kind) → length softs ≡ size (shape_of kind) * n → length w.bits ≡ bits * n →
     score_of (gathered_span (channel kind bits repeats) n softs) w
     ≡ score softs (sending (channel kind bits repeats) n) w
 score_is kind bits repeats n softs w e long long' =
@@ -105,6 +97,5 @@ score_is kind bits repeats n softs w e long long' =
     let whole = take_all (2 * bits * n) symbols (omega (arith, count)) in
     let all = take_all (size (shape_of kind) * n) softs (omega (arith, long)) in
     ap (correlation (gathered_span c n softs)) (sym whole)
-    ∙ sym
-    (frames_agree kind bits repeats n softs symbols e (omega (arith, long)) (omega (arith, count)))
+    ∙ sym (frames_agree kind bits repeats n softs symbols e (omega (arith, long)) (omega (arith, count)))
     ∙ ap (λ (xs : List ℤ). correlation xs (sent_frames (sending c n) symbols)) all

@@ -25,8 +25,7 @@ codeword_is : {R : Type 0} (format : FrameFormat R) (information : List Bool) �
 codeword_is format information =
     append_assoc information (quality_indicator format.quality information) (replicate 8 false)
 
-front_is : {R : Type 0} (format : FrameFormat R) (information : List Bool) →
-    length information ≡ format.information →
+front_is : {R : Type 0} (format : FrameFormat R) (information : List Bool) → length information ≡ format.information →
     take format.information (sent_bits format information) ≡ information
 front_is format information long =
     ap (take format.information) (codeword_is format information)
@@ -49,18 +48,15 @@ codeword_right format information long =
     (drop_at information (indicator ++ replicate 8 false) format.information long)
     ∙ take_at indicator (replicate 8 false) (quality_length format.quality)
     (length-quality_indicator format.quality information) in
-    let right : sent ≡ indicator =
-    ap (quality_indicator format.quality) (front_is format information long) in
+    let right : sent ≡ indicator = ap (quality_indicator format.quality) (front_is format information long) in
     (pointwise_decides booleans_Decides end sent).1 (left ∙ sym right)
 
 pub codeword_allowed : {R : Type 0} (format : FrameFormat R) (information : List Bool) →
-    length information ≡ format.information →
-    IsAllowed Zero (bits_in format) (sent_codeword format information)
+    length information ≡ format.information → IsAllowed Zero (bits_in format) (sent_codeword format information)
 codeword_allowed format information long =
     let front = information ++ quality_indicator format.quality information in
     let size : length front ≡ bits_in format - 8 = omega (arith, length-checked format information long) in
-    let all : length (front ++ replicate 8 false) ≡ bits_in format =
-    length-format_codeword format information long in
+    let all : length (front ++ replicate 8 false) ≡ bits_in format = length-format_codeword format information long in
     record {
       start_long = refl;
       bits_long = all;
@@ -76,8 +72,7 @@ codeword_in_allowed softs format =
     best_zero_codeword_allowed (score_in softs format) (bits_in format) (bits_least format)
 
 codeword_in_greatest : {R : Type 0} (softs : List ℤ) (format : FrameFormat R) (w : Codeword) →
-    IsAllowed Zero (bits_in format) w →
-    score_in softs format w ≤ℤ score_in softs format (codeword_in softs format)
+    IsAllowed Zero (bits_in format) w → score_in softs format w ≤ℤ score_in softs format (codeword_in softs format)
 unfolding codeword_in
 codeword_in_greatest softs format w h =
     best_zero_codeword_greatest (score_in softs format) (bits_in format) w (bits_least format) h
@@ -90,8 +85,7 @@ shown_own : {R : Type 0} (rate : R) (format : FrameFormat R) (information : List
 shown_own {R} rate format information m some named long =
     let with : R → Bool → List Bool → DecodedFrame R =
     λ r good bits. record { rate = r; good = good; bits = bits; score = m } in
-    ap (λ (r : R). with r (int_lt (pos 0) m)
-    (take format.information (sent_bits format information))) named
+    ap (λ (r : R). with r (int_lt (pos 0) m) (take format.information (sent_bits format information))) named
     ∙ ap (λ (good : Bool). with rate good (take format.information (sent_bits format information)))
     (lt_true (pos 0) m some)
     ∙ ap (with rate true) (front_is format information long)
@@ -101,8 +95,7 @@ frame_same : {R : Type 0} (format_of : R → FrameFormat R) (softs : List ℤ) (
     (information : List Bool) (v : Codeword) →
     let w = sent_codeword (format_of rate) information in
     let m = score_in softs (format_of rate) w in
-    pos 0 <ℤ m → (format_of rate).rate ≡ rate → length information ≡ (format_of rate).information →
-    r ≡ rate → v ≡ w →
+    pos 0 <ℤ m → (format_of rate).rate ≡ rate → length information ≡ (format_of rate).information → r ≡ rate → v ≡ w →
     frame_in (format_of r) v.bits (score_in softs (format_of r) v) ≡ good_frame rate information m
 frame_same {R} format_of softs rate r information v some named long rates codewords =
     let w = sent_codeword (format_of rate) information in
@@ -124,10 +117,8 @@ pub signs_chosen : {R : Type 0} (format_of : R → FrameFormat R) (rates : List 
     ((kept : List ℤ) → AreCodewords format_of kept (codewords kept)) →
     let w = sent_codeword (format_of rate) information in
     let kept = unreplaced replaced softs in
-    length replaced < 384 → length softs ≡ 384 →
-    length information ≡ (format_of rate).information →
-    KeepSigns replaced (symbols_in (format_of rate) w) softs →
-    IsUnsharedIn format_of replaced rate w →
+    length replaced < 384 → length softs ≡ 384 → length information ≡ (format_of rate).information →
+    KeepSigns replaced (symbols_in (format_of rate) w) softs → IsUnsharedIn format_of replaced rate w →
     rising_choice None (map (λ r. candidate_of kept (format_of r) (codewords kept r)) rates)
     ≡ Some (good_frame rate information (score_in kept (format_of rate) w))
 signs_chosen {R} format_of rates replaced rate information softs codewords named among known few long long'
@@ -150,8 +141,7 @@ signs_chosen {R} format_of rates replaced rate information softs codewords named
     let low : (r : R) (v : Codeword) → IsAllowed Zero (bits_in (format_of r)) v →
     Below d (frame_in (format_of r) v.bits (score_in kept (format_of r) v)) = λ r v allowed.
     let s = score_in kept (format_of r) v in
-    ⊎_elim
-    (λ (t : int_lt s m ≡ true). inr (tested s m t))
+    ⊎_elim (λ (t : int_lt s m ≡ true). inr (tested s m t))
     (λ (t : int_lt s m ≡ false).
     let e = same r v allowed (untested s m t) in
     inl (frame_same format_of kept rate r information v more (named rate) long' e.0 e.1))
@@ -165,8 +155,7 @@ signs_chosen {R} format_of rates replaced rate information softs codewords named
     (λ r. candidate_below d kept (format_of r) (codewords kept r)
     (λ i v b. low r (get_or (codewords kept r) i v) (all.allowed r i v b)))
     (ap (option_map (λ v. frame_in format v.bits (score_in kept format v)))
-    (first_found (λ v. is_right format v.bits) (codewords kept rate) (codeword_in kept format)
-    (all.first rate) right)
+    (first_found (λ v. is_right format v.bits) (codewords kept rate) (codeword_in kept format) (all.first rate) right)
     ∙ ap Some
     (frame_same format_of kept rate rate information (codeword_in kept format) more (named rate) long' refl
     found))
@@ -202,8 +191,7 @@ signs_decoded {R} format_of shown highest lower named among replaced rate inform
 -- A decoder that goes by signs decodes sent frames: soft values that show a frame's symbols with one strength
 -- have their signs, and the score is that strength once for each place that no power control bit replaces.
 pub shown_decoded : {R D : Type 0} (format_of : R → FrameFormat R) (shown : DecodedFrame R → D)
-    (decoded : List ℕ → List ℤ → D) → DecodesBySigns format_of shown decoded →
-    DecodesSentFrames format_of shown decoded
+    (decoded : List ℕ → List ℤ → D) → DecodesBySigns format_of shown decoded → DecodesSentFrames format_of shown decoded
 shown_decoded format_of shown decoded signs n replaced rate information softs some few long long' shows unshared =
     let format = format_of rate in
     let w = sent_codeword format information in
@@ -230,8 +218,7 @@ zeros_codeword n format =
     (length-replicate (2 * count) (pos 0)) (zero_codeword_best Zero count (bits_least format)))
 
 nothing_shown : {R : Type 0} (highest : FrameFormat R) (lower : List (FrameFormat R)) (n : ℕ) →
-    shown_of highest lower (replicate n (pos 0))
-    ≡ not_good highest (replicate (bits_in highest) false) (pos 0)
+    shown_of highest lower (replicate n (pos 0)) ≡ not_good highest (replicate (bits_in highest) false) (pos 0)
 nothing_shown highest lower n =
     let zeros : List ℤ = replicate n (pos 0) in
     silent_shown zeros (codeword_in zeros) highest lower

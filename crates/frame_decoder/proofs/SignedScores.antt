@@ -65,8 +65,7 @@ weighed false n i is = omega arith
 
 -- A relation of numbers that holds of sums where it holds of their parts, and at each place of 0 or
 -- else n and the value's size, holds of n times the places that are left and the sum of the sizes.
-sizes_related : (R : ℕ → ℕ → Type 0) → R 0 0 →
-    ((a b c d : ℕ) → R a b → R c d → R (a + c) (b + d)) →
+sizes_related : (R : ℕ → ℕ → Type 0) → R 0 0 → ((a b c d : ℕ) → R a b → R c d → R (a + c) (b + d)) →
     (replaced : List ℕ) (value : ℕ → ℤ) (n at m : ℕ) →
     ((i : ℕ) → i < m →
     R (if is_replaced replaced (at + i) then 0 else n) (unsigned_abs (value (at + i)))) →
@@ -98,8 +97,7 @@ kept_sizes R none add replaced softs n long each =
 
 -- ---- scores
 
-kept_not_against : (out b : Bool) (z : ℤ) → (out ≡ false → HasSign b z) →
-    IsNotAgainst b (if out then pos 0 else z)
+kept_not_against : (out b : Bool) (z : ℤ) → (out ≡ false → HasSign b z) → IsNotAgainst b (if out then pos 0 else z)
 kept_not_against true true z has = omega (arith, ints)
 kept_not_against true false z has = omega (arith, ints)
 kept_not_against false b z has = sign_is_not_against b z (has refl)
@@ -107,17 +105,14 @@ kept_not_against false b z has = sign_is_not_against b z (has refl)
 -- No soft value that counts is against its symbol: if a power control bit replaces the symbol, the
 -- value is 0; otherwise it has the symbol's sign.
 none_against : (replaced : List ℕ) (xs : List Bool) (softs : List ℤ) → length softs ≡ 384 →
-    length xs ≡ 384 → KeepSigns replaced xs softs →
-    AllZip IsNotAgainst xs (unreplaced replaced softs)
+    length xs ≡ 384 → KeepSigns replaced xs softs → AllZip IsNotAgainst xs (unreplaced replaced softs)
 none_against replaced xs softs long size keep =
     let all : length (unreplaced replaced softs) ≡ 384 = length-unreplaced replaced softs ∙ long in
     zipped_by_place IsNotAgainst xs (unreplaced replaced softs) false (pos 0) (size ∙ sym all)
     (λ i lt.
     let low : i < 384 = omega (arith, lt, size) in
-    subst (IsNotAgainst (get_or xs i false))
-    (sym (get_or-unreplaced replaced softs i (omega (arith, low, long))))
-    (kept_not_against (is_replaced replaced i) (get_or xs i false) (get_or softs i (pos 0))
-    (keep i low)))
+    subst (IsNotAgainst (get_or xs i false)) (sym (get_or-unreplaced replaced softs i (omega (arith, low, long))))
+    (kept_not_against (is_replaced replaced i) (get_or xs i false) (get_or softs i (pos 0)) (keep i low)))
 
 -- What is kept agrees with its own symbols.
 pub own_some : (replaced : List ℕ) (xs : List Bool) (softs : List ℤ) → length replaced < 384 →

@@ -8,14 +8,12 @@ use Rattle.frame_decoder.proofs.BestCodewords.{first_greatest-same}
 length-zero_codeword : (n r : ℕ) → 8 ≤ n → length (codeword_at Zero n r).bits ≡ n
 length-zero_codeword n r least = (codeword_at_allowed Zero n r least).bits_long
 
-pub length-best_zero_codeword : (f : Codeword → ℤ) (n : ℕ) → 8 ≤ n →
-    length (best_codeword f Zero n).bits ≡ n
+pub length-best_zero_codeword : (f : Codeword → ℤ) (n : ℕ) → 8 ≤ n → length (best_codeword f Zero n).bits ≡ n
 unfolding best_codeword
 length-best_zero_codeword f n least = length-zero_codeword n _ least
 
 -- scores that agree on the codewords of n bits have the same best codeword of n bits
-pub best_zero_codeword-same : (f g : Codeword → ℤ) (n : ℕ) → 8 ≤ n →
-    ((w : Codeword) → length w.bits ≡ n → f w ≡ g w) →
+pub best_zero_codeword-same : (f g : Codeword → ℤ) (n : ℕ) → 8 ≤ n → ((w : Codeword) → length w.bits ≡ n → f w ≡ g w) →
     best_codeword f Zero n ≡ best_codeword g Zero n
 unfolding best_codeword
 best_zero_codeword-same f g n least h =

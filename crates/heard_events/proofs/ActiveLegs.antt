@@ -51,8 +51,7 @@ pub get_close : (deltas : List ℤ) (i : ℕ) → All (λ d. unsigned_abs d ≤ 
     nat_le (unsigned_abs (get_or deltas i (pos 0))) 226 ≡ true
 get_close [] i h = refl
 get_close (x ∷ deltas) zero h = le-leb (unsigned_abs x) 226 (h 0 (pos 0) (omega arith))
-get_close (x ∷ deltas) (suc i) h =
-    get_close deltas i (λ k d less. h (suc k) d (omega (arith, less)))
+get_close (x ∷ deltas) (suc i) h = get_close deltas i (λ k d less. h (suc k) d (omega (arith, less)))
 
 pub active_close : (m : Mark) (deltas : List ℤ) (actives : List Active) →
     All (λ d. unsigned_abs d ≤ 226) deltas → legs_close (map (leg_of m deltas) actives) ≡ true
@@ -71,19 +70,15 @@ active_rows m deltas actives h =
 -- DELTAS
 -- those that were measured are close, as the others are
 pub deltas_close : (strengths : List Strength) (deltas : List ℤ) →
-    All (λ (s : Strength). unsigned_abs s.delta ≤ 226) strengths →
-    All (λ d. unsigned_abs d ≤ 226) deltas →
+    All (λ (s : Strength). unsigned_abs s.delta ≤ 226) strengths → All (λ d. unsigned_abs d ≤ 226) deltas →
     All (λ d. unsigned_abs d ≤ 226) (deltas_with strengths deltas)
 deltas_close [] deltas fresh h = h
 deltas_close (s ∷ strengths) deltas fresh h =
-    deltas_close strengths (slice_set deltas s.pilot s.delta)
-    (λ k d less. fresh (suc k) d (omega (arith, less)))
-    (All-set (λ (d : ℤ). unsigned_abs d ≤ 226) deltas s.pilot s.delta
-    (fresh 0 s (omega arith)) h)
+    deltas_close strengths (slice_set deltas s.pilot s.delta) (λ k d less. fresh (suc k) d (omega (arith, less)))
+    (All-set (λ (d : ℤ). unsigned_abs d ≤ 226) deltas s.pilot s.delta (fresh 0 s (omega arith)) h)
 
 -- a direction leaves them
-waiting_deltas : (waiting : Option Accepted) (time : ℕ) (s : Standing) →
-    (due_for waiting time s).deltas ≡ s.deltas
+waiting_deltas : (waiting : Option Accepted) (time : ℕ) (s : Standing) → (due_for waiting time s).deltas ≡ s.deltas
 waiting_deltas None time s = refl
 waiting_deltas (Some direction) time s =
     cond_both (direction.time == time)

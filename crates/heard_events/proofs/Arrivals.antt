@@ -19,11 +19,7 @@ pub record Arrivals : Type 0 where
 
 -- the frames of a stream
 abbrev pub frames_in : ℕ → Stream → (ℕ → ℕ) → Arrivals
-frames_in count s bound = record {
-  inside = is_in_file count s;
-  known = known_at count s;
-  bound = bound;
-}
+frames_in count s bound = record { inside = is_in_file count s; known = known_at count s; bound = bound }
 
 -- whether thing k is known at n
 abbrev pub is_now : Arrivals → ℕ → ℕ → Bool
@@ -70,30 +66,24 @@ module _ (a : Arrivals) where
       (parts.0, eqb-true (a.known k) n parts.1)
 
   not_now : (n k : ℕ) → (a.inside k ≡ true → ¬ (a.known k ≡ n)) → is_now a n k ≡ false
-  not_now n k h =
-      and_none (a.inside k) (a.known k == n) (λ inside. ne_eqb (a.known k) n (h inside))
+  not_now n k h = and_none (a.inside k) (a.known k == n) (λ inside. ne_eqb (a.known k) n (h inside))
 
   pub none_now : (n : ℕ) → NoneNow a n → now a n ≡ []
-  none_now n none =
-      filter_none_places (is_now a n) (a.bound n) (λ k below. not_now n k (none k))
+  none_now n none = filter_none_places (is_now a n) (a.bound n) (λ k below. not_now n k (none k))
 
   -- where none before `next` is known just now, all are left
-  pub all_left : (next n : ℕ) →
-      ((k : ℕ) → k < next → a.inside k ≡ true → ¬ (a.known k ≡ n)) → left a next n ≡ now a n
+  pub all_left : (next n : ℕ) → ((k : ℕ) → k < next → a.inside k ≡ true → ¬ (a.known k ≡ n)) → left a next n ≡ now a n
   all_left next n none =
       filter_ext_places (is_left a next n) (is_now a n) (a.bound n)
       (λ k below.
-      and_second (nat_le next k) (is_now a n k)
-      (λ early. not_now n k (none k (leb-false next k early))))
+      and_second (nat_le next k) (is_now a n k) (λ early. not_now n k (none k (leb-false next k early))))
 
   -- where none from `next` on is, none is left
-  pub none_left : (next n : ℕ) →
-      ((k : ℕ) → next ≤ k → a.inside k ≡ true → ¬ (a.known k ≡ n)) → left a next n ≡ []
+  pub none_left : (next n : ℕ) → ((k : ℕ) → next ≤ k → a.inside k ≡ true → ¬ (a.known k ≡ n)) → left a next n ≡ []
   none_left next n none =
       filter_none_places (is_left a next n) (a.bound n)
       (λ k below.
-      and_none (nat_le next k) (is_now a n k)
-      (λ late. not_now n k (none k (leb-true next k late))))
+      and_none (nat_le next k) (is_now a n k) (λ late. not_now n k (none k (leb-true next k late))))
 
 -- WHAT IS KNOWN BY A NUMBER OF SAMPLES
 -- each before a number that lies in the file is known by n, each from it on at n or later
@@ -116,8 +106,7 @@ none_between a next low high n before following past less k inside e =
 abbrev pub is_by : Arrivals → ℕ → ℕ → Bool
 is_by a n k = a.inside k && nat_le (a.known k) n
 
-pub by_parts : (a : Arrivals) (n k : ℕ) → is_by a n k ≡ true →
-    (a.inside k ≡ true) × (a.known k ≤ n)
+pub by_parts : (a : Arrivals) (n k : ℕ) → is_by a n k ≡ true → (a.inside k ≡ true) × (a.known k ≤ n)
 by_parts a n k both =
     let parts = and_parts (a.inside k) (nat_le (a.known k) n) both in
     (parts.0, leb-true (a.known k) n parts.1)
@@ -144,8 +133,7 @@ frames_ordered {count} s timed bound enough = record {
 module _ (a : Arrivals) (o : AreOrdered a) where
   -- The next thing, where it is known just now, is the first of those that are left: those before
   -- it are not left, and it is below the bound, since all from the bound on are known later.
-  pub next_left : (next n : ℕ) → a.inside next ≡ true → a.known next ≡ n →
-      left a next n ≡ next ∷ left a (next + 1) n
+  pub next_left : (next n : ℕ) → a.inside next ≡ true → a.known next ≡ n → left a next n ≡ next ∷ left a (next + 1) n
   next_left next n inside known =
       let here : is_now a n next ≡ true =
       and_from (a.inside next) (a.known next == n) inside (eq-eqb (a.known next) n known) in
@@ -157,8 +145,7 @@ module _ (a : Arrivals) (o : AreOrdered a) where
       let first = filter_first_places (is_left a next n) (a.bound n) next below
       (and_from (nat_le next next) (is_now a n next) (le-leb next next (omega arith)) here)
       (λ k less. and_left (nat_le next k) (is_now a n k) (lt-leb next k less)) in
-      let rest = filter_ext_places (λ k. nat_le (next + 1) k && is_left a next n k)
-      (is_left a (next + 1) n) (a.bound n)
+      let rest = filter_ext_places (λ k. nat_le (next + 1) k && is_left a next n k) (is_left a (next + 1) n) (a.bound n)
       (λ k less.
       and_under (nat_le (next + 1) k) (is_left a next n k) (is_now a n k)
       (λ past.
@@ -174,12 +161,10 @@ module _ (a : Arrivals) (o : AreOrdered a) where
         let past : (from : ℕ) → AreLater a from (n + 1) → (k : ℕ) → from ≤ k → is_by a n k ≡ false =
         λ from later k above. and_none (a.inside k) (nat_le (a.known k) n)
         (λ here. let late = later k above here in lt-leb (a.known k) n (omega (arith, late))) in
-        ranges.filter_enough (is_by a n) (a.bound n) next (past (a.bound n) (o.enough n))
-        (past next following)
+        ranges.filter_enough (is_by a n) (a.bound n) next (past (a.bound n) (o.enough n)) (past next following)
         ∙ filter_ext_places (is_by a n) a.inside next
         (λ k below.
-        and_first (a.inside k) (nat_le (a.known k) n)
-        (λ here. le-leb (a.known k) n (before k below here)))
+        and_first (a.inside k) (nat_le (a.known k) n) (λ here. le-leb (a.known k) n (before k below here)))
 
     -- all up to one that is known are known
     pub known_with : (k : ℕ) → a.inside k ≡ true → a.known k ≤ n → AreKnown a (k + 1) n
@@ -192,8 +177,7 @@ module _ (a : Arrivals) (o : AreOrdered a) where
               omega (arith, e, most)
         ]
 
-    part : (b : ℕ) → AreLater a b (n + 1) →
-        (next : ℕ) × (AreKnown a next n × AreLater a next (n + 1))
+    part : (b : ℕ) → AreLater a b (n + 1) → (next : ℕ) × (AreKnown a next n × AreLater a next (n + 1))
     part zero following = (0, (λ k below inside. absurd (omega (arith, below)), following))
     part (suc b) following =
         elim (cases_Bool (is_by a n b)) [
@@ -206,8 +190,7 @@ module _ (a : Arrivals) (o : AreOrdered a) where
                 | inl past ↦ following k (omega (arith, past)) inside
                 | inr most ↦
                     let same : b ≡ k = omega (arith, above, most) in
-                    let none : (a.inside k && nat_le (a.known k) n) ≡ false =
-                    ap (is_by a n) (sym same) ∙ late in
+                    let none : (a.inside k && nat_le (a.known k) n) ≡ false = ap (is_by a n) (sym same) ∙ late in
                     let past = leb-false (a.known k) n (rw inside at none) in
                     omega (arith, past)
               ])
@@ -236,12 +219,10 @@ module _ {A : Type 0} (a : Arrivals) (o : AreOrdered a) (gives : List Sample →
     (stays : StaysBefore a gives) where
   pub stays_at : Stays a gives
   stays_at xs ys k inside known =
-      stays xs ys k
-      (λ j below. known_with a o (length xs) k inside known j (omega (arith, below)))
+      stays xs ys k (λ j below. known_with a o (length xs) k inside known j (omega (arith, below)))
 
   pub stays_with : Stays a (λ xs k. gives xs (k + 1))
-  stays_with xs ys k inside known =
-      stays xs ys (k + 1) (known_with a o (length xs) k inside known)
+  stays_with xs ys k inside known = stays xs ys (k + 1) (known_with a o (length xs) k inside known)
 
 -- so stays all that those before a number give, and all that is told of those that are known just now
 module _ {E : Type 0} (a : Arrivals) where
@@ -251,8 +232,7 @@ module _ {E : Type 0} (a : Arrivals) where
       ranges.flat_map_ext_filter_places a.inside (gives (xs ++ ys)) (gives xs) next
       (λ k below inside. stays xs ys k inside (known k below inside))
 
-  pub stays_now : (gives : List Sample → ℕ → ℕ → List E) →
-      ((n : ℕ) → Stays a (λ xs. gives xs n)) →
+  pub stays_now : (gives : List Sample → ℕ → ℕ → List E) → ((n : ℕ) → Stays a (λ xs. gives xs n)) →
       StaysWithin (λ xs n. flat_map (gives xs n) (now a n))
   stays_now gives stays xs ys n h =
       flat_map_ext_filter (is_now a n) (gives (xs ++ ys) n) (gives xs n) (places (a.bound n))
@@ -272,8 +252,7 @@ given_more inside f k here =
 -- where it doesn't lie there they are those before it
 pub given_less : (inside : ℕ → Bool) (k : ℕ) → inside k ≡ false →
     filter inside (places (k + 1)) ≡ filter inside (places k)
-given_less inside k gone =
-    rw (places-more k, filter-append, gone) (append-nil (filter inside (places k)))
+given_less inside k gone = rw (places-more k, filter-append, gone) (append-nil (filter inside (places k)))
 
 -- THE FRAMES OF A STREAM
 -- none lies in the file before the first that does

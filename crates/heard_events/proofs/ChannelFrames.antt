@@ -13,8 +13,7 @@ first_by (Traffic traffic) m = refl
 
 module _ (t : Tuning) (channel : Channel) (m : Mark) where
   -- a frame is known at its own end
-  pub own_end : (k : ℕ) →
-      known_at t.count (channel_stream t channel m) k ≡ stream_end (channel_stream t channel m) k
+  pub own_end : (k : ℕ) → known_at t.count (channel_stream t channel m) k ≡ stream_end (channel_stream t channel m) k
   unfolding stream_end
   own_end k = refl
 
@@ -29,8 +28,7 @@ module _ (t : Tuning) (channel : Channel) (m : Mark) where
       omega (arith, early, ends))
 
   -- what is received of a frame stays where more samples follow
-  pub frame_sooner : (xs ys : List Sample) (k : ℕ) →
-      is_in_file t.count (channel_stream t channel m) k ≡ true →
+  pub frame_sooner : (xs ys : List Sample) (k : ℕ) → is_in_file t.count (channel_stream t channel m) k ≡ true →
       stream_end (channel_stream t channel m) k ≤ length xs →
       soft_frame t channel m (xs ++ ys) k ≡ soft_frame t channel m xs k
   unfolding stream_end
@@ -38,8 +36,7 @@ module _ (t : Tuning) (channel : Channel) (m : Mark) where
       let s = channel_stream t channel m in
       let u : ℕ = frame_start s k in
       ap (soft_frame_of t channel m k)
-      (softs_sooner xs ys s.fingers s.form u
-      (all_fit t.count (length xs) s.fingers s.form u inside ends))
+      (softs_sooner xs ys s.fingers s.form u (all_fit t.count (length xs) s.fingers s.form u inside ends))
 
   -- and so do the frames that end within some samples
   pub frames_sooner : (xs ys : List Sample) (n : ℕ) → n ≤ length xs →

@@ -52,8 +52,7 @@ module _ (t : Tuning) (samples : List Sample) (n : ℕ) where
   sync_here : AreAt n (sync_events_at t samples n)
   unfolding sync_events_at
   sync_here =
-      all_each (IsAt n) (λ k. events_of n (heard_at t samples k))
-      (known_now t.count (sync_stream t) n (sync_bound n))
+      all_each (IsAt n) (λ k. events_of n (heard_at t samples k)) (known_now t.count (sync_stream t) n (sync_bound n))
       (λ k. message_here n (heard_at t samples k))
 
   frames_here : (traffic : Traffic) (m : Mark) → AreAt n (frames_at t traffic m samples n)
@@ -67,8 +66,7 @@ module _ (t : Tuning) (samples : List Sample) (n : ℕ) where
   unfolding messages_by
   messages_here traffic m =
       let legs = legs_at t traffic m samples n in
-      all_each (IsAt n) (message_heard t traffic m legs (take n samples) n)
-      (frames_now t traffic m legs n)
+      all_each (IsAt n) (message_heard t traffic m legs (take n samples) n) (frames_now t traffic m legs n)
       (λ k. signal_here n (signaling_message_at t traffic m legs (take n samples) k))
 
   -- The event of the pilot sets that ends at n samples has the number n: there is one only where
@@ -94,8 +92,7 @@ module _ (t : Tuning) (samples : List Sample) (n : ℕ) where
       let frames = frames_at t traffic m samples n in
       let messages = messages_at t traffic m samples n in
       All-append (IsAt n) (frames ++ messages) (sets_at t traffic m samples n)
-      (All-append (IsAt n) frames messages (frames_here traffic m) (messages_here traffic m))
-      (moment_here traffic m)
+      (All-append (IsAt n) frames messages (frames_here traffic m) (messages_here traffic m)) (moment_here traffic m)
 
   pub all_at : AreAt n (events_at t samples n)
   unfolding events_at

@@ -16,11 +16,9 @@ use Rattle.heard_events.proofs.MarkStays as stays
 pub events_at_by : (t : Tuning) (xs : List Sample) (n : ℕ) (m : Option Mark) → mark t xs n ≡ m →
     events_at t xs n ≡ sync_events_at t xs n ++ followed_after t m xs n
 unfolding events_at
-events_at_by t xs n m e =
-    ap (λ (x : Option Mark). sync_events_at t xs n ++ followed_after t x xs n) e
+events_at_by t xs n m e = ap (λ (x : Option Mark). sync_events_at t xs n ++ followed_after t x xs n) e
 
-each_same : {A X : Type 0} (f g : X → List A) (xs : List X) → ((x : X) → f x ≡ g x) →
-    flat_map f xs ≡ flat_map g xs
+each_same : {A X : Type 0} (f g : X → List A) (xs : List X) → ((x : X) → f x ≡ g x) → flat_map f xs ≡ flat_map g xs
 each_same f g [] same = refl
 each_same f g (x ∷ xs) same = joined (same x) (each_same f g xs same)
 
@@ -46,15 +44,13 @@ module _ (t : Tuning) (low : ℕ) (timed : IsSyncTimed t low)
   after_sooner xs ys n h None m = refl
 
   -- and on all
-  pub events_sooner : (xs ys : List Sample) (n : ℕ) → n ≤ length xs →
-      events_at t (xs ++ ys) n ≡ events_at t xs n
+  pub events_sooner : (xs ys : List Sample) (n : ℕ) → n ≤ length xs → events_at t (xs ++ ys) n ≡ events_at t xs n
   events_sooner xs ys n h =
       let m = mark t xs n in
       events_at_by t (xs ++ ys) n m (stays.mark_sooner t low timed xs ys n h)
       ∙ joined (growth.sync_events_sooner t low timed xs ys n h)
       (each_same (λ followed. told_after t followed m (xs ++ ys) n)
-      (λ followed. told_after t followed m xs n) (channels t)
-      (λ followed. after_sooner xs ys n h followed m))
+      (λ followed. told_after t followed m xs n) (channels t) (λ followed. after_sooner xs ys n h followed m))
       ∙ sym (events_at_by t xs n m refl)
 
   -- a mark that is set with the last sample has no channel's frame before it

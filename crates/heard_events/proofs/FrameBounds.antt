@@ -15,21 +15,16 @@ module _ (t : Tuning) (traffic : Traffic) (m : Mark) (legs : ℕ → List Leg) w
   known_is k = refl
 
   module _ (close : AreCloseAll t legs) where
-    pub known_low : (k : ℕ) →
-        traffic_start traffic m k + 24576 ≤ frame_known t traffic m legs k + 226
+    pub known_low : (k : ℕ) → traffic_start traffic m k + 24576 ≤ frame_known t traffic m legs k + 226
     known_low k =
-        (close_ends (traffic_start traffic m k) (all_fingers t.phase t.deltas (legs k))
-        (close k)).0
+        (close_ends (traffic_start traffic m k) (all_fingers t.phase t.deltas (legs k)) (close k)).0
 
-    pub known_high : (k : ℕ) →
-        frame_known t traffic m legs k ≤ traffic_start traffic m k + 24576 + 226
+    pub known_high : (k : ℕ) → frame_known t traffic m legs k ≤ traffic_start traffic m k + 24576 + 226
     known_high k =
-        (close_ends (traffic_start traffic m k) (all_fingers t.phase t.deltas (legs k))
-        (close k)).1
+        (close_ends (traffic_start traffic m k) (all_fingers t.phase t.deltas (legs k)) (close k)).1
 
     -- a later frame ends later
-    pub known_later : (j k : ℕ) → j < k →
-        frame_known t traffic m legs j < frame_known t traffic m legs k
+    pub known_later : (j k : ℕ) → j < k → frame_known t traffic m legs j < frame_known t traffic m legs k
     known_later j k less =
         let low = known_low k in
         let high = known_high j in
@@ -41,8 +36,7 @@ module _ (t : Tuning) (traffic : Traffic) (m : Mark) (legs : ℕ → List Leg) w
     has_is far k =
         let u : ℕ = traffic_start traffic m k in
         let fingers = all_fingers t.phase t.deltas (legs k) in
-        let begun : all_begun u fingers ≡ true =
-        close_begun u fingers (close k).close (omega (arith, far)) in
+        let begun : all_begun u fingers ≡ true = close_begun u fingers (close k).close (omega (arith, far)) in
         within_is Data u t.count fingers
         ∙ ap (λ (b : Bool). b && nat_le (frame_end fingers Data u) t.count) begun
 

@@ -19,14 +19,11 @@ module _ (t : Tuning) (traffic : Traffic) (m : Mark) where
       ≡ channel_stream t (traffic_channel traffic) m
   stream_alone k = ap (traffic_stream traffic m) (fingers_alone k)
 
-  pub decoded_alone : (samples : List Sample) (k : ℕ) →
-      decoded_at t traffic m (reference_alone traffic m) samples k
-      ≡ decoded (replaced_in traffic m k)
-      (soft_frame t (traffic_channel traffic) m samples k).descrambled
+  pub decoded_alone : (samples : List Sample) (k : ℕ) → decoded_at t traffic m (reference_alone traffic m) samples k
+      ≡ decoded (replaced_in traffic m k) (soft_frame t (traffic_channel traffic) m samples k).descrambled
   unfolding decoded_at
   decoded_alone samples k =
-      ap (λ (s : Stream). decoded (replaced_in traffic m k) (frame_softs samples s k))
-      (stream_alone k)
+      ap (λ (s : Stream). decoded (replaced_in traffic m k) (frame_softs samples s k)) (stream_alone k)
 
   pub power_bits_alone : (samples : List Sample) (k : ℕ) →
       power_bits_at t traffic m (reference_alone traffic m) samples k
@@ -34,13 +31,11 @@ module _ (t : Tuning) (traffic : Traffic) (m : Mark) where
       (power_bit (group_sums (replaced_in traffic m k)
       (raw_at t (traffic_channel traffic) m samples k) ∷ [])) (places 16)
   unfolding power_bits_at places
-  power_bits_alone samples k =
-      rw (fingers_alone k) refl
+  power_bits_alone samples k = rw (fingers_alone k) refl
 
   pub power_alone : (samples : List Sample) (k : ℕ) →
       Some (record {
         replaced = replaced_in traffic m k;
         power_bits = power_bits_at t traffic m (reference_alone traffic m) samples k;
       }) ≡ (soft_frame t (traffic_channel traffic) m samples k).power
-  power_alone samples k =
-      rw (power_bits_alone samples k) refl
+  power_alone samples k = rw (power_bits_alone samples k) refl

@@ -9,16 +9,14 @@ use Rattle.heard_events.proofs.Arrivals.{AreKnown, AreLater, Arrivals, all_left,
 pub record GoesOn {E : Type 0} (told : List Sample → ℕ → List E) (left : List Sample → List E)
     (heard : List Sample) (end : ℕ) : Type 0 where
   pub given : length heard < end → left heard ≡ []
-  pub quiet : (more : List Sample) (n : ℕ) → length heard < n → n < end →
-      told (heard ++ more) n ≡ []
+  pub quiet : (more : List Sample) (n : ℕ) → length heard < n → n < end → told (heard ++ more) n ≡ []
   pub come : (more : List Sample) → 0 < length more → length (heard ++ more) ≤ end →
       left (heard ++ more) ≡ told (heard ++ more) (length (heard ++ more))
 
 -- so it is of things of which those before a number are known, and the others later
 pub things_go : {E : Type 0} (a : Arrivals) (next : ℕ) (gives : List Sample → ℕ → List ℕ → List E) →
     ((samples : List Sample) (n : ℕ) → gives samples n [] ≡ []) → (heard : List Sample) (end : ℕ) →
-    AreKnown a next (length heard) → AreLater a next end →
-    GoesOn (λ samples n. gives samples n (now a n))
+    AreKnown a next (length heard) → AreLater a next end → GoesOn (λ samples n. gives samples n (now a n))
     (λ samples. gives samples (length samples) (left a next (length samples))) heard end
 things_go a next gives none heard end before following = record {
   given = λ early. ap (gives heard (length heard))
@@ -51,8 +49,7 @@ joined e e' = ap₂ (λ (xs ys : List _). xs ++ ys) e e'
 -- two channels
 pub both : {E : Type 0} {told told' : List Sample → ℕ → List E} {left left' : List Sample → List E}
     {heard : List Sample} {end : ℕ} → GoesOn told left heard end → GoesOn told' left' heard end →
-    GoesOn (λ samples n. told samples n ++ told' samples n)
-    (λ samples. left samples ++ left' samples) heard end
+    GoesOn (λ samples n. told samples n ++ told' samples n) (λ samples. left samples ++ left' samples) heard end
 both one other = record {
   given = λ early. joined (one.given early) (other.given early);
   quiet = λ more n past before. joined (one.quiet more n past before) (other.quiet more n past before);
@@ -61,8 +58,7 @@ both one other = record {
 
 -- the same, said in another way
 pub goes_as : {E : Type 0} {told told' : List Sample → ℕ → List E}
-    {left left' : List Sample → List E} {heard : List Sample} {end : ℕ} →
-    GoesOn told left heard end →
+    {left left' : List Sample → List E} {heard : List Sample} {end : ℕ} → GoesOn told left heard end →
     ((samples : List Sample) (n : ℕ) → told' samples n ≡ told samples n) →
     ((samples : List Sample) → left' samples ≡ left samples) → GoesOn told' left' heard end
 goes_as {heard = heard} goes same rest = record {
@@ -76,8 +72,7 @@ goes_as {heard = heard} goes same rest = record {
 -- and each with its number of samples
 pub mapped : {A E : Type 0} (f : ℕ → A → E) {told : List Sample → ℕ → List A}
     {left : List Sample → List A} {heard : List Sample} {end : ℕ} → GoesOn told left heard end →
-    GoesOn (λ samples n. map (f n) (told samples n))
-    (λ samples. map (f (length samples)) (left samples)) heard end
+    GoesOn (λ samples n. map (f n) (told samples n)) (λ samples. map (f (length samples)) (left samples)) heard end
 mapped f {heard = heard} goes = record {
   given = λ early. ap (map (f (length heard))) (goes.given early);
   quiet = λ more n past before. ap (map (f n)) (goes.quiet more n past before);

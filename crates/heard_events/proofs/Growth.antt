@@ -31,8 +31,7 @@ sync_ordered t timed =
     frames_ordered (sync_stream t) timed sync_bound
     (λ k n ends. let early = timed.early k in omega (arith, early, ends))
 
-pub frames_before_more : (t : Tuning) (xs : List Sample) (k : ℕ) → sync_in_file t k ≡ true →
-    frames_before t xs (k + 1)
+pub frames_before_more : (t : Tuning) (xs : List Sample) (k : ℕ) → sync_in_file t k ≡ true → frames_before t xs (k + 1)
     ≡ frames_before t xs k ++ frame_own_bits t.count xs (sync_stream t) k ∷ []
 unfolding frames_before
 frames_before_more t xs k h =
@@ -46,13 +45,11 @@ unfolding frames_before
 frames_before_none t xs low k timed h =
     ap (map (frame_own_bits t.count xs (sync_stream t))) (none_inside (sync_stream t) timed k h)
 
-pub frames_before_sooner : {low : ℕ} (t : Tuning) → IsSyncTimed t low →
-    StaysBefore (sync_frames t) (frames_before t)
+pub frames_before_sooner : {low : ℕ} (t : Tuning) → IsSyncTimed t low → StaysBefore (sync_frames t) (frames_before t)
 unfolding frames_before
 frames_before_sooner t timed xs ys k known =
     let s = sync_stream t in
-    map_ext_filter_places (sync_in_file t) (frame_own_bits t.count (xs ++ ys) s)
-    (frame_own_bits t.count xs s) k
+    map_ext_filter_places (sync_in_file t) (frame_own_bits t.count (xs ++ ys) s) (frame_own_bits t.count xs s) k
     (λ j below inside. own_bits_sooner s refl timed xs ys j inside (known j below inside))
 
 -- EVENTS
@@ -64,8 +61,7 @@ module _ (t : Tuning) (low : ℕ) (timed : IsSyncTimed t low) where
   pub heard_sooner : Stays (sync_frames t) (heard_at t)
   unfolding heard_at sync_capsule_at
   heard_sooner xs ys k inside known =
-      ap (λ frames. heard_in t.check30 (capsule_ending (map piece frames)))
-      (frames_with_sooner xs ys k inside known)
+      ap (λ frames. heard_in t.check30 (capsule_ending (map piece frames))) (frames_with_sooner xs ys k inside known)
 
   pub sync_events_sooner : StaysWithin (sync_events_at t)
   unfolding sync_events_at
@@ -79,8 +75,7 @@ module _ (t : Tuning) (low : ℕ) (timed : IsSyncTimed t low) where
       GoesOn (sync_events_at t) (λ xs. sync_events_left t xs next) heard end
   unfolding sync_events_at sync_events_left
   sync_goes next =
-      things_go (sync_frames t) next (λ xs n. flat_map (λ k. events_of n (heard_at t xs k)))
-      (λ xs n. refl)
+      things_go (sync_frames t) next (λ xs n. flat_map (λ k. events_of n (heard_at t xs k))) (λ xs n. refl)
 
   -- before any sample is taken no frame is known
   pub none_known : AreLater (sync_frames t) 0 1
@@ -98,10 +93,8 @@ module _ (t : Tuning) (low : ℕ) (timed : IsSyncTimed t low) where
       (λ k inside e. let later = none_known k (omega arith) inside in omega (arith, later, e)))
 
   -- the next frame's events are the first of those left
-  pub left_next : (xs : List Sample) (next : ℕ) → sync_in_file t next ≡ true →
-      sync_known t next ≡ length xs →
-      sync_events_left t xs next
-      ≡ events_of (length xs) (heard_at t xs next) ++ sync_events_left t xs (next + 1)
+  pub left_next : (xs : List Sample) (next : ℕ) → sync_in_file t next ≡ true → sync_known t next ≡ length xs →
+      sync_events_left t xs next ≡ events_of (length xs) (heard_at t xs next) ++ sync_events_left t xs (next + 1)
   unfolding sync_events_left
   left_next xs next h e =
       ap (flat_map (λ k. events_of (length xs) (heard_at t xs k)))

@@ -16,8 +16,7 @@ all_parts P xs ys h =
     )
 
 -- a filter that leaves as many as there were leaves all
-filter_whole : {X : Type 0} (p : X → Bool) (xs : List X) → length (filter p xs) ≡ length xs →
-    filter p xs ≡ xs
+filter_whole : {X : Type 0} (p : X → Bool) (xs : List X) → length (filter p xs) ≡ length xs → filter p xs ≡ xs
 filter_whole p [] all = refl
 filter_whole p (x ∷ xs) all =
     elim (cases_Bool (p x)) [
@@ -30,20 +29,16 @@ filter_whole p (x ∷ xs) all =
     ]
 
 -- what all pass, those pass that a filter leaves
-filter_all : {X : Type 0} (p q : X → Bool) (xs : List X) → list_all p xs ≡ true →
-    list_all p (filter q xs) ≡ true
+filter_all : {X : Type 0} (p q : X → Bool) (xs : List X) → list_all p xs ≡ true → list_all p (filter q xs) ≡ true
 filter_all p q xs h =
-    list_all-from_AllPass p (filter q xs)
-    (All-filter q (λ x. p x ≡ true) xs (AllPass-from_list_all p xs h))
+    list_all-from_AllPass p (filter q xs) (All-filter q (λ x. p x ≡ true) xs (AllPass-from_list_all p xs h))
 
 -- ON A SUBCHANNEL
 -- where as many pilots are on it as there are, they are all
-pub on_whole : (c : ℕ) (legs : List Leg) → length (on_subchannel c legs) ≡ length legs →
-    on_subchannel c legs ≡ legs
+pub on_whole : (c : ℕ) (legs : List Leg) → length (on_subchannel c legs) ≡ length legs → on_subchannel c legs ≡ legs
 on_whole c legs all = filter_whole (is_on c) legs all
 
-pub on_some : (c : ℕ) (legs : List Leg) → has_subchannel legs c ≡ true →
-    1 ≤ length (on_subchannel c legs)
+pub on_some : (c : ℕ) (legs : List Leg) → has_subchannel legs c ≡ true → 1 ≤ length (on_subchannel c legs)
 on_some c [] h = absurd (cc)
 on_some c (leg ∷ legs) h =
     elim (cases_Bool (is_on c leg)) [
@@ -60,12 +55,10 @@ on_few c (leg ∷ legs) =
       | inr off ↦ rw off (omega (arith, rest))
     ]
 
-pub on_close : (c : ℕ) (legs : List Leg) → legs_close legs ≡ true →
-    legs_close (on_subchannel c legs) ≡ true
+pub on_close : (c : ℕ) (legs : List Leg) → legs_close legs ≡ true → legs_close (on_subchannel c legs) ≡ true
 on_close c legs h = filter_all (λ (leg : Leg). is_close leg.finger) (is_on c) legs h
 
-pub on_rows : (c : ℕ) (legs : List Leg) → legs_rows legs ≡ true →
-    legs_rows (on_subchannel c legs) ≡ true
+pub on_rows : (c : ℕ) (legs : List Leg) → legs_rows legs ≡ true → legs_rows (on_subchannel c legs) ≡ true
 on_rows c legs h = filter_all (λ (leg : Leg). nat_lt leg.finger.row 64) (is_on c) legs h
 
 -- What holds of all fingers holds of those of one power control subchannel, by induction over the
@@ -95,8 +88,7 @@ sums_more f legs n sums one before is h =
     rw (filter-places-more (has_subchannel legs) n h, before, is)
     (sym (map-append f (first_subchannels legs n) (n ∷ [])))
 
-pub sums_same : {A : Type 0} (f : ℕ → A) (legs : List Leg) (n : ℕ) →
-    has_subchannel legs n ≡ false →
+pub sums_same : {A : Type 0} (f : ℕ → A) (legs : List Leg) (n : ℕ) → has_subchannel legs n ≡ false →
     map f (first_subchannels legs (n + 1)) ≡ map f (first_subchannels legs n)
 sums_same f legs n h = ap (map f) (given_less (has_subchannel legs) n h)
 

@@ -10,8 +10,7 @@ use Rattle.heard_events.proofs.Arrivals.{AreKnown, AreLater, given_more, known_i
 use Rattle.quality_bits.proofs.Streams.{extended, from_last_start_more, from_last_start_new}
 use Rattle.chip_core.proofs.Ranges as ranges
 
-first_of-append : {A : Type 0} (xs ys : List A) →
-    first_of (xs ++ ys) ≡ option_or (first_of xs) (first_of ys)
+first_of-append : {A : Type 0} (xs ys : List A) → first_of (xs ++ ys) ≡ option_or (first_of xs) (first_of ys)
 first_of-append [] ys = refl
 first_of-append (x ∷ xs) ys = refl
 
@@ -20,11 +19,9 @@ module _ (t : Tuning) (samples : List Sample) where
       mark_before t samples next ≡ None
   unfolding mark_before
   mark_before_none next none =
-      ap (λ ks. first_of (flat_map (marks_at t samples) ks))
-      (ranges.filter_none_places (sync_in_file t) next none)
+      ap (λ ks. first_of (flat_map (marks_at t samples) ks)) (ranges.filter_none_places (sync_in_file t) next none)
 
-  pub mark_before_more : (next : ℕ) → sync_in_file t next ≡ true →
-      mark_before t samples (next + 1)
+  pub mark_before_more : (next : ℕ) → sync_in_file t next ≡ true → mark_before t samples (next + 1)
       ≡ option_or (mark_before t samples next) (first_of (marks_at t samples next))
   unfolding mark_before
   mark_before_more next inside =
@@ -74,23 +71,19 @@ marks_at_sooner t low timed xs ys k inside known =
     let heard = heard_sooner t low timed xs ys k inside known in
     rw (frames, heard) refl
 
-pub mark_before_sooner : (t : Tuning) (low : ℕ) → IsSyncTimed t low →
-    StaysBefore (sync_frames t) (mark_before t)
+pub mark_before_sooner : (t : Tuning) (low : ℕ) → IsSyncTimed t low → StaysBefore (sync_frames t) (mark_before t)
 unfolding mark_before
 mark_before_sooner t low timed xs ys next known =
-    ap first_of
-    (stays_before (sync_frames t) (marks_at t) (marks_at_sooner t low timed) xs ys next known)
+    ap first_of (stays_before (sync_frames t) (marks_at t) (marks_at_sooner t low timed) xs ys next known)
 
 -- HOW MANY FRAMES THE MESSAGE UNDER WAY HAS
-length-extended : (message : List Piece) (p : Piece) →
-    length (extended message p) ≡ frames_with false (length message)
+length-extended : (message : List Piece) (p : Piece) → length (extended message p) ≡ frames_with false (length message)
 length-extended [] p = refl
 length-extended (q ∷ message) p =
     let some : nat_lt 0 (suc (length message)) ≡ true = lt-ltb 0 (suc (length message)) (omega arith) in
     rw some (omega (arith, length-append (q ∷ message) (p ∷ [])))
 
-one_more : (pieces : List Piece) (p : Piece) →
-    length (from_last_start (pieces ++ p ∷ []))
+one_more : (pieces : List Piece) (p : Piece) → length (from_last_start (pieces ++ p ∷ []))
     ≡ frames_with p.starts (length (from_last_start pieces))
 one_more pieces p =
     elim (cases_Bool p.starts) [
@@ -104,8 +97,7 @@ one_more pieces p =
 pub frames_open-none : (t : Tuning) (samples : List Sample) (next : ℕ) →
     frames_before t samples next ≡ [] → frames_open t samples next ≡ 0
 unfolding frames_open
-frames_open-none t samples next none =
-    ap (λ frames. length (from_last_start (map piece frames))) none
+frames_open-none t samples next none = ap (λ frames. length (from_last_start (map piece frames))) none
 
 pub frames_open-more : (t : Tuning) (samples : List Sample) (next : ℕ) (frame : List Bool) →
     frames_before t samples (next + 1) ≡ frames_before t samples next ++ frame ∷ [] →

@@ -65,8 +65,7 @@ bodies_long (p ∷ pieces) h =
 -- A capsule that a frame ends is longer than the bits before that frame: it is as long as it
 -- states, and where that were no more it would have ended before.
 ends_late : (bits : List Bool) (before : ℕ) (capsule : List Bool) →
-    (if nat_le (stated_bits bits) before then None else front_capsule bits) ≡ Some capsule →
-    before < length capsule
+    (if nat_le (stated_bits bits) before then None else front_capsule bits) ≡ Some capsule → before < length capsule
 unfolding front_capsule
 ends_late bits before capsule e =
     let size : ℕ = stated_bits bits in
@@ -83,8 +82,7 @@ ends_late bits before capsule e =
 -- The frames of a message but its last carry fewer bits than the capsule that ends with it: each
 -- carries 31, and the capsule's last bit comes after all of them.
 frames_few : (t : Tuning) (samples : List Sample) (k : ℕ) (capsule : List Bool) →
-    sync_capsule_at t samples k ≡ Some capsule →
-    31 * (frames_open t samples (k + 1) - 1) < length capsule
+    sync_capsule_at t samples k ≡ Some capsule → 31 * (frames_open t samples (k + 1) - 1) < length capsule
 unfolding sync_capsule_at frames_open frames_before capsule_ending
 frames_few t samples k capsule e =
     let s = sync_stream t in
@@ -105,20 +103,17 @@ picked : (b : Bool) (x m : Mark) → first_of (if b then [] else x ∷ []) ≡ S
 picked true x m e = absurd (cc)
 picked false x m e = cc
 
-marks_told : (first : ℕ) (told : Option SpelledMessage) (m : Mark) →
-    first_of (marks_of first told) ≡ Some m →
+marks_told : (first : ℕ) (told : Option SpelledMessage) (m : Mark) → first_of (marks_of first told) ≡ Some m →
     (heard : SpelledMessage) × ((told ≡ Some heard) × (mark_at first heard ≡ m))
 marks_told first None m e = absurd (cc)
-marks_told first (Some heard) m e =
-    (heard, (refl, picked (heard.message.lc == 0) (mark_at first heard) m e))
+marks_told first (Some heard) m e = (heard, (refl, picked (heard.message.lc == 0) (mark_at first heard) m e))
 
 pn_fits : (m : SyncFields) → FieldsFit (fixed_fields m) → m.pn ≤ 511
 pn_fits m fits = let low : m.pn < 2 ^ 9 = fits.1.1.1.1.1.0 in omega (arith, low)
 
 -- a message has its capsule, and its pilot one of the numbers that a message can tell
 read_is : (form : CheckForm) (capsule : List Bool) (read : Option SyncFields) →
-    read ≡ sync_reading form capsule → (heard : SpelledMessage) →
-    with_message capsule read ≡ Some heard →
+    read ≡ sync_reading form capsule → (heard : SpelledMessage) → with_message capsule read ≡ Some heard →
     (Some capsule ≡ Some heard.capsule) × (heard.message.pn ≤ 511)
 read_is form capsule None is heard e = absurd (cc)
 read_is form capsule (Some message) is heard e =
@@ -136,8 +131,7 @@ told_is form (Some capsule) heard e = read_is form capsule _ refl heard e
 -- a capsule's frames are at most three for each of its superframes, and the time that it tells lies
 -- four superframes after these
 late_enough : (first frames bits pn known : ℕ) → 31 * (frames - 1) < bits →
-    known ≤ first + 32768 * frames + 32896 → pn ≤ 511 →
-    known < first + 98304 * ((bits + 92) / 93 + 4) - 64 * pn
+    known ≤ first + 32768 * frames + 32896 → pn ≤ 511 → known < first + 98304 * ((bits + 92) / 93 + 4) - 64 * pn
 late_enough first frames bits pn known few most low =
     let some : bits ≤ 93 * ((bits + 92) / 93) = omega arith in
     let three : frames ≤ 3 * ((bits + 92) / 93) = omega (arith, some, few) in
@@ -158,8 +152,7 @@ module _ (t : Tuning) (samples : List Sample) (k low : ℕ) (near : AreNear (syn
   -- A mark lies after the samples within which its message is known: it is set four superframes
   -- after the message's last one, less at most 511 times 64 chips for the pilot's offset, and the
   -- last frame is known little more than a frame after it ends.
-  pub mark_later : (m : Mark) → first_of (marks_at t samples k) ≡ Some m →
-      known_at t.count (sync_stream t) k < m.sample
+  pub mark_later : (m : Mark) → first_of (marks_at t samples k) ≡ Some m → known_at t.count (sync_stream t) k < m.sample
   unfolding marks_at heard_at
   mark_later m e =
       let s = sync_stream t in

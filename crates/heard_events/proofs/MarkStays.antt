@@ -29,8 +29,7 @@ first_of_two (y ∷ xs) ys x h one other = one h
 
 -- one of the pieces has it
 first_among : {A : Type 0} (f : ℕ → List A) (p : ℕ → Bool) (ks : List ℕ) (x : A) →
-    first_of (flat_map f (filter p ks)) ≡ Some x →
-    (k : ℕ) × ((p k ≡ true) × (first_of (f k) ≡ Some x))
+    first_of (flat_map f (filter p ks)) ≡ Some x → (k : ℕ) × ((p k ≡ true) × (first_of (f k) ≡ Some x))
 first_among f p [] x h = absurd (cc)
 first_among f p (k ∷ ks) x h =
     elim (cases_Bool (p k)) [
@@ -41,8 +40,7 @@ first_among f p (k ∷ ks) x h =
     ]
 
 -- THE MARK
-some_or : {A : Type 0} (one other : Option A) (x : A) → other ≡ Some x →
-    (y : A) × (option_or one other ≡ Some y)
+some_or : {A : Type 0} (one other : Option A) (x : A) → other ≡ Some x → (y : A) × (option_or one other ≡ Some y)
 some_or None other x h = (x, h)
 some_or (Some y) other x h = (y, refl)
 
@@ -68,8 +66,7 @@ module _ (t : Tuning) (low : ℕ) (timed : IsSyncTimed t low) where
       let (last, parts) = parted (sync_frames t) (sync_ordered t timed) n in
       elim (cases_lt last next) [
         | inl less ↦
-            mark_is t timed samples n next known
-            (λ k above inside. parts.1 k (omega (arith, less, above)) inside)
+            mark_is t timed samples n next known (λ k above inside. parts.1 k (omega (arith, less, above)) inside)
             ∙ h
         | inr more ↦
             let e : next + (last - next) ≡ last = omega (arith, more) in
@@ -82,13 +79,11 @@ module _ (t : Tuning) (low : ℕ) (timed : IsSyncTimed t low) where
       mark t samples n ≡ Some m → mark t samples n' ≡ Some m
   mark_stays samples n n' m more h =
       let (next, parts) = parted (sync_frames t) (sync_ordered t timed) n in
-      mark_told samples n' next m
-      (λ k below inside. let known = parts.0 k below inside in omega (arith, known, more))
+      mark_told samples n' next m (λ k below inside. let known = parts.0 k below inside in omega (arith, known, more))
       (sym (mark_is t timed samples n next parts.0 parts.1) ∙ h)
 
   -- the mark of the first samples is that of a file that goes on after them
-  pub mark_sooner : (xs ys : List Sample) (n : ℕ) → n ≤ length xs →
-      mark t (xs ++ ys) n ≡ mark t xs n
+  pub mark_sooner : (xs ys : List Sample) (n : ℕ) → n ≤ length xs → mark t (xs ++ ys) n ≡ mark t xs n
   unfolding mark
   mark_sooner xs ys n few =
       ap first_of
@@ -105,8 +100,7 @@ module _ (t : Tuning) (low : ℕ) (timed : IsSyncTimed t low) where
   unset samples n k m none inside known = λ sets.
       let before = mark_before t samples k in
       let (x, some) = some_or before (first_of (marks_at t samples k)) m sets in
-      let found = mark_told samples n (k + 1) x
-      (known_with (sync_frames t) (sync_ordered t timed) n k inside known)
+      let found = mark_told samples n (k + 1) x (known_with (sync_frames t) (sync_ordered t timed) n k inside known)
       (mark_before_more t samples k inside ∙ some) in
       let both : None ≡ Some x = sym none ∙ found in
       absurd (cc)
@@ -153,10 +147,8 @@ pub by_one_mark : {E : Type 0} (t : Tuning) → AreNear (sync_stream t).fingers 
 by_one_mark t near samples n n' at' heard more here opens =
     by_marks (mark t samples n) (mark t samples n') refl refl
   where
-    by_marks : (now later : Option Mark) → mark t samples n ≡ now → mark t samples n' ≡ later →
-        heard now ≡ heard later
-    by_marks (Some m) later e e' =
-        ap heard (sym (mark_stays t _ (timed_of t near) samples n n' m more e) ∙ e')
+    by_marks : (now later : Option Mark) → mark t samples n ≡ now → mark t samples n' ≡ later → heard now ≡ heard later
+    by_marks (Some m) later e e' = ap heard (sym (mark_stays t _ (timed_of t near) samples n n' m more e) ∙ e')
     by_marks None None e e' = refl
     by_marks None (Some m) e e' =
         let before = mark_after t _ (timed_of t near) near samples n n' m e e' in
@@ -174,8 +166,7 @@ reference_row : (row row' phase : ℕ) (deltas : List ℤ) →
 reference_row row row' phase [] = refl
 reference_row row row' phase (d ∷ deltas) = rw (reference_row row row' phase deltas) refl
 
-near_on : (t : Tuning) (row : ℕ) → AreNear (sync_stream t).fingers →
-    AreNear (fingers_of row t.phase t.deltas)
+near_on : (t : Tuning) (row : ℕ) → AreNear (sync_stream t).fingers → AreNear (fingers_of row t.phase t.deltas)
 near_on t row near =
     let fingers = (sync_stream t).fingers in
     let heard = fingers_of row t.phase t.deltas in
@@ -187,8 +178,7 @@ module _ (t : Tuning) (near : AreNear (sync_stream t).fingers) (channel : ℕ) w
   pub paging_near : (m : Mark) → AreNear (paging_stream t channel m).fingers
   paging_near m = near_on t channel near
 
-  pub paging_timed : (m : Mark) →
-      IsTimed t.count (paging_stream t channel m) (low_in (paging_stream t channel m))
+  pub paging_timed : (m : Mark) → IsTimed t.count (paging_stream t channel m) (low_in (paging_stream t channel m))
   paging_timed m = timed_in t.count (paging_stream t channel m) (paging_near m)
 
   -- No frame is known until 24,576 chips after the mark: the channel's frames start there or later,
@@ -203,8 +193,7 @@ module _ (t : Tuning) (near : AreNear (sync_stream t).fingers) (channel : ℕ) w
       omega (arith, least, ends)
 
   -- and so no message
-  pub pages_later : (samples : List Sample) (n : ℕ) (m : Mark) → n ≤ m.sample →
-      pages_at t channel m samples n ≡ []
+  pub pages_later : (samples : List Sample) (n : ℕ) (m : Mark) → n ≤ m.sample → pages_at t channel m samples n ≡ []
   pages_later samples n m before =
       pages_none t channel m samples n
       (λ k inside e. let later = paging_later m k inside in omega (arith, later, e, before))
@@ -233,20 +222,17 @@ module _ (t : Tuning) (near : AreNear (sync_stream t).fingers) (traffic : Traffi
   -- Before the first moment only the mark's pilot is active, and its paths are close: they are
   -- those of the reference on another Walsh row, which are near there as they are on the sync
   -- channel's.
-  first_close : (m : Mark) →
-      AreClose (all_fingers t.phase t.deltas (legs_of m (new_standing m.pilot traffic.row)))
+  first_close : (m : Mark) → AreClose (all_fingers t.phase t.deltas (legs_of m (new_standing m.pilot traffic.row)))
   first_close m =
       let fingers = fingers_of traffic.row t.phase t.deltas in
       let finger = pilot_finger m (get_or (new_standing m.pilot traffic.row).deltas m.pilot (pos 0))
       (record { pilot = m.pilot; row = traffic.row; subchannel = 0 }) in
-      subst AreClose
-      (sym (pilot_alone t.phase t.deltas (m.pilot == m.pilot) finger 0 (eq-eqb m.pilot m.pilot refl)))
+      subst AreClose (sym (pilot_alone t.phase t.deltas (m.pilot == m.pilot) finger 0 (eq-eqb m.pilot m.pilot refl)))
       (subst AreClose (sym (append-nil fingers)) (near_are_close fingers (near_on t traffic.row near)))
 
   -- no frame ends before the mark
   module _ (m : Mark) (samples : List Sample) (n : ℕ) (before : n ≤ m.sample) where
-    at_mark : legs_at t traffic m samples n
-        ≡ (λ k. legs_of m (new_standing m.pilot traffic.row))
+    at_mark : legs_at t traffic m samples n ≡ (λ k. legs_of m (new_standing m.pilot traffic.row))
     unfolding kept_to
     at_mark =
         let none : moments_before m n ≡ 0 = omega (arith, before) in
@@ -255,24 +241,21 @@ module _ (t : Tuning) (near : AreNear (sync_stream t).fingers) (traffic : Traffi
     traffic_later : (k : ℕ) → ¬ (frame_known t traffic m (legs_at t traffic m samples n) k ≡ n)
     traffic_later k = λ e.
         let same = ap (λ (legs : ℕ → List Leg). frame_known t traffic m legs k) at_mark in
-        let low = known_low t traffic m (λ i. legs_of m (new_standing m.pilot traffic.row))
-        (λ i. first_close m) k in
+        let low = known_low t traffic m (λ i. legs_of m (new_standing m.pilot traffic.row)) (λ i. first_close m) k in
         omega (arith, e, same, low, before)
 
     pub frames_later : frames_at t traffic m samples n ≡ []
     unfolding frames_by
     frames_later =
         ap (map (frame_heard t traffic m (legs_at t traffic m samples n) (take n samples) n))
-        (none_now (frames_of t traffic m (legs_at t traffic m samples n)) n
-        (λ k inside. traffic_later k))
+        (none_now (frames_of t traffic m (legs_at t traffic m samples n)) n (λ k inside. traffic_later k))
 
     -- nor does one complete a message
     pub messages_later : messages_at t traffic m samples n ≡ []
     unfolding messages_by
     messages_later =
         ap (flat_map (message_heard t traffic m (legs_at t traffic m samples n) (take n samples) n))
-        (none_now (frames_of t traffic m (legs_at t traffic m samples n)) n
-        (λ k inside. traffic_later k))
+        (none_now (frames_of t traffic m (legs_at t traffic m samples n)) n (λ k inside. traffic_later k))
 
     -- nor does a moment lie there
     sets_later : sets_at t traffic m samples n ≡ []

@@ -16,8 +16,7 @@ noted-append m (x ∷ xs) ys s = noted-append m xs ys (noted m x s)
 
 module _ (t : Tuning) (traffic : Traffic) (m : Mark) where
   -- moment by moment
-  pub kept_new : (samples : List Sample) (j i : ℕ) → j < i →
-      kept_to t traffic m samples (j + 1) i
+  pub kept_new : (samples : List Sample) (j i : ℕ) → j < i → kept_to t traffic m samples (j + 1) i
       ≡ passed m (take (moment_place m (j + 1)) samples) (j + 1)
       (heard_from t traffic m (kept_to t traffic m samples j)
       (take (moment_place m (j + 1)) samples) j 98304)

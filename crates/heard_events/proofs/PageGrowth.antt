@@ -18,26 +18,22 @@ page_frames t channel m = frames_in t.count (paging_stream t channel m) paging_b
 
 -- THE BITS OF THE FRAMES BEFORE ONE, OVER ANY STREAM
 -- with those of one frame more
-pub bits_before_more : (count : ℕ) (xs : List Sample) (s : Stream) (k : ℕ) →
-    is_in_file count s k ≡ true →
+pub bits_before_more : (count : ℕ) (xs : List Sample) (s : Stream) (k : ℕ) → is_in_file count s k ≡ true →
     paging_bits_before count xs s (k + 1) ≡ paging_bits_before count xs s k ++ frame_own_bits count xs s k
 unfolding paging_bits_before
-bits_before_more count xs s k inside =
-    given_more (is_in_file count s) (frame_own_bits count xs s) k inside
+bits_before_more count xs s k inside = given_more (is_in_file count s) (frame_own_bits count xs s) k inside
 
 pub bits_before_none : (count : ℕ) (xs : List Sample) (s : Stream) (low k : ℕ) →
     IsTimed count s low → k ≤ low → paging_bits_before count xs s k ≡ []
 unfolding paging_bits_before
-bits_before_none count xs s low k timed h =
-    ap (flat_map (frame_own_bits count xs s)) (none_inside s timed k h)
+bits_before_none count xs s low k timed h = ap (flat_map (frame_own_bits count xs s)) (none_inside s timed k h)
 
 -- they stay where more samples follow
 pub bits_before_sooner : {count low : ℕ} (s : Stream) → s.waits ≡ true → IsTimed count s low →
     StaysBefore (frames_in count s paging_bound) (λ xs. paging_bits_before count xs s)
 unfolding paging_bits_before
 bits_before_sooner {count} s waits timed =
-    stays_before (frames_in count s paging_bound) (λ xs. frame_own_bits count xs s)
-    (own_bits_sooner s waits timed)
+    stays_before (frames_in count s paging_bound) (λ xs. frame_own_bits count xs s) (own_bits_sooner s waits timed)
 
 -- THE BITS OF A FRAME
 module _ (t : Tuning) (channel : ℕ) (m : Mark) (heard : List Sample) (k i : ℕ) where
@@ -70,8 +66,7 @@ module _ (t : Tuning) (channel : ℕ) (m : Mark) where
   frames = page_frames t channel m
 
   -- where no frame is under way, all that the frames give
-  left_whole : (xs : List Sample) (next : ℕ) →
-      pages_left t channel m xs next 0
+  left_whole : (xs : List Sample) (next : ℕ) → pages_left t channel m xs next 0
       ≡ flat_map (λ k. pages_from t channel m xs k 0) (left (page_frames t channel m) next (length xs))
   unfolding pages_left
   left_whole xs next =
@@ -81,8 +76,7 @@ module _ (t : Tuning) (channel : ℕ) (m : Mark) where
       (λ k here. ap (pages_from t channel m xs k) (either_way (k == next) 0))
 
   -- and these go on with the samples
-  pub pages_go : (next : ℕ) (heard : List Sample) (end : ℕ) →
-      AreKnown (page_frames t channel m) next (length heard) →
+  pub pages_go : (next : ℕ) (heard : List Sample) (end : ℕ) → AreKnown (page_frames t channel m) next (length heard) →
       AreLater (page_frames t channel m) next end →
       GoesOn (pages_at t channel m) (λ xs. pages_left t channel m xs next 0) heard end
   unfolding pages_at
@@ -92,12 +86,10 @@ module _ (t : Tuning) (channel : ℕ) (m : Mark) where
       heard end before following) (λ xs n. refl) (λ xs. left_whole xs next)
 
   -- where no frame is known just now, there is no message
-  pub pages_none : (xs : List Sample) (n : ℕ) → NoneNow (page_frames t channel m) n →
-      pages_at t channel m xs n ≡ []
+  pub pages_none : (xs : List Sample) (n : ℕ) → NoneNow (page_frames t channel m) n → pages_at t channel m xs n ≡ []
   unfolding pages_at
   pages_none xs n none =
-      ap (flat_map (λ k. pages_from t channel m xs k 0))
-      (none_now frames n none)
+      ap (flat_map (λ k. pages_from t channel m xs k 0)) (none_now frames n none)
 
   module _ (low : ℕ) (timed : IsTimed t.count (paging_stream t channel m) low) where
     ordered : AreOrdered (page_frames t channel m)
@@ -117,8 +109,7 @@ module _ (t : Tuning) (channel : ℕ) (m : Mark) where
 
     -- The pages that a frame gives from one of its bits on stay as they are where more samples
     -- follow: the frame's own bits do, and so does what each of them completes.
-    pages_from_sooner : (from : ℕ) →
-        Stays (page_frames t channel m) (λ xs k. pages_from t channel m xs k from)
+    pages_from_sooner : (from : ℕ) → Stays (page_frames t channel m) (λ xs k. pages_from t channel m xs k from)
     unfolding pages_from
     pages_from_sooner from xs ys k inside known =
         let s = paging_stream t channel m in
@@ -133,25 +124,20 @@ module _ (t : Tuning) (channel : ℕ) (m : Mark) where
     pub pages_sooner : StaysWithin (pages_at t channel m)
     unfolding pages_at
     pages_sooner =
-        stays_now frames (λ xs n k. pages_from t channel m xs k 0)
-        (λ n. pages_from_sooner 0)
+        stays_now frames (λ xs n k. pages_from t channel m xs k 0) (λ n. pages_from_sooner 0)
 
     -- The messages of a frame that is known just now are the first of those left: it is the first
     -- frame left, they begin at the place asked for, and each later frame gives all of its own.
-    pub left_next : (heard : List Sample) (next place : ℕ) →
-        (page_frames t channel m).inside next ≡ true →
-        (page_frames t channel m).known next ≡ length heard →
-        pages_left t channel m heard next place
+    pub left_next : (heard : List Sample) (next place : ℕ) → (page_frames t channel m).inside next ≡ true →
+        (page_frames t channel m).known next ≡ length heard → pages_left t channel m heard next place
         ≡ pages_from t channel m heard next place ++ pages_left t channel m heard (next + 1) 0
     unfolding pages_left
     left_next heard next place inside known =
         let n : ℕ = length heard in
         let pages : ℕ → ℕ → List SpelledPage = pages_from t channel m heard in
         let f : ℕ → List SpelledPage = λ k. pages k (if k == next then place else 0) in
-        let here : f next ≡ pages next place =
-        ap (λ b. pages next (if b then place else 0)) (eq-eqb next next refl) in
-        let others = flat_map_ext_filter (is_left frames (next + 1) n) f (λ k. pages k 0)
-        (places (paging_bound n))
+        let here : f next ≡ pages next place = ap (λ b. pages next (if b then place else 0)) (eq-eqb next next refl) in
+        let others = flat_map_ext_filter (is_left frames (next + 1) n) f (λ k. pages k 0) (places (paging_bound n))
         (λ k kept.
         let above = leb-true (next + 1) k (and_parts (nat_le (next + 1) k) (is_now frames n k) kept).0 in
         ap (λ b. pages k (if b then place else 0)) (ne_eqb k next (λ e. omega (arith, e, above)))) in

@@ -25,8 +25,7 @@ frames_of t traffic m legs = record {
 
 -- what is heard of the channel when just n samples have been taken: frames first
 abbrev pub told_at : Tuning → Traffic → Mark → (ℕ → List Leg) → List Sample → ℕ → List Event
-told_at t traffic m legs samples n =
-    frames_by t traffic m legs samples n ++ messages_by t traffic m legs samples n
+told_at t traffic m legs samples n = frames_by t traffic m legs samples n ++ messages_by t traffic m legs samples n
 
 -- of what is left after a kept message
 abbrev pub told_left : Tuning → Traffic → Mark → (ℕ → List Leg) → List Sample → ℕ → List Event
@@ -58,8 +57,7 @@ module _ (t : Tuning) (traffic : Traffic) (m : Mark) (legs : ℕ → List Leg) w
   unfolding decoded_at
   decoded_sooner xs ys k inside known =
       ap (λ (values : List ℤ).
-      decoded (replaced_in traffic m k)
-      (unscrambled ((stream_of t traffic m legs k).scrambling k) values))
+      decoded (replaced_in traffic m k) (unscrambled ((stream_of t traffic m legs k).scrambling k) values))
       (softs_sooner xs ys (all_fingers t.phase t.deltas (legs k)) Data (traffic_start traffic m k)
       (fits (length xs) k inside known))
 
@@ -75,8 +73,7 @@ module _ (t : Tuning) (traffic : Traffic) (m : Mark) (legs : ℕ → List Leg) w
       (softs_sooner xs ys (all_fingers t.phase t.deltas (on_subchannel c (legs k))) Data u
       (on_all (Fits (length xs) Data u) t.phase t.deltas c (legs k) (fits (length xs) k inside known)))))
 
-  pub heard_sooner : (n : ℕ) →
-      Stays (frames_of t traffic m legs) (λ xs. frame_heard t traffic m legs xs n)
+  pub heard_sooner : (n : ℕ) → Stays (frames_of t traffic m legs) (λ xs. frame_heard t traffic m legs xs n)
   heard_sooner n xs ys k inside known =
       rw (decoded_sooner xs ys k inside known, power_bits_sooner xs ys k inside known) refl
 
@@ -84,12 +81,10 @@ module _ (t : Tuning) (traffic : Traffic) (m : Mark) (legs : ℕ → List Leg) w
   -- the signaling of one frame more
   pub signals_more : (xs : List Sample) (k : ℕ) → has_frame t traffic m legs k ≡ true →
       signals_before t traffic m legs xs (k + 1)
-      ≡ signals_before t traffic m legs xs k
-      ++ option_to_list (signal_at t traffic m legs xs k)
+      ≡ signals_before t traffic m legs xs k ++ option_to_list (signal_at t traffic m legs xs k)
   unfolding signals_before
   signals_more xs k inside =
-      given_more (has_frame t traffic m legs)
-      (λ j. option_to_list (signal_at t traffic m legs xs j)) k inside
+      given_more (has_frame t traffic m legs) (λ j. option_to_list (signal_at t traffic m legs xs j)) k inside
 
   -- what a frame that has ended completes stays where more samples follow
   pub signals_sooner : StaysBefore (frames_of t traffic m legs) (signals_before t traffic m legs)
@@ -99,8 +94,7 @@ module _ (t : Tuning) (traffic : Traffic) (m : Mark) (legs : ℕ → List Leg) w
       (λ xs ys k inside known.
       ap (λ (d : Decoded). option_to_list (signal_of d)) (decoded_sooner xs ys k inside known))
 
-  pub message_sooner : AreCloseAll t legs →
-      Stays (frames_of t traffic m legs) (signaling_message_at t traffic m legs)
+  pub message_sooner : AreCloseAll t legs → Stays (frames_of t traffic m legs) (signaling_message_at t traffic m legs)
   unfolding signaling_message_at signal_at
   message_sooner close xs ys k inside known =
       let before = stays_at frames (frames_follow close) (signals_before t traffic m legs)
@@ -120,21 +114,18 @@ module _ (t : Tuning) (traffic : Traffic) (m : Mark) (legs : ℕ → List Leg) w
   told_none xs n none = ap (told_of xs n) (none_now frames n none)
 
   pub told_left_none : (xs : List Sample) (next : ℕ) →
-      ((k : ℕ) → next ≤ k → length xs + 1 ≤ frame_known t traffic m legs k) →
-      told_left t traffic m legs xs next ≡ []
+      ((k : ℕ) → next ≤ k → length xs + 1 ≤ frame_known t traffic m legs k) → told_left t traffic m legs xs next ≡ []
   unfolding frames_left_of messages_left_of
   told_left_none xs next h =
       ap (told_of xs (length xs))
-      (none_left frames next (length xs)
-      (λ k above inside e. let later = h k above in omega (arith, later, e)))
+      (none_left frames next (length xs) (λ k above inside e. let later = h k above in omega (arith, later, e)))
 
   -- what is heard stays where more samples follow
   pub frames_sooner : StaysWithin (frames_by t traffic m legs)
   unfolding frames_by
   frames_sooner xs ys n h =
       map_ext_filter_places (ends_now t traffic m legs n)
-      (frame_heard t traffic m legs (xs ++ ys) n) (frame_heard t traffic m legs xs n)
-      (frames_bound n)
+      (frame_heard t traffic m legs (xs ++ ys) n) (frame_heard t traffic m legs xs n) (frames_bound n)
       (λ k below both.
       let parts = now_parts frames n k both in
       heard_sooner n xs ys k parts.0 (omega (arith, parts.1, h)))
@@ -142,8 +133,7 @@ module _ (t : Tuning) (traffic : Traffic) (m : Mark) (legs : ℕ → List Leg) w
   module _ (close : AreCloseAll t legs) where
     -- after the frame that ends just now no other does, so its event and its message are all
     pub told_next : (xs : List Sample) (next : ℕ) → has_frame t traffic m legs next ≡ true →
-        frame_known t traffic m legs next ≡ length xs →
-        told_left t traffic m legs xs next
+        frame_known t traffic m legs next ≡ length xs → told_left t traffic m legs xs next
         ≡ frame_heard t traffic m legs xs (length xs) next
         ∷ (message_heard t traffic m legs xs (length xs) next
         ++ told_left t traffic m legs xs (next + 1))
@@ -175,8 +165,7 @@ pub last_piece : {A : Type 0} (f g : ℕ → List A) (a d : ℕ) →
     flat_map g (places (a + d + 1)) ≡ flat_map f (places a) ++ g (a + d)
 last_piece f g a zero same none =
     let e : a + 0 ≡ a = omega arith in
-    rw e
-    (flat_map-places-more g a ∙ ap (λ (xs : List _). xs ++ g a) (flat_map_ext_places g f a same))
+    rw e (flat_map-places-more g a ∙ ap (λ (xs : List _). xs ++ g a) (flat_map_ext_places g f a same))
 last_piece f g a (suc d) same none =
     let e : a + suc d ≡ a + d + 1 = omega arith in
     let quiet : g (a + d) ≡ [] = none (a + d) (omega arith) (omega arith) in
@@ -189,8 +178,7 @@ last_piece f g a (suc d) same none =
 
 -- WHAT IS HEARD AFTER A MOMENT
 -- told_by is what is heard of both channels
-pub told_is : (t : Tuning) (traffic : Traffic) (m : Mark) (legs : ℕ → List Leg)
-    (samples : List Sample) (n : ℕ) →
+pub told_is : (t : Tuning) (traffic : Traffic) (m : Mark) (legs : ℕ → List Leg) (samples : List Sample) (n : ℕ) →
     told_by t traffic m legs samples n
     ≡ map (page_event n) (pages_if_marked t t.paging (Some m) (take n samples) n)
     ++ told_at t traffic m legs (take n samples) n
@@ -206,8 +194,7 @@ told_first t traffic m legs xs ys n h = rw (first_same xs ys n h) refl
 module _ (t : Tuning) (traffic : Traffic) (m : Mark) (kept : ℕ → Standing) (j : ℕ) where
   -- what is heard at each sample after it
   abbrev pub heard_at_next : List Sample → ℕ → List Event
-  heard_at_next samples i =
-      told_by t traffic m (legs_by traffic m kept) samples (moment_place m j + i + 1)
+  heard_at_next samples i = told_by t traffic m (legs_by traffic m kept) samples (moment_place m j + i + 1)
 
   -- the sets with what is heard over d more samples, if something is heard only with the last of
   -- them

@@ -38,8 +38,7 @@ followed_after t mark samples n =
 -- ALL CHANNELS
 -- All that are heard when just n samples have been taken: those of the sync channel come first.
 unfoldable pub events_at : Tuning → List Sample → ℕ → List Event
-events_at t samples n =
-    sync_events_at t samples n ++ followed_after t (mark t samples n) samples n
+events_at t samples n = sync_events_at t samples n ++ followed_after t (mark t samples n) samples n
 
 -- those that are heard within the first n samples, in order
 unfoldable pub heard_within : Tuning → List Sample → ℕ → List Event

@@ -22,5 +22,4 @@ pub record IsHeldFrom (ring : Held) (legs : List Leg) (phase : ℕ) (near : Near
   pub most : near.count ≤ 3
   pub close : legs_close legs ≡ true
   pub rows : legs_rows legs ≡ true
-  pub held : All (IsInRing ring Data start)
-      (all_fingers phase (take near.count near.deltas) legs)
+  pub held : All (IsInRing ring Data start) (all_fingers phase (take near.count near.deltas) legs)

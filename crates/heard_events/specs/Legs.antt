@@ -14,8 +14,7 @@ pilot_phase m pilot delta = modulo_code ((delta -ℤ pos (64 * pilot)) -ℤ pos 
 
 -- the finger of a pilot, on the path where it was measured last
 abbrev pub pilot_finger : Mark → ℤ → Active → Finger
-pilot_finger m delta a =
-    record { phase = pilot_phase m a.pilot delta; delta = delta; row = a.row }
+pilot_finger m delta a = record { phase = pilot_phase m a.pilot delta; delta = delta; row = a.row }
 
 abbrev pub leg_of : Mark → List ℤ → Active → Leg
 leg_of m deltas a = record {

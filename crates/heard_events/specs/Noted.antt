@@ -34,8 +34,7 @@ in_traffic_thresholds f = record {
 
 -- a paging message updates the sets if it comes from the reference's pilot
 abbrev pub page_noted : ℕ → PagingMessage → Standing → Standing
-page_noted pn (pages.System f) s =
-    if f.pn == pn then with_thresholds (system_thresholds f) s else s
+page_noted pn (pages.System f) s = if f.pn == pn then with_thresholds (system_thresholds f) s else s
 page_noted pn (pages.Neighbors f) s = if f.pn == pn then with_neighbors f.pns s else s
 page_noted pn message s = s
 

@@ -58,7 +58,6 @@ message_heard t traffic m legs samples n k =
     message_events n (signaling_message_at t traffic m legs samples k)
 
 -- those of the frames that end when just n samples have been taken
-unfoldable pub messages_by : Tuning → Traffic → Mark → (ℕ → List Leg) → List Sample → ℕ →
-    List Event
+unfoldable pub messages_by : Tuning → Traffic → Mark → (ℕ → List Leg) → List Sample → ℕ → List Event
 messages_by t traffic m legs samples n =
     flat_map (message_heard t traffic m legs samples n) (frames_now t traffic m legs n)

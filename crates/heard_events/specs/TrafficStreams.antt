@@ -39,8 +39,7 @@ replaced_in traffic m k = power_places (frame_state traffic m k) (traffic_mask t
 -- FRAME BY FRAME The frames depend on the active pilots, which may be others from frame to frame:
 -- `legs k` are those of frame k.
 abbrev pub stream_of : Tuning → Traffic → Mark → (ℕ → List Leg) → ℕ → Stream
-stream_of t traffic m legs k =
-    traffic_stream traffic m (all_fingers t.phase t.deltas (legs k))
+stream_of t traffic m legs k = traffic_stream traffic m (all_fingers t.phase t.deltas (legs k))
 
 -- whether frame k lies in the file, and the number of samples at which it is known, its own end
 abbrev pub has_frame : Tuning → Traffic → Mark → (ℕ → List Leg) → ℕ → Bool

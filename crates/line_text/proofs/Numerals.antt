@@ -22,8 +22,7 @@ read_on n (digit ∷ digits) = read_on (10 * n + (digit - 48)) digits
 pub own_numerals : IsNumeralModel (λ ds. all_ascii_digits ds ≡ true) (read_on 0)
 own_numerals = numerals_by_fold _ (search rules) read_on (search rules)
 
-digits_from-read : (n : ℕ) (ds : List ℕ) → all_ascii_digits ds ≡ true →
-    digits_from n ds ≡ Some (read_on n ds)
+digits_from-read : (n : ℕ) (ds : List ℕ) → all_ascii_digits ds ≡ true → digits_from n ds ≡ Some (read_on n ds)
 unfolding digits_from
 digits_from-read n [] are = refl
 digits_from-read n (digit ∷ digits) are =
@@ -56,12 +55,10 @@ IsPlain text = (0 < length text) × (get_or text 0 0 ≡ 48 → length text ≡ 
 
 plain_long : (text : List ℕ) (few : Bool) → cond few (not (get_or text 0 0 == 48)) false ≡ true →
     ¬ (get_or text 0 0 ≡ 48)
-plain_long text true test is =
-    false≢true (sym (not-true (get_or text 0 0 == 48) test) ∙ eq-eqb (get_or text 0 0) 48 is)
+plain_long text true test is = false≢true (sym (not-true (get_or text 0 0 == 48) test) ∙ eq-eqb (get_or text 0 0) 48 is)
 plain_long text false test is = false≢true test
 
-plain_told : (text : List ℕ) (short : Bool) → nat_lt (length text) 2 ≡ short →
-    is_plain text ≡ true → IsPlain text
+plain_told : (text : List ℕ) (short : Bool) → nat_lt (length text) 2 ≡ short → is_plain text ≡ true → IsPlain text
 plain_told text true short test =
     let one = eqb-true (length text) 1 (sym (cond-true _ _ _ short) ∙ test) in
     (omega (arith, one), λ _. one)
@@ -72,8 +69,7 @@ plain_told text false long test =
 
 first_other : (text : List ℕ) (zero : Bool) → (get_or text 0 0 == 48) ≡ zero →
     (get_or text 0 0 ≡ 48 → length text ≡ 1) → 2 ≤ length text → not (get_or text 0 0 == 48) ≡ true
-first_other text true is lead two =
-    absurd (omega (arith, lead (eqb-true (get_or text 0 0) 48 is), two))
+first_other text true is lead two = absurd (omega (arith, lead (eqb-true (get_or text 0 0) 48 is), two))
 first_other text false is lead two = ap not is
 
 plain_from : (text : List ℕ) (short : Bool) → nat_lt (length text) 2 ≡ short → IsPlain text →
@@ -153,8 +149,7 @@ one_numeral most n text small = (spelled most n text small, reads_back most n te
 -- ---- numbers with a sign
 
 -- a number of one of both signs, read from what stands after the sign
-signed_in-minus : (digits : List ℕ) →
-    signed_in (45 ∷ digits) ≡ option_and_then negative (number_up_to 32768 digits)
+signed_in-minus : (digits : List ℕ) → signed_in (45 ∷ digits) ≡ option_and_then negative (number_up_to 32768 digits)
 unfolding signed_in
 signed_in-minus digits = refl
 
@@ -163,8 +158,7 @@ signed_in-other : (text : List ℕ) → text_after (codes "-") text ≡ None →
 unfolding signed_in
 signed_in-other text none = ap (signed_after text) none
 
-following-other : (byte : ℕ) (bytes : List ℕ) → (byte == 45) ≡ false →
-    text_after (codes "-") (byte ∷ bytes) ≡ None
+following-other : (byte : ℕ) (bytes : List ℕ) → (byte == 45) ≡ false → text_after (codes "-") (byte ∷ bytes) ≡ None
 following-other byte bytes other = rw other refl
 
 abbrev Spells : List ℕ → ℤ → Type 0
@@ -187,8 +181,7 @@ negative_told digits z (Some (suc n)) is some =
     let read : ◌≡◌ {A = Option ℤ} (Some (negsuc n)) (Some z) = sym (negative-suc n) ∙ some in
     let same : negsuc n ≡ z = cc in
     let told = spelled 32768 (suc n) digits (omega arith) is in
-    subst (Spells (45 ∷ digits)) same
-    (ap (λ (ds : List ℕ). 45 ∷ ds) told.0, record { sfits = omega (arith, told.1) })
+    subst (Spells (45 ∷ digits)) same (ap (λ (ds : List ℕ). 45 ∷ ds) told.0, record { sfits = omega (arith, told.1) })
 negative_told digits z number is some = absurd (cc some)
 
 -- A text that is read as a signed number is the one that is printed for it: one that begins with a
@@ -201,15 +194,13 @@ signed_told byte bytes z true minus some =
     let some_minus : signed_in (45 ∷ bytes) ≡ Some z = ap (λ (b : ℕ). signed_in (b ∷ bytes)) is
     ∙ some in
     subst (λ (b : ℕ). Spells (b ∷ bytes) z) is
-    (negative_told bytes z (number_up_to 32768 bytes) refl
-    (sym (signed_in-minus bytes) ∙ some_minus))
+    (negative_told bytes z (number_up_to 32768 bytes) refl (sym (signed_in-minus bytes) ∙ some_minus))
 signed_told byte bytes z false other some =
     positive_told (byte ∷ bytes) z (number_up_to 32767 (byte ∷ bytes)) refl
     (sym (signed_in-other (byte ∷ bytes) (following-other byte bytes other)) ∙ some)
 
 signed_spelled : (text : List ℕ) (z : ℤ) → signed_in text ≡ Some z → Spells text z
-signed_spelled [] z some =
-    positive_told [] z (number_up_to 32767 []) refl (sym (signed_in-other [] refl) ∙ some)
+signed_spelled [] z some = positive_told [] z (number_up_to 32767 []) refl (sym (signed_in-other [] refl) ∙ some)
 signed_spelled (byte ∷ bytes) z some = signed_told byte bytes z (byte == 45) refl some
 
 no_minus_byte : (byte : ℕ) (bytes : List ℕ) (minus : Bool) → (byte == 45) ≡ minus →
@@ -228,8 +219,7 @@ signed_reads_back (pos n) text is =
     let small : n < 2 ^ 64 = omega (arith, is.1.sfits) in
     ap signed_in is.0
     ∙ signed_in-other (decimal n) (no_minus (decimal n) (digits_decimal own_numerals n small))
-    ∙ ap (option_and_then positive)
-    (reads_back 32767 n (decimal n) (omega arith) (refl, omega (arith, is.1.sfits)))
+    ∙ ap (option_and_then positive) (reads_back 32767 n (decimal n) (omega arith) (refl, omega (arith, is.1.sfits)))
 signed_reads_back (negsuc n) text is =
     ap signed_in is.0
     ∙ signed_in-minus (decimal (suc n))

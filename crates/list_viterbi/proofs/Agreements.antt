@@ -37,8 +37,7 @@ Same n columns columns' = (j : ℕ) → j < n → get_or columns' j [] ≡ get_o
 
 same_back : (n : ℕ) (columns columns' : List (List ℕ)) (t place : ℕ) → Same (suc n) columns columns' →
     back_of columns' n t place ≡ back_of columns n t place
-same_back n columns columns' t place h =
-    ap (λ (r : List ℕ). pointer_of (get_or r t 0) (place % 16)) (h n (omega arith))
+same_back n columns columns' t place h = ap (λ (r : List ℕ). pointer_of (get_or r t 0) (place % 16)) (h n (omega arith))
 
 same_path : (n : ℕ) (columns columns' : List (List ℕ)) (t place : ℕ) → Same n columns columns' →
     list_path columns' n t place ≡ list_path columns n t place
@@ -56,14 +55,12 @@ same_origin : (n : ℕ) (columns columns' : List (List ℕ)) (t place : ℕ) →
 unfolding list_origin
 same_origin zero columns columns' t place h = refl
 same_origin (suc n) columns columns' t place h =
-    ap (λ (b : ℕ). list_origin columns' n (2 * (t % 128) + b % 2) (b / 2))
-    (same_back n columns columns' t place h)
+    ap (λ (b : ℕ). list_origin columns' n (2 * (t % 128) + b % 2) (b / 2)) (same_back n columns columns' t place h)
     ∙ same_origin n columns columns' (list_state_before columns n t place) (place_before columns n t place)
     (λ j b. h j (omega (arith, b)))
 
 pub same_agrees : (n : ℕ) (columns columns' : List (List ℕ)) (t place : ℕ) (ss : List ℤ)
-    (es : List Entry) → Same n columns columns' → Agrees columns n t place ss es →
-    Agrees columns' n t place ss es
+    (es : List Entry) → Same n columns columns' → Agrees columns n t place ss es → Agrees columns' n t place ss es
 same_agrees n columns columns' t place [] [] same h = tt
 same_agrees n columns columns' t place [] (e ∷ es) same h = absurd h
 same_agrees n columns columns' t place (s ∷ ss) [] same h = absurd h
@@ -84,8 +81,7 @@ abbrev PickTraces : List (List ℕ) → ℕ → ℕ → Pick → Entry → Type 
 PickTraces columns n t p e =
     (p.score ≡ e.score)
     × ((list_path columns n (2 * (t % 128) + p.back % 2) (p.back / 2) ++ nat_le 128 t ∷ [] ≡ e.word.bits)
-    × (binary 8 e.word.start ≡ low_bits 8 (list_origin columns n (2 * (t % 128) + p.back % 2)
-    (p.back / 2))))
+    × (binary 8 e.word.start ≡ low_bits 8 (list_origin columns n (2 * (t % 128) + p.back % 2) (p.back / 2))))
 
 oldest_of : (place oldest : ℕ) → oldest < 2 → (2 * place + oldest) % 2 ≡ oldest
 oldest_of place oldest two = omega (arith, two)
@@ -95,8 +91,7 @@ place_of place oldest two = omega (arith, two)
 
 picks_pairs : (columns : List (List ℕ)) (n t oldest : ℕ) (gain : ℤ) (place : ℕ) (ss : List ℤ)
     (es : List Entry) → oldest < 2 → Agrees columns n (2 * (t % 128) + oldest) place ss es →
-    Pairs (PickTraces columns n t) (picks_from oldest gain place ss)
-    (map (entry_extended_by (nat_le 128 t) gain) es)
+    Pairs (PickTraces columns n t) (picks_from oldest gain place ss) (map (entry_extended_by (nat_le 128 t) gain) es)
 picks_pairs columns n t oldest gain place [] [] two h = tt
 picks_pairs columns n t oldest gain place [] (e ∷ es) two h = absurd h
 picks_pairs columns n t oldest gain place (s ∷ ss) [] two h = absurd h
@@ -113,24 +108,20 @@ picks_pairs columns n t oldest gain place (s ∷ ss) (e ∷ es) two h = (
 into_pairs : (columns : List (List ℕ)) (n k t : ℕ) (first second : ℤ) (scores : List (List ℤ))
     (column : List (List Entry)) → t < 256 →
     ((u : ℕ) → u < 256 → Agrees columns n u 0 (get_or scores u []) (get_or column u [])) →
-    Pairs (PickTraces columns n t) (picks_into scores first second k t)
-    (list_into column first second k t)
+    Pairs (PickTraces columns n t) (picks_into scores first second k t) (list_into column first second k t)
 unfolding picks_by list_into list_from
 into_pairs columns n k t first second scores column below each =
     let gains = code_gains first second t below in
     rw (gains.0, gains.1)
     (merge_pairs (PickTraces columns n t) pick_score entry_score (λ p e h. h.0) k _ _ _ _
     (picks_pairs columns n t 0 _ 0 (get_or scores (2 * (t % 128) + 0) [])
-    (get_or column (2 * (t % 128) + 0) []) (omega arith)
-    (each (2 * (t % 128) + 0) (omega arith)))
+    (get_or column (2 * (t % 128) + 0) []) (omega arith) (each (2 * (t % 128) + 0) (omega arith)))
     (picks_pairs columns n t 1 _ 0 (get_or scores (2 * (t % 128) + 1) [])
-    (get_or column (2 * (t % 128) + 1) []) (omega arith)
-    (each (2 * (t % 128) + 1) (omega arith))))
+    (get_or column (2 * (t % 128) + 1) []) (omega arith) (each (2 * (t % 128) + 1) (omega arith))))
 
 pairs_agree : (columns : List (List ℕ)) (n t place : ℕ) (ps : List Pick) (es : List Entry) →
     place + length ps ≤ 16 → HasChoices (get_or (get_or columns n []) t 0) place ps →
-    Pairs (PickTraces columns n t) ps es →
-    Agrees columns (suc n) t place (map pick_score ps) es
+    Pairs (PickTraces columns n t) ps es → Agrees columns (suc n) t place (map pick_score ps) es
 unfolding list_path list_origin
 pairs_agree columns n t place [] [] few chosen h = tt
 pairs_agree columns n t place [] (e ∷ es) few chosen h = absurd h

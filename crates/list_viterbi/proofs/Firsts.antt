@@ -12,12 +12,9 @@ better_trans score a b c p q =
 
 pub not_both : (score : Codeword → ℤ) (a b : Codeword) → IsBetter score a b → IsBetter score b a → ⊥
 not_both score a b p q = ⊎_elim
-    (λ less. ⊎_elim
-    (λ less'. omega (arith, ints, less, less'))
-    (λ tie'. let e = tie'.0 in omega (arith, ints, less, e))
+    (λ less. ⊎_elim (λ less'. omega (arith, ints, less, less')) (λ tie'. let e = tie'.0 in omega (arith, ints, less, e))
     q)
-    (λ tie. ⊎_elim
-    (λ less'. let e = tie.0 in omega (arith, ints, less', e))
+    (λ tie. ⊎_elim (λ less'. let e = tie.0 in omega (arith, ints, less', e))
     (λ tie'. let r = tie.1 in let r' = tie'.1 in omega (arith, r, r'))
     q)
     p
@@ -65,10 +62,8 @@ only score Kind (suc k) [] [] p q = refl
 only score Kind (suc k) [] (v ∷ vs) p q = absurd (p v q.0.kind)
 only score Kind (suc k) (w ∷ ws) [] p q = absurd (q w p.0.kind)
 only score Kind (suc k) (w ∷ ws) (v ∷ vs) p q =
-    let same : v ≡ w = ⊎_elim
-    (λ e. e)
-    (λ better. ⊎_elim (λ e. sym e) (λ better'. absurd (not_both score w v better better'))
-    (q.0.first w p.0.kind))
+    let same : v ≡ w = ⊎_elim (λ e. e)
+    (λ better. ⊎_elim (λ e. sym e) (λ better'. absurd (not_both score w v better better')) (q.0.first w p.0.kind))
     (p.0.first v q.0.kind) in
     let rest : Firsts score (After score w Kind) k vs =
     subst (λ (u : Codeword). Firsts score (After score u Kind) k vs) same q.1 in
@@ -94,8 +89,7 @@ pairs_head score w ws h = λ k d b. h 0 (suc k) d (omega arith) (omega (arith, b
 
 pairs_tail : (score : Codeword → ℤ) (w : Codeword) (ws : List Codeword) → AllPairs (IsBetter score) (w ∷ ws) →
     AllPairs (IsBetter score) ws
-pairs_tail score w ws h = λ i j d less b. h (suc i) (suc j) d (omega (arith, less))
-    (omega (arith, b))
+pairs_tail score w ws h = λ i j d less b. h (suc i) (suc j) d (omega (arith, less)) (omega (arith, b))
 
 pub are_first : (score : Codeword → ℤ) (Kind : Codeword → Type 0) (k : ℕ) (ws : List Codeword) →
     Firsts score Kind k ws → AreFirst score Kind k ws
@@ -122,12 +116,9 @@ are_first score Kind (suc k) (w ∷ ws) h =
       most = omega (arith, m);
       kind = All-cons Kind w ws h.0.kind (λ i d b. (t.kind i d b).0);
       order = AllPairs-cons (IsBetter score) w ws (λ i d b. (t.kind i d b).1) t.order;
-      rest = λ v is. ⊎_elim
-          (λ e. inl (subst (Contains (w ∷ ws)) (sym e) (contains_head w ws)))
-          (λ better. ⊎_elim
-          (λ c. inl (contains_more w v ws c))
-          (λ out. inr (ap suc out.0, All-cons (λ u. IsBetter score u v) w ws better out.1))
-          (t.rest v (is, better)))
+      rest = λ v is. ⊎_elim (λ e. inl (subst (Contains (w ∷ ws)) (sym e) (contains_head w ws)))
+          (λ better. ⊎_elim (λ c. inl (contains_more w v ws c))
+          (λ out. inr (ap suc out.0, All-cons (λ u. IsBetter score u v) w ws better out.1)) (t.rest v (is, better)))
           (h.0.first v is);
     }
 
@@ -166,5 +157,4 @@ firsts_of score Kind (suc k) (w ∷ ws) h =
 -- THE STATEMENT NAMES ONE LIST
 pub one_list : (score : Codeword → ℤ) (Kind : Codeword → Type 0) (k : ℕ) (ws vs : List Codeword) →
     AreFirst score Kind k ws → AreFirst score Kind k vs → ws ≡ vs
-one_list score Kind k ws vs p q = only score Kind k ws vs (firsts_of score Kind k ws p)
-    (firsts_of score Kind k vs q)
+one_list score Kind k ws vs p q = only score Kind k ws vs (firsts_of score Kind k ws p) (firsts_of score Kind k vs q)

@@ -20,8 +20,7 @@ finds_pairs : (columns : List (List ℕ)) (n t place : ℕ) (ss : List ℤ) (es 
 finds_pairs columns n t place [] [] h = tt
 finds_pairs columns n t place [] (e ∷ es) h = absurd h
 finds_pairs columns n t place (s ∷ ss) [] h = absurd h
-finds_pairs columns n t place (s ∷ ss) (e ∷ es) h =
-    (h.0, finds_pairs columns n t (suc place) ss es h.1)
+finds_pairs columns n t place (s ∷ ss) (e ∷ es) h = (h.0, finds_pairs columns n t (suc place) ss es h.1)
 
 ends_pairs : (columns : List (List ℕ)) (n k count : ℕ) (scores : List (List ℤ))
     (column : List (List Entry)) → count ≤ 256 →
@@ -32,16 +31,14 @@ ends_pairs columns n k zero scores column most each = tt
 ends_pairs columns n k (suc count) scores column most each =
     merge_pairs (FindTraces columns n) find_score entry_score (λ f e h. h.0) k _ _ _ _
     (ends_pairs columns n k count scores column (omega (arith, most)) each)
-    (finds_pairs columns n count 0 (get_or scores count []) (get_or column count [])
-    (each count (omega (arith, most))))
+    (finds_pairs columns n count 0 (get_or scores count []) (get_or column count []) (each count (omega (arith, most))))
 
 -- the same codeword and score
 abbrev SameCodeword : Entry → Entry → Type 0
 SameCodeword a b = (codeword_of a ≡ codeword_of b) × (a.score ≡ b.score)
 
 traced_pairs : (columns : List (List ℕ)) (n : ℕ) (finds : List Find) (es : List Entry) →
-    length columns ≡ n → Pairs (FindTraces columns n) finds es →
-    Pairs SameCodeword (map (entry_at columns) finds) es
+    length columns ≡ n → Pairs (FindTraces columns n) finds es → Pairs SameCodeword (map (entry_at columns) finds) es
 traced_pairs columns n [] [] long h = tt
 traced_pairs columns n [] (e ∷ es) long h = absurd h
 traced_pairs columns n (f ∷ fs) [] long h = absurd h
@@ -63,8 +60,7 @@ codewords_pairs (a ∷ xs) (b ∷ ys) h =
     ap (λ (w : Codeword). w ∷ map codeword_of xs) h.0.0
     ∙ ap (λ (ws : List Codeword). codeword_of b ∷ ws) (codewords_pairs xs ys h.1)
 
-scored_pairs : (softs : List ℤ) (xs ys : List Entry) → Pairs SameCodeword xs ys → Scored softs ys →
-    Scored softs xs
+scored_pairs : (softs : List ℤ) (xs ys : List Entry) → Pairs SameCodeword xs ys → Scored softs ys → Scored softs xs
 scored_pairs softs [] [] h scored = tt
 scored_pairs softs [] (b ∷ ys) h scored = absurd h
 scored_pairs softs (a ∷ xs) [] h scored = absurd h
@@ -91,8 +87,7 @@ found_codewords softs ends k n scores columns finds es eight long h finds_are es
     found softs ends k n h.column (first_lists h.column k (end_count ends)) eight h.listed refl
     in
     let pairs = ends_pairs columns n k (end_count ends) scores h.column (end_count_le ends) h.agree in
-    subst (Lists softs (IsAllowed ends n) k)
-    (sym (es_are ∙ ap (map (entry_at columns)) finds_are))
+    subst (Lists softs (IsAllowed ends n) k) (sym (es_are ∙ ap (map (entry_at columns)) finds_are))
     (lists_pairs softs (IsAllowed ends n) k _ (first_lists h.column k (end_count ends))
     (traced_pairs columns n (first_finds scores k (end_count ends)) _ long pairs) lists)
 
@@ -101,30 +96,24 @@ pub run_codewords : (softs : List ℤ) (ends : Ends) (k kept bit : ℕ) (scores 
     (columns held : List (List ℕ)) (finds : List Find) (es : List Entry) →
     bit ≡ length softs / 2 → 16 ≤ length softs → length softs / 2 ≤ 576 → length held ≡ 576 →
     held ≡ columns → Stands softs ends k bit scores columns → kept ≡ k →
-    finds ≡ first_finds scores kept (end_count ends) →
-    es ≡ map (entry_at (take (length softs / 2) held)) finds →
+    finds ≡ first_finds scores kept (end_count ends) → es ≡ map (entry_at (take (length softs / 2) held)) finds →
     Lists softs (IsAllowed ends (length softs / 2)) k es
 run_codewords softs ends k kept bit scores columns held finds es all least most whole same stands few
     finds_are es_are =
     let n = length softs / 2 in
-    let stood : Stands softs ends k bit scores held =
-    subst (Stands softs ends k bit scores) (sym same) stands in
+    let stood : Stands softs ends k bit scores held = subst (Stands softs ends k bit scores) (sym same) stands in
     found_codewords softs ends k n scores (take n held) finds es (omega (arith, least))
-    (length-take-le n held (omega (arith, most, whole)))
-    (first_columns softs ends k bit n scores held all stood)
+    (length-take-le n held (omega (arith, most, whole))) (first_columns softs ends k bit n scores held all stood)
     (finds_are ∙ ap (λ (j : ℕ). first_finds scores j (end_count ends)) few) es_are
 
 -- ONE WORD MORE OF A STATE'S LIST
-finds_append : (t place : ℕ) (ss : List ℤ) (s : ℤ) →
-    finds_from t place (ss ++ s ∷ [])
+finds_append : (t place : ℕ) (ss : List ℤ) (s : ℤ) → finds_from t place (ss ++ s ∷ [])
     ≡ finds_from t place ss ++ record { score = s; state = t; rank = place + length ss } ∷ []
-finds_append t place [] s =
-    ap (λ (p : ℕ). record { score = s; state = t; rank = p } ∷ []) (omega arith)
+finds_append t place [] s = ap (λ (p : ℕ). record { score = s; state = t; rank = p } ∷ []) (omega arith)
 finds_append t place (x ∷ xs) s =
     ap (λ (fs : List Find). record { score = x; state = t; rank = place } ∷ fs)
     (finds_append t (suc place) xs s
-    ∙ ap (λ (p : ℕ). finds_from t (suc place) xs ++ record { score = s; state = t; rank = p } ∷ [])
-    (omega arith))
+    ∙ ap (λ (p : ℕ). finds_from t (suc place) xs ++ record { score = s; state = t; rank = p } ∷ []) (omega arith))
 
 pub finds_more : (t : ℕ) (ss : List ℤ) (i : ℕ) (s : ℤ) (finds : List Find) → i < length ss →
     slice_get ss i ≡ Some s → finds ≡ finds_from t 0 (take i ss) →
@@ -136,8 +125,7 @@ finds_more t ss i s finds within read is =
     ∙ ap (λ (p : ℕ). finds_from t 0 (take i ss) ++ record { score = s; state = t; rank = p } ∷ [])
     place
     ∙ sym (finds_append t 0 (take i ss) s)
-    ∙ ap (λ (z : ℤ). finds_from t 0 (take i ss ++ z ∷ []))
-    (sym (get_or_from_slice_get ss i s s read))
+    ∙ ap (λ (z : ℤ). finds_from t 0 (take i ss ++ z ∷ [])) (sym (get_or_from_slice_get ss i s s read))
     ∙ ap (finds_from t 0) (sym (take_more ss i s within))
 
 finds_long : (t place : ℕ) (ss : List ℤ) → length (finds_from t place ss) ≡ length ss

@@ -4,8 +4,7 @@ use Rattle.list_viterbi.proofs.Common.{refl, sym, ap, subst, ◌∙◌, arith, �
 use Rattle.list_viterbi.proofs.Common.{pow_mono, two-pow-succ, bit_of, digit, low_bit, Pick, ones_below, pointer_of, HasChoices}
 
 -- THE NEW BIT
-low_same : (c m r : ℕ) (b : Bool) → c < 2 ^ m → r < m →
-    bit_of (digit b * 2 ^ m + c) r ≡ bit_of c r
+low_same : (c m r : ℕ) (b : Bool) → c < 2 ^ m → r < m → bit_of (digit b * 2 ^ m + c) r ≡ bit_of c r
 low_same c m r b small lt =
     sym (low_bit (digit b * 2 ^ m + c) m r lt)
     ∙ ap (λ (n : ℕ). bit_of n r) (mod-mul-add (digit b) (2 ^ m) c small)
@@ -15,17 +14,14 @@ of_digit true = refl
 of_digit false = refl
 
 top_bit : (c m : ℕ) (b : Bool) → c < 2 ^ m → bit_of (digit b * 2 ^ m + c) m ≡ b
-top_bit c m b small =
-    ap (λ (n : ℕ). nat_eq (n % 2) 1) (div-mul-add (digit b) (2 ^ m) c small) ∙ of_digit b
+top_bit c m b small = ap (λ (n : ℕ). nat_eq (n % 2) 1) (div-mul-add (digit b) (2 ^ m) c small) ∙ of_digit b
 
 pub grown : (c m : ℕ) (b : Bool) → c < 2 ^ m → digit b * 2 ^ m + c < 2 ^ (m + 1)
 grown c m true small =
-    let double : 2 ^ (m + 1) ≡ 2 ^ m + 2 ^ m =
-    ap (λ (n : ℕ). 2 ^ n) (omega arith) ∙ two-pow-succ m in
+    let double : 2 ^ (m + 1) ≡ 2 ^ m + 2 ^ m = ap (λ (n : ℕ). 2 ^ n) (omega arith) ∙ two-pow-succ m in
     omega (arith, double, small)
 grown c m false small =
-    let double : 2 ^ (m + 1) ≡ 2 ^ m + 2 ^ m =
-    ap (λ (n : ℕ). 2 ^ n) (omega arith) ∙ two-pow-succ m in
+    let double : 2 ^ (m + 1) ≡ 2 ^ m + 2 ^ m = ap (λ (n : ℕ). 2 ^ n) (omega arith) ∙ two-pow-succ m in
     omega (arith, double, small)
 
 -- 16 choices are a number of 16 bits
@@ -33,28 +29,22 @@ pub weight_most : (m : ℕ) → m ≤ 16 → 2 ^ m ≤ 65536
 weight_most m few = pow_mono few
 
 -- WHERE WORDS COME FROM
-ones_same : (c d n : ℕ) → ((r : ℕ) → r < n → bit_of d r ≡ bit_of c r) →
-    ones_below d n ≡ ones_below c n
+ones_same : (c d n : ℕ) → ((r : ℕ) → r < n → bit_of d r ≡ bit_of c r) → ones_below d n ≡ ones_below c n
 unfolding ones_below
 ones_same c d zero same = refl
 ones_same c d (suc n) same =
     ap (λ (k : ℕ). k + digit (bit_of d n)) (ones_same c d n (λ r b. same r (omega (arith, b))))
     ∙ ap (λ (b : Bool). ones_below c n + digit b) (same n (omega arith))
 
-pointer_same : (c d n : ℕ) → ((r : ℕ) → r < n + 1 → bit_of d r ≡ bit_of c r) →
-    pointer_of d n ≡ pointer_of c n
+pointer_same : (c d n : ℕ) → ((r : ℕ) → r < n + 1 → bit_of d r ≡ bit_of c r) → pointer_of d n ≡ pointer_of c n
 pointer_same c d n same =
-    ap (λ (k : ℕ). if bit_of d n then 2 * k + 1 else 2 * (n - k))
-    (ones_same c d n (λ r b. same r (omega (arith, b))))
-    ∙ ap (λ (b : Bool). if b then 2 * ones_below c n + 1 else 2 * (n - ones_below c n))
-    (same n (omega arith))
+    ap (λ (k : ℕ). if bit_of d n then 2 * k + 1 else 2 * (n - k)) (ones_same c d n (λ r b. same r (omega (arith, b))))
+    ∙ ap (λ (b : Bool). if b then 2 * ones_below c n + 1 else 2 * (n - ones_below c n)) (same n (omega arith))
 
 choices_push : (c d place : ℕ) (ps : List Pick) (p : Pick) →
     ((r : ℕ) → r < place + length ps → bit_of d r ≡ bit_of c r) →
-    pointer_of d (place + length ps) ≡ p.back → HasChoices c place ps →
-    HasChoices d place (ps ++ p ∷ [])
-choices_push c d place [] p same last h =
-    (ap (pointer_of d) (omega arith) ∙ last, tt)
+    pointer_of d (place + length ps) ≡ p.back → HasChoices c place ps → HasChoices d place (ps ++ p ∷ [])
+choices_push c d place [] p same last h = (ap (pointer_of d) (omega arith) ∙ last, tt)
 choices_push c d place (q ∷ ps) p same last h = (
   pointer_same c d place (λ r b. same r (omega (arith, b))) ∙ h.0,
   choices_push c d (suc place) ps p (λ r b. same r (omega (arith, b)))
@@ -79,8 +69,7 @@ chosen_more c new m b ps p long small is back h =
     ap (λ (t : Bool). pointer_by t (ones_below d m) m) (top_bit c m b small)
     ∙ ap (λ (k : ℕ). pointer_by b k m) (ones_same c d m same) ∙ sym back in
     subst (λ (n : ℕ). HasChoices n 0 (ps ++ p ∷ [])) (sym is)
-    (choices_push c d 0 ps p (λ r lt. same r (omega (arith, lt, place)))
-    (ap (pointer_of d) place ∙ pointer) h)
+    (choices_push c d 0 ps p (λ r lt. same r (omega (arith, lt, place))) (ap (pointer_of d) place ∙ pointer) h)
 
 pub ones_more : (c new m : ℕ) (b : Bool) → c < 2 ^ m → new ≡ digit b * 2 ^ m + c →
     ones_below new (m + 1) ≡ ones_below c m + digit b

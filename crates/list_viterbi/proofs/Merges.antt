@@ -44,8 +44,7 @@ takes_first softs One Two k x rest head scored others h =
           first =
               λ v e. ⊎_elim (head.first v) (λ t. inr (others v t)) e;
         },
-        same_firsts score (Either (After score a One) Two) (After score a (Either One Two)) k
-            (map codeword_of rest)
+        same_firsts score (Either (After score a One) Two) (After score a (Either One Two)) k (map codeword_of rest)
             (λ v e. ⊎_elim (λ o. (inl o.0, o.1)) (λ t. (inr t, others v t)) e)
             (λ v e. ⊎_elim (λ o. inl (o, e.1)) (λ t. inr t) e.0)
             h.0,
@@ -68,8 +67,7 @@ takes_second softs One Two k y rest head scored others h =
           first =
               λ v e. ⊎_elim (λ o. inr (others v o)) (head.first v) e;
         },
-        same_firsts score (Either One (After score b Two)) (After score b (Either One Two)) k
-            (map codeword_of rest)
+        same_firsts score (Either One (After score b Two)) (After score b (Either One Two)) k (map codeword_of rest)
             (λ v e. ⊎_elim (λ o. (inl o, others v o)) (λ t. (inr t.0, t.1)) e)
             (λ v e. ⊎_elim (λ o. inl o) (λ t. inr (t, e.1)) e.0)
             h.0,
@@ -78,8 +76,7 @@ takes_second softs One Two k y rest head scored others h =
     )
 
 takes : (softs : List ℤ) (One Two : Codeword → Type 0) (k : ℕ) (x y : Entry) (left right : List Entry)
-    (t : Bool) → int_lt x.score y.score ≡ t →
-    ComeBefore One Two →
+    (t : Bool) → int_lt x.score y.score ≡ t → ComeBefore One Two →
     IsHead (score_of softs) One (codeword_of x) → x.score ≡ score_of softs (codeword_of x) →
     IsHead (score_of softs) Two (codeword_of y) → y.score ≡ score_of softs (codeword_of y) →
     Lists softs (Either (After (score_of softs) (codeword_of x) One) Two) k left →
@@ -87,8 +84,7 @@ takes : (softs : List ℤ) (One Two : Codeword → Type 0) (k : ℕ) (x y : Entr
     Lists softs (Either One Two) (suc k) (if t then y ∷ right else x ∷ left)
 takes softs One Two k x y left right true e order p p_score q q_score l r =
     let score : Codeword → ℤ = score_of softs in
-    let more : score (codeword_of x) <ℤ score (codeword_of y) =
-    rw (← p_score, ← q_score) (tested x.score y.score e) in
+    let more : score (codeword_of x) <ℤ score (codeword_of y) = rw (← p_score, ← q_score) (tested x.score y.score e) in
     takes_second softs One Two k y right q q_score
     (λ v o. before_all score (codeword_of y) (codeword_of x) v (inl more) (p.first v o)) r
 takes softs One Two k x y left right false e order p p_score q q_score l r =
@@ -104,15 +100,13 @@ takes softs One Two k x y left right false e order p p_score q q_score l r =
 -- Codewords of the first kind come before those of the second where their scores are the same. So the
 -- merge of the first codewords of both kinds has the first codewords of either kind.
 pub merge_lists : (softs : List ℤ) (One Two : Codeword → Type 0) (k m n : ℕ) (xs ys : List Entry) →
-    k ≤ m → k ≤ n → ComeBefore One Two →
-    Lists softs One m xs → Lists softs Two n ys →
+    k ≤ m → k ≤ n → ComeBefore One Two → Lists softs One m xs → Lists softs Two n ys →
     Lists softs (Either One Two) k (merge entry_score k xs ys)
 unfolding merge
 merge_lists softs One Two zero m n xs ys km kn order p q = (tt, tt)
 merge_lists softs One Two (suc k) zero n xs ys km kn order p q = absurd (omega (arith, km))
 merge_lists softs One Two (suc k) (suc m) zero xs ys km kn order p q = absurd (omega (arith, kn))
-merge_lists softs One Two (suc k) (suc m) (suc n) [] [] km kn order p q =
-    (λ w e. ⊎_elim (p.0 w) (q.0 w) e, tt)
+merge_lists softs One Two (suc k) (suc m) (suc n) [] [] km kn order p q = (λ w e. ⊎_elim (p.0 w) (q.0 w) e, tt)
 merge_lists softs One Two (suc k) (suc m) (suc n) [] (y ∷ ys) km kn order p q =
     takes_second softs One Two k y (merge entry_score k [] ys) q.0.0 q.1.0 (λ v o. absurd (p.0 v o))
     (merge_lists softs One (After (score_of softs) (codeword_of y) Two) k (suc m) n [] ys
@@ -144,8 +138,7 @@ pushed_better score bit gain long a v ga gv la lv h =
 -- induction over the list: the bit adds the same to all of their scores and their lengths are
 -- equal, so their order stays.
 pub extended_lists : (softs : List ℤ) (Kind : Codeword → Type 0) (bit : Bool) (gain : ℤ) (long k : ℕ)
-    (es : List Entry) →
-    ((w : Codeword) → Kind w → score_of softs (pushed w bit) ≡ score_of softs w +ℤ gain) →
+    (es : List Entry) → ((w : Codeword) → Kind w → score_of softs (pushed w bit) ≡ score_of softs w +ℤ gain) →
     ((w : Codeword) → Kind w → length (w.start ++ w.bits) ≡ long) →
     Lists softs Kind k es → Lists softs (IsPushed Kind bit) k (map (entry_extended_by bit gain) es)
 extended_lists softs Kind bit gain long zero [] gains longs h = (tt, tt)
@@ -164,14 +157,11 @@ extended_lists softs Kind bit gain long (suc k) (e ∷ es) gains longs h =
       (
         record {
           kind = record { before = a; kind = head.kind; is = refl };
-          first = λ v p. ⊎_elim
-              (λ same. inl (p.is ∙ ap (λ (u : Codeword). pushed u bit) same))
-              (λ better. inr (subst (IsBetter score (pushed a bit)) (sym p.is)
-              (later p.before p.kind better)))
+          first = λ v p. ⊎_elim (λ same. inl (p.is ∙ ap (λ (u : Codeword). pushed u bit) same))
+              (λ better. inr (subst (IsBetter score (pushed a bit)) (sym p.is) (later p.before p.kind better)))
               (head.first p.before p.kind);
         },
-        same_firsts score (IsPushed (After score a Kind) bit)
-            (After score (pushed a bit) (IsPushed Kind bit)) k
+        same_firsts score (IsPushed (After score a Kind) bit) (After score (pushed a bit) (IsPushed Kind bit)) k
             (map codeword_of (map (entry_extended_by bit gain) es))
             (λ v p. (
               record { before = p.before; kind = p.kind.0; is = p.is },

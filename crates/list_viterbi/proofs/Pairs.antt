@@ -26,10 +26,8 @@ merge_pairs R f g same (suc k) (x ∷ xs) ys [] vs p q = absurd p
 merge_pairs R f g same (suc k) [] [] [] [] p q = tt
 merge_pairs R f g same (suc k) [] [] [] (v ∷ vs) p q = absurd q
 merge_pairs R f g same (suc k) [] (y ∷ ys) [] [] p q = absurd q
-merge_pairs R f g same (suc k) [] (y ∷ ys) [] (v ∷ vs) p q =
-    (q.0, merge_pairs R f g same k [] ys [] vs p q.1)
-merge_pairs R f g same (suc k) (x ∷ xs) [] (u ∷ us) [] p q =
-    (p.0, merge_pairs R f g same k xs [] us [] p.1 q)
+merge_pairs R f g same (suc k) [] (y ∷ ys) [] (v ∷ vs) p q = (q.0, merge_pairs R f g same k [] ys [] vs p q.1)
+merge_pairs R f g same (suc k) (x ∷ xs) [] (u ∷ us) [] p q = (p.0, merge_pairs R f g same k xs [] us [] p.1 q)
 merge_pairs R f g same (suc k) (x ∷ xs) [] (u ∷ us) (v ∷ vs) p q = absurd q
 merge_pairs R f g same (suc k) (x ∷ xs) (y ∷ ys) (u ∷ us) [] p q = absurd q
 merge_pairs {A} {B} R f g same (suc k) (x ∷ xs) (y ∷ ys) (u ∷ us) (v ∷ vs) p q =
@@ -40,12 +38,10 @@ merge_pairs {A} {B} R f g same (suc k) (x ∷ xs) (y ∷ ys) (u ∷ us) (v ∷ v
     let tests : int_lt (f x) (f y) ≡ int_lt (g u) (g v) =
     ap (λ (z : ℤ). int_lt z (f y)) (same x u p.0) ∙ ap (int_lt (g u)) (same y v q.0) in
     subst
-    (λ (t : Bool). Pairs R (if int_lt (f x) (f y) then y ∷ right else x ∷ left)
-    (if t then v ∷ right' else u ∷ left'))
+    (λ (t : Bool). Pairs R (if int_lt (f x) (f y) then y ∷ right else x ∷ left) (if t then v ∷ right' else u ∷ left'))
     tests
     (chosen R (int_lt (f x) (f y)) x y u v left right left' right' p.0 q.0
-    (merge_pairs R f g same k xs (y ∷ ys) us (v ∷ vs) p.1 q)
-    (merge_pairs R f g same k (x ∷ xs) ys (u ∷ us) vs p q.1))
+    (merge_pairs R f g same k xs (y ∷ ys) us (v ∷ vs) p.1 q) (merge_pairs R f g same k (x ∷ xs) ys (u ∷ us) vs p q.1))
 
 shorter : {A : Type 0} (t : Bool) (k : ℕ) (x y : A) (xs ys : List A) → length xs ≤ k →
     length ys ≤ k → length (if t then y ∷ ys else x ∷ xs) ≤ suc k

@@ -22,15 +22,13 @@ record Passes (score : Codeword → ℤ) (Kind : Codeword → Type 0) (test : Co
   first : (v : Codeword) → Kind v → test v ≡ true → (v ≡ w) ⊎ IsBetter score w v
 
 found_passes : (score : Codeword → ℤ) (Kind : Codeword → Type 0) (test : Codeword → Bool) (k : ℕ)
-    (ws : List Codeword) (w : Codeword) → Firsts score Kind k ws → find test ws ≡ Some w →
-    Passes score Kind test w
+    (ws : List Codeword) (w : Codeword) → Firsts score Kind k ws → find test ws ≡ Some w → Passes score Kind test w
 found_passes score Kind test k [] w h e = no_codeword w e
 found_passes score Kind test zero (x ∷ xs) w h e = absurd h
 found_passes score Kind test (suc k) (x ∷ xs) w h e =
     by_test (test x) refl e (found_passes score (After score x Kind) test k xs w h.1) where
       by_test : (t : Bool) → test x ≡ t → cond t (Some x) (find test xs) ≡ Some w →
-          (find test xs ≡ Some w → Passes score (After score x Kind) test w) →
-          Passes score Kind test w
+          (find test xs ≡ Some w → Passes score (After score x Kind) test w) → Passes score Kind test w
       by_test true is e rest =
           let same : x ≡ w = ap (some_or x) e in
           subst (Passes score Kind test) same (record {
@@ -75,10 +73,8 @@ best_first softs ends n k codewords best long some size h is =
           slice_get ws 0 ≡ Some best
       head zero ws some f = absurd (omega (arith, some))
       head (suc k) [] some f = absurd (f best allowed)
-      head (suc k) (w ∷ ws) some f = ⊎_elim
-          (λ same. ap (λ (v : Codeword). Some v) (sym same))
+      head (suc k) (w ∷ ws) some f = ⊎_elim (λ same. ap (λ (v : Codeword). Some v) (sym same))
           (λ better. absurd (not_both (score_of softs) w best better
           (is_best w f.0.kind
-          (λ e. not_self (score_of softs) best
-          (subst (λ (v : Codeword). IsBetter (score_of softs) v best) e better)))))
+          (λ e. not_self (score_of softs) best (subst (λ (v : Codeword). IsBetter (score_of softs) v best) e better)))))
           (f.0.first best allowed)

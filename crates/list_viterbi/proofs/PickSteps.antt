@@ -11,8 +11,7 @@ item_at column t oldest place item is within read =
     get_or_read column place item within read [] ∙ ap (λ (i : ℕ). get_or column i []) is
 
 -- there is room in a list of the column
-pub item_room : (column : List (List ℤ)) (gain : ℤ) (place : ℕ) (item : List ℤ) →
-    length column ≡ 256 → place < 256 →
+pub item_room : (column : List (List ℤ)) (gain : ℤ) (place : ℕ) (item : List ℤ) → length column ≡ 256 → place < 256 →
     ((t : ℕ) → t < 256 → All (LeavesScoreRoom gain) (get_or column t [])) →
     item ≡ get_or column place item → All (LeavesScoreRoom gain) item
 item_room column gain place item whole below room read =
@@ -29,8 +28,7 @@ turned_room gain turned ss is room = λ i d b.
 pub by_made : (column : List (List ℤ)) (gain turned : ℤ) (k t place : ℕ) (even odd : List ℤ)
     (scores : List ℤ) (choices : ℕ) → place ≡ 2 * (t % 128) → place + 1 < length column →
     even ≡ get_or column place even → odd ≡ get_or column (place + 1) odd → turned ≡ pos 0 -ℤ gain →
-    HasPicks scores choices
-    (merge pick_score k (picks_from 0 gain 0 even) (picks_from 1 turned 0 odd)) →
+    HasPicks scores choices (merge pick_score k (picks_from 0 gain 0 even) (picks_from 1 turned 0 odd)) →
     HasPicks scores choices (picks_by column gain k t)
 unfolding picks_by
 by_made column gain turned k t place even odd scores choices is within read read' turned_is h =
@@ -46,10 +44,8 @@ by_made column gain turned k t place even odd scores choices is within read read
     h
 
 -- a gain within the two soft values leaves the room that they leave
-pub gain_room : (f s gain : ℤ) (ss : List ℤ) →
-    unsigned_abs gain ≤ unsigned_abs f + unsigned_abs s →
-    All (λ x. unsigned_abs x + (unsigned_abs f + unsigned_abs s) ≤ 2 ^ 62) ss →
-    All (LeavesScoreRoom gain) ss
+pub gain_room : (f s gain : ℤ) (ss : List ℤ) → unsigned_abs gain ≤ unsigned_abs f + unsigned_abs s →
+    All (λ x. unsigned_abs x + (unsigned_abs f + unsigned_abs s) ≤ 2 ^ 62) ss → All (LeavesScoreRoom gain) ss
 gain_room f s gain ss size room = λ i d b. let here = room i d b in omega (arith, here, size)
 
 -- one state more
@@ -57,15 +53,12 @@ pub each_more : (column next : List (List ℤ)) (choices : List ℕ) (f s : ℤ)
     (scores : List ℤ) (chosen : ℕ) → state < length next → state < length choices →
     ((t : ℕ) → t < state →
     HasPicks (get_or next t []) (get_or choices t 0) (picks_into column f s k t)) →
-    HasPicks scores chosen (picks_into column f s k state) →
-    (t : ℕ) → t < state + 1 →
-    HasPicks (get_or (set next state scores) t []) (get_or (set choices state chosen) t 0)
-    (picks_into column f s k t)
+    HasPicks scores chosen (picks_into column f s k state) → (t : ℕ) → t < state + 1 →
+    HasPicks (get_or (set next state scores) t []) (get_or (set choices state chosen) t 0) (picks_into column f s k t)
 each_more column next choices f s k state scores chosen within within' before here t b =
     ⊎_elim
     (λ same. subst
-    (λ (u : ℕ). HasPicks (get_or (set next state scores) u [])
-    (get_or (set choices state chosen) u 0)
+    (λ (u : ℕ). HasPicks (get_or (set next state scores) u []) (get_or (set choices state chosen) u 0)
     (picks_into column f s k u))
     (sym same)
     (rw (

@@ -16,8 +16,7 @@ pub picks_long : (oldest : ℕ) (gain : ℤ) (place : ℕ) (ss : List ℤ) →
 picks_long oldest gain place [] = refl
 picks_long oldest gain place (s ∷ ss) = ap suc (picks_long oldest gain (suc place) ss)
 
-pub picks_read : (oldest : ℕ) (gain : ℤ) (place : ℕ) (ss : List ℤ) (i : ℕ) (s : ℤ) →
-    slice_get ss i ≡ Some s →
+pub picks_read : (oldest : ℕ) (gain : ℤ) (place : ℕ) (ss : List ℤ) (i : ℕ) (s : ℤ) → slice_get ss i ≡ Some s →
     slice_get (picks_from oldest gain place ss) i ≡ Some (pick_of oldest gain (place + i) s)
 picks_read oldest gain place [] i s read = absurd (grind (arith, read))
 picks_read oldest gain place (x ∷ xs) zero s read =
@@ -30,16 +29,13 @@ picks_read oldest gain place (x ∷ xs) (suc i) s read =
 
 -- which of two lists has the next pick
 pub odd_over : (i j : ℕ) (g h : ℤ) (even odd : List ℤ) → length odd ≤ j →
-    second_is_next pick_score (drop i (picks_from 0 g 0 even)) (drop j (picks_from 1 h 0 odd))
-    ≡ false
+    second_is_next pick_score (drop i (picks_from 0 g 0 even)) (drop j (picks_from 1 h 0 odd)) ≡ false
 odd_over i j g h even odd over =
     let long = picks_long 1 h 0 odd in
-    second_over pick_score (picks_from 0 g 0 even) (picks_from 1 h 0 odd) i j
-    (omega (arith, over, long))
+    second_over pick_score (picks_from 0 g 0 even) (picks_from 1 h 0 odd) i j (omega (arith, over, long))
 
 pub odd_only : (i j : ℕ) (g h : ℤ) (even odd : List ℤ) → length even ≤ i → j < length odd →
-    second_is_next pick_score (drop i (picks_from 0 g 0 even)) (drop j (picks_from 1 h 0 odd))
-    ≡ true
+    second_is_next pick_score (drop i (picks_from 0 g 0 even)) (drop j (picks_from 1 h 0 odd)) ≡ true
 odd_only i j g h even odd over within =
     let long = picks_long 0 g 0 even in
     let long' = picks_long 1 h 0 odd in
@@ -58,8 +54,7 @@ odd_by_sum i j g h even odd within within' =
     (picks_read 1 h 0 odd j (get_or odd j (pos 0)) (slice_get-get_or odd j (pos 0) within'))
 
 pub odd_has : (i j : ℕ) (g h : ℤ) (even odd : List ℤ) → j ≤ length odd →
-    second_is_next pick_score (drop i (picks_from 0 g 0 even)) (drop j (picks_from 1 h 0 odd))
-    ≡ true → j < length odd
+    second_is_next pick_score (drop i (picks_from 0 g 0 even)) (drop j (picks_from 1 h 0 odd)) ≡ true → j < length odd
 odd_has i j g h even odd most next =
     let long = picks_long 1 h 0 odd in
     let here = second_has pick_score (picks_from 0 g 0 even) (picks_from 1 h 0 odd) i j
@@ -91,8 +86,7 @@ picked_none k xs ys = record {
 
 pub picked_long : (k : ℕ) (xs ys : List Pick) (i j n : ℕ) (scores : List ℤ) (choices : ℕ)
     (p : IsPicked k xs ys i j n scores choices) → length p.taken ≡ length scores
-picked_long k xs ys i j n scores choices p =
-    sym (length-map p.taken pick_score) ∙ ap length (sym p.values)
+picked_long k xs ys i j n scores choices p = sym (length-map p.taken pick_score) ∙ ap length (sym p.values)
 
 -- With one pick more the scores and choices are again those of the picks taken: its score comes
 -- last, its bit is put on top of the choices, and the ones among them count the odd list's picks.
@@ -100,8 +94,7 @@ picked_more : (k : ℕ) (xs ys : List Pick) (i j n i' j' : ℕ) (scores : List �
     (value : ℤ) (b : Bool) (pick : Pick) (p : IsPicked k xs ys i j n scores choices) →
     IsPart pick_score k xs ys i' j' (n + 1) (p.taken ++ pick ∷ []) → value ≡ pick.score →
     new ≡ digit b * 2 ^ length p.taken + choices → pick.back ≡ pointer_by b j (length p.taken) →
-    i' + j' ≡ i + j + 1 → j' ≡ j + digit b →
-    IsPicked k xs ys i' j' (n + 1) (scores ++ value ∷ []) new
+    i' + j' ≡ i + j + 1 → j' ≡ j + digit b → IsPicked k xs ys i' j' (n + 1) (scores ++ value ∷ []) new
 picked_more k xs ys i j n i' j' scores choices new value b pick p part value_is is back both ones =
     let m = length p.taken in
     let before = p.both in
@@ -129,22 +122,19 @@ pub picked_odd : (k i j n : ℕ) (even odd : List ℤ) (g h : ℤ) (scores : Lis
     second_is_next pick_score (drop i (picks_from 0 g 0 even)) (drop j (picks_from 1 h 0 odd))
     ≡ true → value ≡ get_or odd j (pos 0) +ℤ h → new ≡ choices + weight →
     IsPicked k (picks_from 0 g 0 even) (picks_from 1 h 0 odd) i j n scores choices →
-    IsPicked k (picks_from 0 g 0 even) (picks_from 1 h 0 odd) i (j + 1) (n + 1)
-    (scores ++ value ∷ []) new
+    IsPicked k (picks_from 0 g 0 even) (picks_from 1 h 0 odd) i (j + 1) (n + 1) (scores ++ value ∷ []) new
 picked_odd k i j n even odd g h scores choices new weight value power within next value_is is p =
     let xs = picks_from 0 g 0 even in
     let ys = picks_from 1 h 0 odd in
     let s = get_or odd j (pos 0) in
     let pick = pick_of 1 h j s in
     let long = picks_long 1 h 0 odd in
-    let here : slice_get ys j ≡ Some pick = picks_read 1 h 0 odd j s
-    (slice_get-get_or odd j (pos 0) within)
+    let here : slice_get ys j ≡ Some pick = picks_read 1 h 0 odd j s (slice_get-get_or odd j (pos 0) within)
     ∙ ap (λ (m : ℕ). Some (pick_of 1 h m s)) (omega arith) in
     let size : 2 ^ length p.taken ≡ weight =
     ap (λ (m : ℕ). 2 ^ m) (picked_long k xs ys i j n scores choices p) ∙ sym power in
     picked_more k xs ys i j n i (j + 1) scores choices new value true pick p
-    (took_second pick_score k i j n xs ys p.taken pick
-    (omega (arith, within, long)) here next p.part)
+    (took_second pick_score k i j n xs ys p.taken pick (omega (arith, within, long)) here next p.part)
     value_is (omega (arith, is, size)) refl (omega arith) refl
 
 -- A pick from the even state's list is the next step of the merge: its score is the list's at place
@@ -154,8 +144,7 @@ pub picked_even : (k i j n : ℕ) (even odd : List ℤ) (g h : ℤ) (scores : Li
     second_is_next pick_score (drop i (picks_from 0 g 0 even)) (drop j (picks_from 1 h 0 odd))
     ≡ false → value ≡ get_or even i (pos 0) +ℤ g →
     IsPicked k (picks_from 0 g 0 even) (picks_from 1 h 0 odd) i j n scores choices →
-    IsPicked k (picks_from 0 g 0 even) (picks_from 1 h 0 odd) (i + 1) j (n + 1)
-    (scores ++ value ∷ []) choices
+    IsPicked k (picks_from 0 g 0 even) (picks_from 1 h 0 odd) (i + 1) j (n + 1) (scores ++ value ∷ []) choices
 picked_even k i j n even odd g h scores choices value within next value_is p =
     let xs = picks_from 0 g 0 even in
     let ys = picks_from 1 h 0 odd in
@@ -163,17 +152,14 @@ picked_even k i j n even odd g h scores choices value within next value_is p =
     let pick = pick_of 0 g i s in
     let long = picks_long 0 g 0 even in
     let both = p.both in
-    let here : slice_get xs i ≡ Some pick = picks_read 0 g 0 even i s
-    (slice_get-get_or even i (pos 0) within)
+    let here : slice_get xs i ≡ Some pick = picks_read 0 g 0 even i s (slice_get-get_or even i (pos 0) within)
     ∙ ap (λ (m : ℕ). Some (pick_of 0 g m s)) (omega arith) in
     picked_more k xs ys i j n (i + 1) j scores choices choices value false pick p
-    (took_first pick_score k i j n xs ys p.taken pick
-    (omega (arith, within, long)) here next p.part)
+    (took_first pick_score k i j n xs ys p.taken pick (omega (arith, within, long)) here next p.part)
     value_is (omega arith) (omega (arith, both)) (omega arith) (omega arith)
 
 pub picked_over : (k i j n : ℕ) (even : List ℤ) (g : ℤ) (ys : List Pick) (scores : List ℤ)
-    (choices : ℕ) → length even ≤ i →
-    second_is_next pick_score (drop i (picks_from 0 g 0 even)) (drop j ys) ≡ false →
+    (choices : ℕ) → length even ≤ i → second_is_next pick_score (drop i (picks_from 0 g 0 even)) (drop j ys) ≡ false →
     IsPicked k (picks_from 0 g 0 even) ys i j n scores choices →
     IsPicked k (picks_from 0 g 0 even) ys i j (n + 1) scores choices
 picked_over k i j n even g ys scores choices over next p =
@@ -192,14 +178,12 @@ picked_over k i j n even g ys scores choices over next p =
 -- Where both lists go on, the next pick is taken by the test of their sums: the odd list has it exactly
 -- where its sum is the greater one, so the step is the one for the odd list or for the even one.
 pub picked_next : (k i j n i' j' : ℕ) (even odd : List ℤ) (g h : ℤ) (scores : List ℤ)
-    (choices new weight : ℕ) (value : ℤ) (b : Bool) → weight ≡ 2 ^ length scores →
-    i < length even → j < length odd →
+    (choices new weight : ℕ) (value : ℤ) (b : Bool) → weight ≡ 2 ^ length scores → i < length even → j < length odd →
     b ≡ int_lt (get_or even i (pos 0) +ℤ g) (get_or odd j (pos 0) +ℤ h) →
     value ≡ taken_of b (get_or even i (pos 0) +ℤ g) (get_or odd j (pos 0) +ℤ h) →
     new ≡ choices + digit b * weight → i' + digit b ≡ i + 1 → j' ≡ j + digit b →
     IsPicked k (picks_from 0 g 0 even) (picks_from 1 h 0 odd) i j n scores choices →
-    IsPicked k (picks_from 0 g 0 even) (picks_from 1 h 0 odd) i' j' (n + 1)
-    (scores ++ value ∷ []) new
+    IsPicked k (picks_from 0 g 0 even) (picks_from 1 h 0 odd) i' j' (n + 1) (scores ++ value ∷ []) new
 picked_next k i j n i' j' even odd g h scores choices new weight value true power within within'
     b_is value_is is i_is j_is p =
     let same : i ≡ i' = omega (arith, i_is) in
@@ -226,5 +210,4 @@ picked_next k i j n i' j' even odd g h scores choices new weight value false pow
 pub picked_all : (k i j n : ℕ) (xs ys : List Pick) (scores : List ℤ) (choices : ℕ) → n ≡ k →
     IsPicked k xs ys i j n scores choices → HasPicks scores choices (merge pick_score k xs ys)
 picked_all k i j n xs ys scores choices all p =
-    subst (HasPicks scores choices) (all_taken pick_score k i j n xs ys p.taken all p.part)
-    (p.values, p.chosen)
+    subst (HasPicks scores choices) (all_taken pick_score k i j n xs ys p.taken all p.part) (p.values, p.chosen)

@@ -27,8 +27,7 @@ below_count n (p ∷ ps) = (if nat_lt p n then 1 else 0) + below_count n ps
 one_grows : (n p : ℕ) → (if nat_lt p n then 1 else 0) ≤ (if nat_lt p (suc n) then 1 else 0)
 one_grows n p = grind (arith, nat_tests)
 
-one_more : (n p : ℕ) → nat_eq n p ≡ true →
-    (if nat_lt p n then 1 else 0) + 1 ≤ (if nat_lt p (suc n) then 1 else 0)
+one_more : (n p : ℕ) → nat_eq n p ≡ true → (if nat_lt p n then 1 else 0) + 1 ≤ (if nat_lt p (suc n) then 1 else 0)
 one_more n p e = grind (arith, nat_tests, e)
 
 count_grows : (n : ℕ) (ps : List ℕ) → below_count n ps ≤ below_count (suc n) ps
@@ -36,8 +35,7 @@ count_grows n [] = omega arith
 count_grows n (p ∷ ps) = let one = one_grows n p in let rest = count_grows n ps in
     omega (arith, one, rest)
 
-count_more : (n : ℕ) (ps : List ℕ) → list_any (nat_eq n) ps ≡ true →
-    below_count n ps + 1 ≤ below_count (suc n) ps
+count_more : (n : ℕ) (ps : List ℕ) → list_any (nat_eq n) ps ≡ true → below_count n ps + 1 ≤ below_count (suc n) ps
 count_more n [] e = absurd (false≢true e)
 count_more n (p ∷ ps) e = by_test (nat_eq n p) refl (count_more n ps) where
   by_test : (t : Bool) → nat_eq n p ≡ t →
@@ -48,8 +46,7 @@ count_more n (p ∷ ps) e = by_test (nat_eq n p) refl (count_more n ps) where
   by_test false is rest = let one = one_grows n p in let more = rest (rw is at e) in
       omega (arith, one, more)
 
-count_all : (n : ℕ) (ps : List ℕ) → ((i : ℕ) → i < n → list_any (nat_eq i) ps ≡ true) →
-    n ≤ below_count n ps
+count_all : (n : ℕ) (ps : List ℕ) → ((i : ℕ) → i < n → list_any (nat_eq i) ps ≡ true) → n ≤ below_count n ps
 count_all zero ps all = omega arith
 count_all (suc n) ps all =
     let before = count_all n ps (λ i h. all i (omega (arith, h))) in
@@ -113,8 +110,7 @@ greatest_before : (taken : List ℕ) (f : ℕ → ℤ) (n b i : ℕ) → IsGreat
 greatest_before taken f n b i g within free other = ⊎_elim
     (λ same. absurd (let no : nat_eq i b ≡ true = grind (arith, nat_tests, same) in
     absurd (false≢true (sym other ∙ no))))
-    (⊎_elim
-    (λ lt. inl (g.first i lt free))
+    (⊎_elim (λ lt. inl (g.first i lt free))
     (λ gt. by_lt_z (f i) (f b) (λ less. inl less)
     (λ back. inr (
       let most = g.greatest i within free in let e : f i ≡ f b =
@@ -136,8 +132,7 @@ place_more f n k b ps few g h = record {
       (greatest_before ps f n b i g within parts.0 parts.1);
 }
 
-place_same : (f : ℕ → ℤ) (n k : ℕ) (ps : List ℕ) → n ≤ length ps → ArePlaces f n k ps →
-    ArePlaces f n (suc k) ps
+place_same : (f : ℕ → ℤ) (n k : ℕ) (ps : List ℕ) → n ≤ length ps → ArePlaces f n k ps → ArePlaces f n (suc k) ps
 place_same f n k ps full h = record {
   long = let long = h.long in omega (arith, long, full);
   below =
@@ -165,15 +160,13 @@ are_places f (suc k) n =
     (place_more f n k (greatest_unless before f n) before few
     (⊎_elim (λ none. absurd (some_free before n few none.0)) (λ is. is) (scanned before f n))
     h))
-    (λ full. rw (nat_lt-false (length before) n full) (place_same f n k before full h))
-    (cases_lt (length before) n)
+    (λ full. rw (nat_lt-false (length before) n full) (place_same f n k before full h)) (cases_lt (length before) n)
 
 -- FROM PLACES TO WORDS
 index_better : (softs : List ℤ) (ends : Ends) (n i j : ℕ) → i < codeword_count ends n →
     j < codeword_count ends n → IsBefore (λ r. score_of softs (codeword_at ends n r)) i j →
     IsBetter (score_of softs) (codeword_at ends n i) (codeword_at ends n j)
-index_better softs ends n i j p q h = ⊎_elim
-    (λ less. inl less)
+index_better softs ends n i j p q h = ⊎_elim (λ less. inl less)
     (λ tie. inr (
       tie.0,
       rw (rank-codeword_at ends n i p, rank-codeword_at ends n j q)
@@ -184,10 +177,8 @@ index_better softs ends n i j p q h = ⊎_elim
       grows Zero i j h = omega (arith, h)
       grows Free i j h = omega (arith, h)
 
-pairs_map : (g : ℕ → Codeword) (R : ℕ → ℕ → Type 0) (S : Codeword → Codeword → Type 0) (P : ℕ → Type 0)
-    (ps : List ℕ) →
-    ((i j : ℕ) → P i → P j → R i j → S (g i) (g j)) → All P ps → AllPairs R ps →
-    AllPairs S (map g ps)
+pairs_map : (g : ℕ → Codeword) (R : ℕ → ℕ → Type 0) (S : Codeword → Codeword → Type 0) (P : ℕ → Type 0) (ps : List ℕ) →
+    ((i j : ℕ) → P i → P j → R i j → S (g i) (g j)) → All P ps → AllPairs R ps → AllPairs S (map g ps)
 pairs_map g R S P [] to all h = λ i j d less b. absurd (omega (arith, b))
 pairs_map g R S P (p ∷ ps) to all h =
     AllPairs-cons S (g p) (map g ps)
@@ -254,8 +245,7 @@ first_codewords_first softs ends n k long =
     (codeword_count ends n))
 
 pub by_definition : (softs : List ℤ) (ends : Ends) (n k : ℕ) (codewords : List Codeword) → 8 ≤ n →
-    AreFirst (score_of softs) (IsAllowed ends n) k codewords →
-    codewords ≡ first_codewords k (score_of softs) ends n
+    AreFirst (score_of softs) (IsAllowed ends n) k codewords → codewords ≡ first_codewords k (score_of softs) ends n
 by_definition softs ends n k codewords long h = one_list (score_of softs) (IsAllowed ends n) k codewords
     (first_codewords k (score_of softs) ends n) h (first_codewords_first softs ends n k long)
 

@@ -16,8 +16,7 @@ each_of softs Kind k P [] f h = All-nil P
 each_of softs Kind zero P (e ∷ es) f h = absurd h.0
 each_of softs Kind (suc k) P (e ∷ es) f h =
     All-cons P e es (f e h.0.0.kind h.1.0)
-    (each_of softs (After (score_of softs) (codeword_of e) Kind) k P es (λ d p s. f d p.0 s)
-    (h.0.1, h.1.1))
+    (each_of softs (After (score_of softs) (codeword_of e) Kind) k P es (λ d p s. f d p.0 s) (h.0.1, h.1.1))
 
 has_room : (softs : List ℤ) (ends : Ends) (n : ℕ) (state : List Bool) (e : Entry) →
     2 * n + 2 ≤ length softs → sum_by unsigned_abs softs ≤ 2 ^ 62 → n ≤ 576 →
@@ -25,16 +24,13 @@ has_room : (softs : List ℤ) (ends : Ends) (n : ℕ) (state : List Bool) (e : E
     EntryHasRoom (get_or softs (2 * n) (pos 0)) (get_or softs (2 * n + 1) (pos 0)) e
 has_room softs ends n state e room bound few is scored =
     let size = score_size softs (codeword_of e) n is.bits_long in
-    let same : unsigned_abs e.score ≡ unsigned_abs (score_of softs (codeword_of e)) =
-    ap unsigned_abs scored in
+    let same : unsigned_abs e.score ≡ unsigned_abs (score_of softs (codeword_of e)) = ap unsigned_abs scored in
     let pair = pair_size softs n room in
     (omega (arith, size, same, pair, bound), omega (arith, is.bits_long, few))
 
 pub rooms : (softs : List ℤ) (ends : Ends) (k n : ℕ) (column : List (List Entry)) →
-    2 * n + 2 ≤ length softs → sum_by unsigned_abs softs ≤ 2 ^ 62 → n ≤ 576 →
-    Listed softs ends k n column →
-    (t : ℕ) → t < 256 →
-    All (EntryHasRoom (get_or softs (2 * n) (pos 0)) (get_or softs (2 * n + 1) (pos 0)))
+    2 * n + 2 ≤ length softs → sum_by unsigned_abs softs ≤ 2 ^ 62 → n ≤ 576 → Listed softs ends k n column →
+    (t : ℕ) → t < 256 → All (EntryHasRoom (get_or softs (2 * n) (pos 0)) (get_or softs (2 * n + 1) (pos 0)))
     (get_or column t [])
 rooms softs ends k n column room bound few listed t h =
     each_of softs (Into ends n (low_bits 8 t)) k

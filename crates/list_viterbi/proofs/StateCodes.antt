@@ -10,8 +10,7 @@ code_small t b =
 pub given_gain_size : (f s gain : ℤ) (c : ℕ) → gain ≡ gain_by f s c →
     unsigned_abs gain ≤ unsigned_abs f + unsigned_abs s
 given_gain_size f s gain c is =
-    subst (λ (z : ℤ). unsigned_abs z ≤ unsigned_abs f + unsigned_abs s) (sym is)
-    (gain_size f s c)
+    subst (λ (z : ℤ). unsigned_abs z ≤ unsigned_abs f + unsigned_abs s) (sym is) (gain_size f s c)
 
 -- it is the same of soft values that were handed on
 pub gain_passed : (f s gain : ℤ) (c : ℕ) → SFits w64 f → SFits w64 s →

@@ -17,8 +17,7 @@ Listed softs ends k n column = (t : ℕ) → t < 256 →
 -- the first codewords that come from a state before
 from_list : (softs : List ℤ) (ends : Ends) (k n : ℕ) (column : List (List Entry)) →
     2 * n + 2 ≤ length softs → Listed softs ends k n column → (t : ℕ) → t < 256 → (oldest : Bool) →
-    Lists softs (From ends n t oldest) k
-    (list_from column (first_soft softs n) (second_soft softs n) t (digit oldest))
+    Lists softs (From ends n t oldest) k (list_from column (first_soft softs n) (second_soft softs n) t (digit oldest))
 unfolding list_from
 from_list softs ends k n column room listed t below oldest =
     let place = 2 * (t % 128) + digit oldest in
@@ -31,8 +30,7 @@ from_list softs ends k n column room listed t below oldest =
 
 pub list_into_lists : (softs : List ℤ) (ends : Ends) (k n : ℕ) (column : List (List Entry)) →
     2 * n + 2 ≤ length softs → Listed softs ends k n column → (t : ℕ) → t < 256 →
-    Lists softs (Into ends (suc n) (low_bits 8 t)) k
-    (list_into column (first_soft softs n) (second_soft softs n) k t)
+    Lists softs (Into ends (suc n) (low_bits 8 t)) k (list_into column (first_soft softs n) (second_soft softs n) k t)
 unfolding list_into
 list_into_lists softs ends k n column room listed t below =
     rw (state_parts t below)
@@ -45,8 +43,7 @@ list_into_lists softs ends k n column room listed t below =
 -- BEFORE THE FIRST BIT
 pub start_lists : (softs : List ℤ) (ends : Ends) (k t : ℕ) (es : List Entry) → EntriesStart ends t es →
     Lists softs (Into ends 0 (low_bits 8 t)) (suc k) es
-start_lists softs ends k t [] h =
-    (λ w is. h (subst (HasStart ends) (no_bits ends (low_bits 8 t) w is).0 is.begins), tt)
+start_lists softs ends k t [] h = (λ w is. h (subst (HasStart ends) (no_bits ends (low_bits 8 t) w is).0 is.begins), tt)
 start_lists softs ends k t (e ∷ f ∷ es) h = absurd h
 start_lists softs ends k t (e ∷ []) h =
     let same : (w : Codeword) → Into ends 0 (low_bits 8 t) w → w ≡ codeword_of e = λ w is.
@@ -79,8 +76,7 @@ start_lists softs ends k t (e ∷ []) h =
 pub listed_start : (softs : List ℤ) (ends : Ends) (k : ℕ) (column : List (List Entry)) → 0 < k →
     ((t : ℕ) → t < 256 → EntriesStart ends t (get_or column t [])) → Listed softs ends k 0 column
 listed_start softs ends zero column some each t h = absurd (omega (arith, some))
-listed_start softs ends (suc k) column some each t h =
-    start_lists softs ends k t (get_or column t []) (each t h)
+listed_start softs ends (suc k) column some each t h = start_lists softs ends k t (get_or column t []) (each t h)
 
 -- AFTER THE LAST BIT
 none_below : (softs : List ℤ) (ends : Ends) (n k : ℕ) → Lists softs (IntoBelow ends n 0) k []
@@ -98,13 +94,11 @@ first_lists_lists softs ends k n column zero most listed = none_below softs ends
 first_lists_lists softs ends k n column (suc count) most listed =
     let before = first_lists_lists softs ends k n column count (omega (arith, most)) listed in
     let here = listed count (omega (arith, most)) in
-    same_lists softs _ (IntoBelow ends n (suc count)) k _ (more_below ends n count)
-    (below_or_last ends n count)
+    same_lists softs _ (IntoBelow ends n (suc count)) k _ (more_below ends n count) (below_or_last ends n count)
     (merge_lists softs (IntoBelow ends n count) (Into ends n (low_bits 8 count)) k k k _ _
     (omega arith) (omega arith) (below_first ends n count (omega (arith, most))) before here)
 
 pub ends_lists : (softs : List ℤ) (ends : Ends) (k n : ℕ) (es : List Entry) → 8 ≤ n →
     Lists softs (IntoBelow ends n (end_count ends)) k es → Lists softs (IsAllowed ends n) k es
 ends_lists softs ends k n es long h = same_lists softs (IntoBelow ends n (end_count ends))
-    (IsAllowed ends n) k es (λ w p. into_allowed ends n w long p)
-    (λ w p. allowed_into ends n w long p) h
+    (IsAllowed ends n) k es (λ w p. into_allowed ends n w long p) (λ w p. allowed_into ends n w long p) h

@@ -9,10 +9,8 @@ unfolding list_origin
 origin-back columns n j t place before rank size is rank_is = rw (size, is, rank_is) refl
 
 pub path-back : (columns : List (List ℕ)) (n j t place before rank : ℕ) (bits : List Bool) →
-    n ≡ suc j → j < length bits → before ≡ list_state_before columns j t place →
-    rank ≡ place_before columns j t place →
-    list_path columns j before rank ++ drop j (set bits j (nat_le 128 t))
-    ≡ list_path columns n t place ++ drop n bits
+    n ≡ suc j → j < length bits → before ≡ list_state_before columns j t place → rank ≡ place_before columns j t place →
+    list_path columns j before rank ++ drop j (set bits j (nat_le 128 t)) ≡ list_path columns n t place ++ drop n bits
 unfolding list_path
 path-back columns n j t place before rank bits size room is rank_is =
     let next : j + 1 ≡ suc j = omega arith in
@@ -33,8 +31,7 @@ origin-none columns t place = refl
 -- before the first step back
 pub all_left : (columns : List (List ℕ)) (n m t place : ℕ) (bits : List Bool) → m ≡ n →
     length bits ≤ n → list_path columns m t place ++ drop m bits ≡ list_path columns n t place
-all_left columns n m t place bits is few =
-    rw (is, drop_all n bits few) (append-nil (list_path columns n t place))
+all_left columns n m t place bits is few = rw (is, drop_all n bits few) (append-nil (list_path columns n t place))
 
 -- after the last
 pub origin_left : (columns : List (List ℕ)) (n t place : ℕ) → n ≡ 0 → t ≡ list_origin columns n t place

@@ -28,21 +28,18 @@ second_has f xs ys i j most next = by_length (length ys) refl where
   by_length n e = grind (arith, second_over f xs ys i j, most, next)
 
 head_second : {A : Type 0} (f : A → ℤ) (k : ℕ) (xs : List A) (y : A) (ys : List A) →
-    second_is_next f xs (y ∷ ys) ≡ true →
-    merge f (suc k) xs (y ∷ ys) ≡ y ∷ merge f k xs ys
+    second_is_next f xs (y ∷ ys) ≡ true → merge f (suc k) xs (y ∷ ys) ≡ y ∷ merge f k xs ys
 unfolding merge
 head_second f k [] y ys next = refl
 head_second f k (x ∷ xs) y ys next = rw next refl
 
-head_first : {A : Type 0} (f : A → ℤ) (k : ℕ) (x : A) (xs ys : List A) →
-    second_is_next f (x ∷ xs) ys ≡ false →
+head_first : {A : Type 0} (f : A → ℤ) (k : ℕ) (x : A) (xs ys : List A) → second_is_next f (x ∷ xs) ys ≡ false →
     merge f (suc k) (x ∷ xs) ys ≡ x ∷ merge f k xs ys
 unfolding merge
 head_first f k x xs [] next = refl
 head_first f k x xs (y ∷ ys) next = rw next refl
 
-head_none : {A : Type 0} (f : A → ℤ) (k : ℕ) (ys : List A) → second_is_next f [] ys ≡ false →
-    merge f k [] ys ≡ []
+head_none : {A : Type 0} (f : A → ℤ) (k : ℕ) (ys : List A) → second_is_next f [] ys ≡ false → merge f k [] ys ≡ []
 unfolding merge
 head_none f zero ys next = refl
 head_none f (suc k) [] next = refl
@@ -51,8 +48,7 @@ head_none f (suc k) (y ∷ ys) next = absurd (true≢false next)
 -- ONE MORE OF THE MERGE
 -- what was taken and what is left is the whole merge
 abbrev pub IsPart : {A : Type 0} → (A → ℤ) → ℕ → List A → List A → ℕ → ℕ → ℕ → List A → Type 0
-IsPart f k xs ys i j n taken =
-    (m : ℕ) → n + m ≡ k → taken ++ merge f m (drop i xs) (drop j ys) ≡ merge f k xs ys
+IsPart f k xs ys i j n taken = (m : ℕ) → n + m ≡ k → taken ++ merge f m (drop i xs) (drop j ys) ≡ merge f k xs ys
 
 one_more : {A : Type 0} (taken : List A) (e : A) (rest whole left : List A) →
     taken ++ whole ≡ left → whole ≡ e ∷ rest → (taken ++ e ∷ []) ++ rest ≡ left
@@ -60,8 +56,7 @@ one_more {A} taken e rest whole left h is =
     append_assoc taken (e ∷ []) rest ∙ ap (λ (r : List A). taken ++ r) (sym is) ∙ h
 
 pub took_second : {A : Type 0} (f : A → ℤ) (k i j n : ℕ) (xs ys taken : List A) (y : A) →
-    j < length ys → slice_get ys j ≡ Some y →
-    second_is_next f (drop i xs) (drop j ys) ≡ true →
+    j < length ys → slice_get ys j ≡ Some y → second_is_next f (drop i xs) (drop j ys) ≡ true →
     IsPart f k xs ys i j n taken → IsPart f k xs ys i (j + 1) (n + 1) (taken ++ y ∷ [])
 took_second f k i j n xs ys taken y within read next h = λ m e.
     let left = left_at ys j y within read in
@@ -73,8 +68,7 @@ took_second f k i j n xs ys taken y within read next h = λ m e.
     ∙ head_second f m (drop i xs) y (drop (j + 1) ys) next')
 
 pub took_first : {A : Type 0} (f : A → ℤ) (k i j n : ℕ) (xs ys taken : List A) (x : A) →
-    i < length xs → slice_get xs i ≡ Some x →
-    second_is_next f (drop i xs) (drop j ys) ≡ false →
+    i < length xs → slice_get xs i ≡ Some x → second_is_next f (drop i xs) (drop j ys) ≡ false →
     IsPart f k xs ys i j n taken → IsPart f k xs ys (i + 1) j (n + 1) (taken ++ x ∷ [])
 took_first {A} f k i j n xs ys taken x within read next h = λ m e.
     let left = left_at xs i x within read in
@@ -86,8 +80,7 @@ took_first {A} f k i j n xs ys taken x within read next h = λ m e.
     ∙ head_first f m x (drop (i + 1) xs) (drop j ys) next')
 
 pub took_none : {A : Type 0} (f : A → ℤ) (k i j n : ℕ) (xs ys taken : List A) → length xs ≤ i →
-    second_is_next f (drop i xs) (drop j ys) ≡ false →
-    IsPart f k xs ys i j n taken → IsPart f k xs ys i j (n + 1) taken
+    second_is_next f (drop i xs) (drop j ys) ≡ false → IsPart f k xs ys i j n taken → IsPart f k xs ys i j (n + 1) taken
 took_none {A} f k i j n xs ys taken over next h = λ m e.
     let none : drop i xs ≡ [] = drop_all i xs over in
     let next' : second_is_next f [] (drop j ys) ≡ false =
@@ -105,8 +98,7 @@ unfolding merge
 all_taken f k i j n xs ys taken all h = sym (append-nil taken) ∙ h 0 (omega (arith, all))
 
 pub map_more : {A B : Type 0} (f : A → B) (xs : List A) (longer : List B) (i : ℕ) (x : A) →
-    i < length xs → slice_get xs i ≡ Some x → longer ≡ map f (take i xs) →
-    longer ++ f x ∷ [] ≡ map f (take (i + 1) xs)
+    i < length xs → slice_get xs i ≡ Some x → longer ≡ map f (take i xs) → longer ++ f x ∷ [] ≡ map f (take (i + 1) xs)
 map_more {A} {B} f xs longer i x within read is =
     ap (λ (r : List B). r ++ f x ∷ []) is
     ∙ sym (map-append f (take i xs) (x ∷ []))

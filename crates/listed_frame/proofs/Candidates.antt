@@ -10,18 +10,15 @@ use Rattle.listed_frame.proofs.FirstCodewords.{best_first}
 -- the first of the listed codewords whose quality indicator is right, as a frame
 abbrev pub listed_candidate : FrameFormat Rate → List Entry → Option (DecodedFrame Rate)
 listed_candidate format entries =
-    option_map (λ e. frame_in format e.word.bits e.score)
-    (find (λ e. is_right format e.word.bits) entries)
+    option_map (λ e. frame_in format e.word.bits e.score) (find (λ e. is_right format e.word.bits) entries)
 
 one_more : (softs : List ℤ) (format : FrameFormat Rate) (e : Entry) (found : Option Entry)
     (right : Option Codeword) (passes : Bool) → e.score ≡ score_in softs format (codeword_of e) →
     option_map (λ f. frame_in format f.word.bits f.score) found
     ≡ option_map (λ w. frame_in format w.bits (score_in softs format w)) right →
     option_map (λ f. frame_in format f.word.bits f.score) (cond passes (Some e) found)
-    ≡ option_map (λ w. frame_in format w.bits (score_in softs format w))
-    (cond passes (Some (codeword_of e)) right)
-one_more softs format e found right true score rest =
-    ap (λ (z : ℤ). Some (frame_in format e.word.bits z)) score
+    ≡ option_map (λ w. frame_in format w.bits (score_in softs format w)) (cond passes (Some (codeword_of e)) right)
+one_more softs format e found right true score rest = ap (λ (z : ℤ). Some (frame_in format e.word.bits z)) score
 one_more softs format e found right false score rest = rest
 
 candidate_among : (softs : List ℤ) (format : FrameFormat Rate) (entries : List Entry) →

@@ -10,8 +10,7 @@ use Rattle.listed_frame.proofs.Candidates.{listed_candidate, candidate_is, best_
 -- ---- with one codeword
 -- where one codeword is listed it is the best
 one_listed : (softs : List ℤ) (rate : Rate) →
-    candidate_of softs (format_of rate) (codewords_in 1 softs (format_of rate))
-    ≡ candidate_in softs (format_of rate)
+    candidate_of softs (format_of rate) (codewords_in 1 softs (format_of rate)) ≡ candidate_in softs (format_of rate)
 one_listed softs rate =
     ap (λ (ws : List Codeword). candidate_of softs (format_of rate) ws) (one_codeword softs (format_of rate))
 
@@ -41,20 +40,17 @@ pub decoded_by : (k : ℕ) (replaced : List ℕ) (softs kept : List ℤ) (format
     (eighth quarter half full low mid all : Option (DecodedFrame Rate)) (f : DecodedFrame Rate)
     (own : ℤ) → 0 < k → kept ≡ unreplaced replaced softs → format ≡ format_of R9600 →
     map codeword_of entries ≡ codewords_in k kept format →
-    All (λ e. e.score ≡ score_in kept format (codeword_of e)) entries →
-    slice_get entries 0 ≡ Some first →
+    All (λ e. e.score ≡ score_in kept format (codeword_of e)) entries → slice_get entries 0 ≡ Some first →
     eighth ≡ listed_choice k kept R1200 → quarter ≡ listed_choice k kept R2400 →
     half ≡ listed_choice k kept R4800 → full ≡ listed_candidate format entries →
-    low ≡ preferred quarter eighth → mid ≡ preferred half low →
-    all ≡ preferred full mid → own ≡ first.score →
+    low ≡ preferred quarter eighth → mid ≡ preferred half low → all ≡ preferred full mid → own ≡ first.score →
     f ≡ good_or format first.word.bits own all → as_decoded f ≡ listed k replaced softs
 unfolding listed
 decoded_by k replaced softs kept format entries first eighth quarter half full low mid all f own
     some is at codewords scores top a b d e l m n o g =
     let choice : Rate → Option (DecodedFrame Rate) = listed_choice k kept in
     let first_codeword = codeword_in kept format in
-    let same : codeword_of first ≡ first_codeword =
-    best_bits k kept format entries first some codewords top in
+    let same : codeword_of first ≡ first_codeword = best_bits k kept format entries first some codewords top in
     let own_is : own ≡ score_in kept format first_codeword =
     o ∙ best_score kept format entries first scores top ∙ ap (score_in kept format) same in
     let found : full ≡ candidate_of kept format (codewords_in k kept format) =

@@ -22,15 +22,13 @@ unfolding greatest_unless
 greatest_unless-same taken f g zero h = refl
 greatest_unless-same taken f g (suc n) h =
     let b = greatest_unless taken g n in
-    let value : ℕ → ℤ → Option ℤ =
-    λ k z. if list_any (nat_eq k) taken then None else Some z in
+    let value : ℕ → ℤ → Option ℤ = λ k z. if list_any (nat_eq k) taken then None else Some z in
     ap (λ (k : ℕ). if is_less (value_unless taken f k) (value_unless taken f n) then n else k)
     (greatest_unless-same taken f g n h)
     ∙ ap (λ (z : ℤ). if is_less (value b z) (value_unless taken f n) then n else b) (h b)
     ∙ ap (λ (z : ℤ). if is_less (value_unless taken g b) (value n z) then n else b) (h n)
 
-first_places-same : (k : ℕ) (f g : ℕ → ℤ) (n : ℕ) → ((k : ℕ) → f k ≡ g k) →
-    first_places k f n ≡ first_places k g n
+first_places-same : (k : ℕ) (f g : ℕ → ℤ) (n : ℕ) → ((k : ℕ) → f k ≡ g k) → first_places k f n ≡ first_places k g n
 unfolding first_places
 first_places-same zero f g n h = refl
 first_places-same (suc k) f g n h =
@@ -45,8 +43,7 @@ first_places-same (suc k) f g n h =
 none_taken : (f : ℕ → ℤ) (n : ℕ) → greatest_unless [] f n ≡ first_greatest f n
 unfolding greatest_unless first_greatest
 none_taken f zero = refl
-none_taken f (suc n) =
-    ap (λ (k : ℕ). if is_less (Some (f k)) (Some (f n)) then n else k) (none_taken f n)
+none_taken f (suc n) = ap (λ (k : ℕ). if is_less (Some (f k)) (Some (f n)) then n else k) (none_taken f n)
 
 first_place : (f : ℕ → ℤ) (n : ℕ) → 0 < n → first_places 1 f n ≡ first_greatest f n ∷ []
 unfolding first_places
@@ -61,8 +58,7 @@ still_first true x p [] e = no_first x e
 still_first true x p (y ∷ ys) e = e
 
 -- and it is the first place of any number of them
-first_of_places : (k : ℕ) (f : ℕ → ℤ) (n : ℕ) → 0 < n →
-    take 1 (first_places (suc k) f n) ≡ first_greatest f n ∷ []
+first_of_places : (k : ℕ) (f : ℕ → ℤ) (n : ℕ) → 0 < n → take 1 (first_places (suc k) f n) ≡ first_greatest f n ∷ []
 unfolding first_places
 first_of_places zero f n some = ap (take 1) (first_place f n some)
 first_of_places (suc k) f n some =
@@ -71,8 +67,7 @@ first_of_places (suc k) f n some =
     (first_of_places k f n some)
 
 -- ---- the first codewords of a format
-first_codewords-same : (f g : Codeword → ℤ) (n k : ℕ) → 8 ≤ n →
-    ((w : Codeword) → length w.bits ≡ n → f w ≡ g w) →
+first_codewords-same : (f g : Codeword → ℤ) (n k : ℕ) → 8 ≤ n → ((w : Codeword) → length w.bits ≡ n → f w ≡ g w) →
     first_codewords k f Zero n ≡ first_codewords k g Zero n
 first_codewords-same f g n k least h =
     ap (map (codeword_at Zero n))
@@ -125,8 +120,7 @@ are_found k softs code format entries is first scores =
     let values = gathered_in format softs in
     let half : length values / 2 ≡ bits_in format = omega (arith, length-gathered_in format softs) in
     record {
-      first = subst
-          (λ (n : ℕ). AreFirst (score_of values) (IsAllowed Zero n) k (map codeword_of entries)) half
+      first = subst (λ (n : ℕ). AreFirst (score_of values) (IsAllowed Zero n) k (map codeword_of entries)) half
           (subst
           (λ (xs : List ℤ).
           AreFirst (score_of xs) (IsAllowed Zero (length xs / 2)) k (map codeword_of entries)) is first);
@@ -153,8 +147,7 @@ found_scores k softs format entries fills long h = λ i d b.
 
 -- and they are the format's first codewords
 pub found_codewords : (k : ℕ) (softs : List ℤ) (format : FrameFormat Rate) (entries : List Entry) → IsFormat format →
-    length softs ≡ 384 → AreFound k softs format entries →
-    map codeword_of entries ≡ codewords_in k softs format
+    length softs ≡ 384 → AreFound k softs format entries → map codeword_of entries ≡ codewords_in k softs format
 found_codewords k softs format entries fills long h =
     let n = bits_in format in
     let values = gathered_in format softs in

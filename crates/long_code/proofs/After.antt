@@ -23,8 +23,7 @@ long : (s n : ℕ) → length (times_x n below (binary 42 s)) ≡ 42
 long s n = length_times_x n below (binary 42 s) (state_length s) ∙ length-below
 
 pub binary-after : (s n : ℕ) → binary 42 (after s n) ≡ times_x n below (binary 42 s)
-binary-after s n =
-    rw (after_is s n) (rw (long s n) at (binary-number_from 0 (times_x n below (binary 42 s))))
+binary-after s n = rw (after_is s n) (rw (long s n) at (binary-number_from 0 (times_x n below (binary 42 s))))
 
 pub after_lt : (s n : ℕ) → after s n < 2 ^ 42
 after_lt s n = rw (after_is s n) (rw (long s n) at (number_lt (times_x n below (binary 42 s))))
@@ -38,13 +37,11 @@ after-after s m n =
 abbrev pub stepped : ℕ → ℕ
 stepped v = cond (bit_of v 41) (bit_xor (2 * v % 2 ^ 42) 45339313391) (2 * v % 2 ^ 42)
 
-stepped_lt : (b : Bool) (v : ℕ) →
-    cond b (bit_xor (2 * v % 2 ^ 42) 45339313391) (2 * v % 2 ^ 42) < 2 ^ 42
+stepped_lt : (b : Bool) (v : ℕ) → cond b (bit_xor (2 * v % 2 ^ 42) 45339313391) (2 * v % 2 ^ 42) < 2 ^ 42
 stepped_lt true v = xor_lt 42 (2 * v % 2 ^ 42) 45339313391 (omega arith) (omega arith)
 stepped_lt false v = omega arith
 
-by_lead : (b : Bool) (v : ℕ) →
-    binary 42 (cond b (bit_xor (2 * v % 2 ^ 42) 45339313391) (2 * v % 2 ^ 42)) ≡
+by_lead : (b : Bool) (v : ℕ) → binary 42 (cond b (bit_xor (2 * v % 2 ^ 42) 45339313391) (2 * v % 2 ^ 42)) ≡
     shifted below (b ∷ binary 41 v)
 by_lead true v =
     binary-xor 42 (2 * v % 2 ^ 42) 45339313391
@@ -71,8 +68,7 @@ odd_left v v' e left total odd is h =
     let parts : e + left / 2 * (e + e) ≡ (2 * (left / 2) + 1) * e = omega arith in
     rw is (after-after v e (left / 2 * (e + e)) ∙ ap (after v) (parts ∙ ap (λ n. n * e) whole) ∙ h)
 
-pub even_left : (v e left total : ℕ) → left % 2 ≡ 0 → after v (left * e) ≡ total →
-    after v (left / 2 * (e + e)) ≡ total
+pub even_left : (v e left total : ℕ) → left % 2 ≡ 0 → after v (left * e) ≡ total → after v (left / 2 * (e + e)) ≡ total
 even_left v e left total even h =
     let whole : 2 * (left / 2) ≡ left = omega (arith, even) in
     let parts : left / 2 * (e + e) ≡ 2 * (left / 2) * e = omega arith in

@@ -21,8 +21,7 @@ add_twice (x ∷ a) (y ∷ b) h = let head = xor_twice x y in
 reverse-cons : (x : Bool) (a : List Bool) → reverse (x ∷ a) ≡ reverse a ++ x ∷ []
 reverse-cons x a = reverse-append (x ∷ []) a
 
-reverse-add : (a b : List Bool) → length a ≡ length b →
-    reverse (add a b) ≡ add (reverse a) (reverse b)
+reverse-add : (a b : List Bool) → length a ≡ length b → reverse (add a b) ≡ add (reverse a) (reverse b)
 reverse-add [] [] h = refl
 reverse-add [] (y ∷ b) h = absurd (omega (arith, h))
 reverse-add (x ∷ a) [] h = absurd (omega (arith, h))
@@ -38,8 +37,7 @@ reverse-add (x ∷ a) (y ∷ b) h =
 
 -- One division by x, and a step after it. The polynomial is x^k, these coefficients, and 1.
 step_back : (front : List Bool) (lead : Bool) (rest : List Bool) → length rest ≡ length front →
-    shifted (front ++ true ∷ []) (reverse (shifted (reverse (true ∷ front)) (lead ∷ rest))) ≡
-    reverse (lead ∷ rest)
+    shifted (front ++ true ∷ []) (reverse (shifted (reverse (true ∷ front)) (lead ∷ rest))) ≡ reverse (lead ∷ rest)
 step_back front true rest h =
     let long : length (rest ++ false ∷ []) ≡ length (reverse (true ∷ front)) =
     length-append rest (false ∷ []) ∙ omega (arith, h, length-reverse (true ∷ front)) in
@@ -47,12 +45,10 @@ step_back front true rest h =
     let turned : reverse (shifted (reverse (true ∷ front)) (true ∷ rest)) ≡
     true ∷ add (reverse rest) front =
     reverse-add (rest ++ false ∷ []) (reverse (true ∷ front)) long
-    ∙ ap (λ (r : List Bool). add r (reverse (reverse (true ∷ front))))
-    (reverse-append rest (false ∷ []))
+    ∙ ap (λ (r : List Bool). add r (reverse (reverse (true ∷ front)))) (reverse-append rest (false ∷ []))
     ∙ ap (λ (r : List Bool). add (false ∷ reverse rest) r) (reverse-reverse (true ∷ front)) in
     ap (shifted (front ++ true ∷ [])) turned
-    ∙ zip_push xor (add (reverse rest) front) front false true
-    (length_add (reverse rest) front same ∙ same)
+    ∙ zip_push xor (add (reverse rest) front) front false true (length_add (reverse rest) front same ∙ same)
     ∙ ap (λ (r : List Bool). r ++ true ∷ []) (add_twice (reverse rest) front same)
     ∙ sym (reverse-cons true rest)
 step_back front false rest h =
@@ -69,8 +65,7 @@ steps_back (suc n) front (lead ∷ rest) h =
     let up = front ++ true ∷ [] in
     let down = reverse (true ∷ front) in
     let turn : length (lead ∷ rest) ≡ length down = h ∙ sym (length-reverse (true ∷ front)) in
-    let long : length (shifted down (lead ∷ rest)) ≡ suc (length front) =
-    length_shifted down (lead ∷ rest) turn ∙ h in
+    let long : length (shifted down (lead ∷ rest)) ≡ suc (length front) = length_shifted down (lead ∷ rest) turn ∙ h in
     sym (shifted-times_x n up (reverse (times_x n down (shifted down (lead ∷ rest)))))
     ∙ ap (shifted up) (steps_back n front (shifted down (lead ∷ rest)) long)
     ∙ step_back front lead rest (omega (arith, h))
@@ -103,8 +98,7 @@ long s = length-reverse (binary 42 s) ∙ length-binary 42 s
 pub before_is : (s n : ℕ) → before s n ≡ number (reverse (times_x n above (lowest_first s)))
 unfolding before
 before_is s n =
-    ap (λ (r : List Bool). number (reverse r))
-    (remainder-zeros n above (lowest_first s) (long s ∙ sym length-above))
+    ap (λ (r : List Bool). number (reverse r)) (remainder-zeros n above (lowest_first s) (long s ∙ sym length-above))
 
 long_before : (s n : ℕ) → length (reverse (times_x n above (lowest_first s))) ≡ 42
 long_before s n =
@@ -113,21 +107,18 @@ long_before s n =
 
 binary-before : (s n : ℕ) → binary 42 (before s n) ≡ reverse (times_x n above (lowest_first s))
 binary-before s n =
-    rw (before_is s n)
-    (rw (long_before s n) at (binary-number_from 0 (reverse (times_x n above (lowest_first s)))))
+    rw (before_is s n) (rw (long_before s n) at (binary-number_from 0 (reverse (times_x n above (lowest_first s)))))
 
 pub before_lt : (s n : ℕ) → before s n < 2 ^ 42
 before_lt s n =
-    rw (before_is s n)
-    (rw (long_before s n) at (number_lt (reverse (times_x n above (lowest_first s)))))
+    rw (before_is s n) (rw (long_before s n) at (number_lt (reverse (times_x n above (lowest_first s)))))
 
 -- n chips earlier, and then n chips later
 pub after-before : (s n : ℕ) → s < 2 ^ 42 → after (before s n) n ≡ s
 after-before s n h =
     let back : times_x n below (reverse (times_x n above (lowest_first s))) ≡ binary 42 s =
     ap (λ (b : List Bool). times_x n b (reverse (times_x n above (lowest_first s)))) below_is
-    ∙ ap (λ (a : List Bool). times_x n (front ++ true ∷ [])
-    (reverse (times_x n a (lowest_first s)))) above_is
+    ∙ ap (λ (a : List Bool). times_x n (front ++ true ∷ []) (reverse (times_x n a (lowest_first s)))) above_is
     ∙ steps_back n front (lowest_first s) (long s ∙ sym length-front)
     ∙ reverse-reverse (binary 42 s) in
     after_is (before s n) n ∙

@@ -6,16 +6,13 @@ use Rattle.long_code.proofs.Product.{after-xor}
 
 -- the products of each two bits, by the pairs
 abbrev pub products : List (List ℕ)
-products =
-    map (λ k. map (λ n. after (n * 2 ^ (2 * k)) 64) (range_with_len 0 4)) (range_with_len 0 21)
+products = map (λ k. map (λ n. after (n * 2 ^ (2 * k)) 64) (range_with_len 0 4)) (range_with_len 0 21)
 
-entry_is : (k n : ℕ) → k < 21 → n < 4 →
-    slice_index_or (slice_index_or products k []) n 0 ≡ after (n * 2 ^ (2 * k)) 64
+entry_is : (k n : ℕ) → k < 21 → n < 4 → slice_index_or (slice_index_or products k []) n 0 ≡ after (n * 2 ^ (2 * k)) 64
 entry_is k n h l =
     ap (λ (row : List ℕ). slice_index_or row n 0)
     (get_or-map-range_with_len
-    (λ (k : ℕ). map (λ (n : ℕ). after (n * 2 ^ (2 * k)) 64) (range_with_len 0 4)) 0 21 k k [] h
-    (omega arith))
+    (λ (k : ℕ). map (λ (n : ℕ). after (n * 2 ^ (2 * k)) 64) (range_with_len 0 4)) 0 21 k k [] h (omega arith))
     ∙ get_or-map-range_with_len (λ (n : ℕ). after (n * 2 ^ (2 * k)) 64) 0 4 n n 0 l (omega arith)
 
 -- the bits that are left
@@ -28,8 +25,7 @@ bits_left v k left is =
 -- place, and the product of the joined bits is the exclusive or of the parts' products.
 pub pair_more : (table : List (List ℕ)) (v k left sum : ℕ) → table ≡ products → k < 21 →
     left ≡ v / 2 ^ (2 * k) → sum ≡ after (v % 2 ^ (2 * k)) 64 →
-    bit_xor sum (slice_index_or (slice_index_or table k []) (bit_and left 3) 0)
-    ≡ after (v % 2 ^ (2 * (k + 1))) 64
+    bit_xor sum (slice_index_or (slice_index_or table k []) (bit_and left 3) 0) ≡ after (v % 2 ^ (2 * (k + 1))) 64
 pair_more table v k left sum all h is sum_is =
     let e = 2 * k in
     let low = v % 2 ^ e in
@@ -49,8 +45,7 @@ pair_more table v k left sum all h is sum_is =
     ∙ sym (after-xor (pair * 2 ^ e) low 64) ∙ ap (λ (s : ℕ). after s 64) parts
 
 -- all bits
-pub all_bits : (v k sum : ℕ) → v < 2 ^ 42 → k ≡ 21 → sum ≡ after (v % 2 ^ (2 * k)) 64 →
-    sum ≡ after v 64
+pub all_bits : (v k sum : ℕ) → v < 2 ^ 42 → k ≡ 21 → sum ≡ after (v % 2 ^ (2 * k)) 64 → sum ≡ after v 64
 all_bits v k sum h all is =
     let width : 2 * k ≡ 42 = omega (arith, all) in
     let whole : v % 2 ^ 42 ≡ v = omega (arith, h) in

@@ -12,8 +12,6 @@ chip_is state mask p q =
     ap (λ (s : ℕ). common_parity (binary 42 mask) (binary 42 s)) (sym (after_none state p))
 
 -- a chip of a later state is a later chip
-pub long_chip-after : (state mask m n : ℕ) →
-    long_chip (after state m) mask n ≡ long_chip state mask (m + n)
+pub long_chip-after : (state mask m n : ℕ) → long_chip (after state m) mask n ≡ long_chip state mask (m + n)
 unfolding long_chip
-long_chip-after state mask m n =
-    ap (λ (s : ℕ). common_parity (binary 42 mask) (binary 42 s)) (after-after state m n)
+long_chip-after state mask m n = ap (λ (s : ℕ). common_parity (binary 42 mask) (binary 42 s)) (after-after state m n)

@@ -11,8 +11,7 @@ number-push bs b = number_from-append 0 bs (b ∷ [])
 
 -- A field of w bits more multiplies the number by 2^w and adds the field's own number: by induction
 -- over w, since each last bit doubles the number before it and adds its digit.
-number-field : (bs : List Bool) (w n : ℕ) → n < 2 ^ w →
-    number (bs ++ binary w n) ≡ number bs * 2 ^ w + n
+number-field : (bs : List Bool) (w n : ℕ) → n < 2 ^ w → number (bs ++ binary w n) ≡ number bs * 2 ^ w + n
 unfolding binary
 number-field bs zero n h = number_from-append 0 bs [] ∙ omega (arith, h)
 number-field bs (suc w) n h =
@@ -42,8 +41,7 @@ pub paging_mask_is : (channel pilot : ℕ) → channel < 8 → pilot < 512 →
 unfolding paging_mask
 paging_mask_is channel pilot p q =
     rw (zeros 12, zeros 5)
-    (number-field ((((binary 13 0x18cd) ++ binary 5 0) ++ binary 3 channel) ++ binary 12 0) 9 pilot
-    (omega (arith, q))
+    (number-field ((((binary 13 0x18cd) ++ binary 5 0) ++ binary 3 channel) ++ binary 12 0) 9 pilot (omega (arith, q))
     ∙ rw (
       number-field (((binary 13 0x18cd) ++ binary 5 0) ++ binary 3 channel) 12 0 (omega arith),
       number-field ((binary 13 0x18cd) ++ binary 5 0) 3 channel (omega (arith, p)),
@@ -92,8 +90,7 @@ long esn i h =
 
 pub first_bits_lt : (esn i : ℕ) → i ≤ 32 → number (first_bits esn i) < 2 ^ 42
 first_bits_lt esn i h =
-    let most : 2 ^ length (first_bits esn i) ≤ 2 ^ 42 =
-    pow_mono {j = 42} (omega (arith, long esn i h, h)) in
+    let most : 2 ^ length (first_bits esn i) ≤ 2 ^ 42 = pow_mono {j = 42} (omega (arith, long esn i h, h)) in
     omega (arith, number_lt (first_bits esn i), most)
 
 -- One bit more of a private mask is its next bit in order: the mask so far is below 2^42, so
@@ -110,12 +107,9 @@ first_bits-more esn mask bit i h is read =
     let joined : bit_or (mask * 2 % 18446744073709551616) bit ≡ 2 * mask + bit =
     ap (λ (n : ℕ). bit_or n bit) whole ∙ or_shifted mask 1 bit (omega (arith, low)) ∙ omega arith in
     let spelled : first_bits esn (i + 1) ≡ first_bits esn i ++ bit_of esn place ∷ [] =
-    ap (λ (ps : List ℕ). binary 10 792 ++ map (bit_of esn) ps)
-    (take_more permuted i 0 (omega (arith, h)))
-    ∙ ap (λ (bs : List Bool). binary 10 792 ++ bs)
-    (map-append (bit_of esn) (take i permuted) (place ∷ []))
-    ∙ sym (append_assoc (binary 10 792) (map (bit_of esn) (take i permuted))
-    (bit_of esn place ∷ [])) in
+    ap (λ (ps : List ℕ). binary 10 792 ++ map (bit_of esn) ps) (take_more permuted i 0 (omega (arith, h)))
+    ∙ ap (λ (bs : List Bool). binary 10 792 ++ bs) (map-append (bit_of esn) (take i permuted) (place ∷ []))
+    ∙ sym (append_assoc (binary 10 792) (map (bit_of esn) (take i permuted)) (bit_of esn place ∷ [])) in
     let digit_is : digit (bit_of esn place) ≡ bit = digit_again (esn / 2 ^ place % 2) (omega arith) ∙
     sym low in
     joined ∙ ap (λ (n : ℕ). 2 * n + bit) is ∙

@@ -39,8 +39,7 @@ product_from_is chips u (bit ∷ bits) h =
     ap (λ (v : ℕ). product_from (after 1 chips) v bits) (one_more_is u chips bit small) ∙
     product_from_is chips (2 * u + digit bit) bits h
 
-product_is : (value power chips : ℕ) → value < 2 ^ 42 → power ≡ after 1 chips →
-    product value power ≡ after value chips
+product_is : (value power chips : ℕ) → value < 2 ^ 42 → power ≡ after 1 chips → product value power ≡ after value chips
 product_is value power chips h e =
     let whole : number_from 0 (binary 42 value) ≡ value = number-binary 42 value h in
     let small : number_from 0 (binary 42 value) < 2 ^ 42 = rw whole h in
@@ -98,8 +97,7 @@ returned s n h =
     after-after s n (period * n - n) ∙ ap (after s) count ∙ after-periods s n h
 
 pub after-injective : (s t n : ℕ) → s < 2 ^ 42 → t < 2 ^ 42 → after s n ≡ after t n → s ≡ t
-after-injective s t n p q e =
-    sym (returned s n p) ∙ ap (λ (v : ℕ). after v (period * n - n)) e ∙ returned t n q
+after-injective s t n p q e = sym (returned s n p) ∙ ap (λ (v : ℕ). after v (period * n - n)) e ∙ returned t n q
 
 positive : (n : ℕ) → ¬ (n ≡ 0) → 0 < n
 positive zero h = absurd (h refl)

@@ -41,8 +41,7 @@ after-zero (suc n) =
 
 pub one_more : (u : ℕ) → bit_xor (2 * u) 1 ≡ 2 * u + 1
 one_more u =
-    let block : bit_xor (u * 2 + 0) 1 ≡ bit_xor u 0 * 2 + 1 =
-    xor_block 1 u 0 0 1 (omega arith) (omega arith) in
+    let block : bit_xor (u * 2 + 0) 1 ≡ bit_xor u 0 * 2 + 1 = xor_block 1 u 0 0 1 (omega arith) (omega arith) in
     let left : u * 2 + 0 ≡ 2 * u = omega arith in
     let zero_added : bit_xor u 0 ≡ u = xor_zero_r u in
     let sum : u * 2 + 1 ≡ 2 * u + 1 = omega arith in
@@ -73,8 +72,7 @@ digits_more value place h =
 -- the value's digits so far, and the bit, which is the next digit, adds the product of 1.
 pub product_more : (value place chips sum : ℕ) (bit : Bool) → 0 < place → value < 2 ^ 42 →
     sum ≡ after (value / 2 ^ place) chips → bit ≡ nat_eq (bit_and (value / 2 ^ (place - 1)) 1) 1 →
-    cond bit (bit_xor (after sum 1) (after 1 chips)) (after sum 1) ≡
-    after (value / 2 ^ (place - 1)) chips
+    cond bit (bit_xor (after sum 1) (after 1 chips)) (after sum 1) ≡ after (value / 2 ^ (place - 1)) chips
 product_more value place chips sum bit h small is read =
     let next = value / 2 ^ (place - 1) in
     let half : next / 2 ≡ value / 2 ^ place = digits_more value place h in

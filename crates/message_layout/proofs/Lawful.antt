@@ -10,11 +10,7 @@ widths_from most [] small h = tt
 widths_from most (w ∷ ws) small h =
     let one = and_parts (nat_le 1 w) (nat_le w most && are_widths most ws) h in
     let two = and_parts (nat_le w most) (are_widths most ws) one.1 in
-    let top = leb-true w most two.0 in (
-      leb-true 1 w one.0,
-      omega (arith, top, small),
-      widths_from most ws small two.1,
-    )
+    let top = leb-true w most two.0 in (leb-true 1 w one.0, omega (arith, top, small), widths_from most ws small two.1)
 
 narrow_from : (ws : List ℕ) → are_widths 32 ws ≡ true → AreNarrow ws
 narrow_from [] h = tt
@@ -75,16 +71,14 @@ lawful s h =
 
 -- so its tables are short
 pub fixed_few : (layout : MessageLayout) → is_lawful (shape layout) ≡ true → length layout.fixed.now ≤ 48
-fixed_few layout h =
-    omega (arith, (lawful (shape layout) h).fixed_room, length-map layout.fixed.now (λ row. row.1))
+fixed_few layout h = omega (arith, (lawful (shape layout) h).fixed_room, length-map layout.fixed.now (λ row. row.1))
 
 pub group_few : (layout : MessageLayout) → is_lawful (shape layout) ≡ true → length layout.group.fields.now ≤ 48
 group_few layout h =
     omega (arith, (lawful (shape layout) h).group_room, length-map layout.group.fields.now (λ row. row.1))
 
 pub records_few : (layout : MessageLayout) → is_lawful (shape layout) ≡ true → length layout.records.fields.now ≤ 3
-records_few layout h =
-    omega (arith, (lawful (shape layout) h).few, length-map layout.records.fields.now (λ row. row.1))
+records_few layout h = omega (arith, (lawful (shape layout) h).few, length-map layout.records.fields.now (λ row. row.1))
 
 -- as many records as fit leave a rest that is shorter than one
 pub counted : (ws : List ℕ) (n : ℕ) (most : Option ℕ) (rest : List Bool) (all : ℕ) →
@@ -102,8 +96,7 @@ count_room [] all = omega arith
 count_room (w ∷ ws) all = div-mul-le_self all (total_width (w ∷ ws))
 
 -- fewer bits hold no more records
-pub count_below : (ws : List ℕ) (few all : ℕ) → AreWidths ws → few ≤ all →
-    count_in ws few ≤ count_in ws all
+pub count_below : (ws : List ℕ) (few all : ℕ) → AreWidths ws → few ≤ all → count_in ws few ≤ count_in ws all
 count_below [] few all are h = omega arith
 count_below (w ∷ ws) few all are h =
     let size = total_width (w ∷ ws) in

@@ -29,10 +29,8 @@ contents_in s into out l c is = subst (IsOf s) (sym (l.back c is)) is
 
 -- what was spelled is read again, and what is read is spelled so
 pub read_again : {M : Type 0} (s : MessageShape) (into : M → Contents) (out : Contents → M) →
-    ByLayout s into out → (m : M) → IsOf s (into m) →
-    mapped out (reading s (spelling s (into m))) ≡ Some m
-read_again s into out l m is =
-    ap (mapped out) (reading_again s (into m) l.lawful is) ∙ ap Some (l.made m)
+    ByLayout s into out → (m : M) → IsOf s (into m) → mapped out (reading s (spelling s (into m))) ≡ Some m
+read_again s into out l m is = ap (mapped out) (reading_again s (into m) l.lawful is) ∙ ap Some (l.made m)
 
 pub read_there : {M : Type 0} (s : MessageShape) (into : M → Contents) (out : Contents → M) →
     ByLayout s into out → (bits : List Bool) (m : M) → mapped out (reading s bits) ≡ Some m →
@@ -46,10 +44,8 @@ read_there {M} s into out l bits m e =
 
 -- WHERE THERE IS LITTLE
 -- no octets stand where none are counted
-pub no_octets : (octets : List Bool) → length octets % 8 ≡ 0 → length octets / 8 < 2 ^ 0 →
-    octets ≡ []
-no_octets octets whole counted =
-    nil_from_length octets (let e : length octets ≡ 0 = omega (arith, whole, counted) in e)
+pub no_octets : (octets : List Bool) → length octets % 8 ≡ 0 → length octets / 8 < 2 ^ 0 → octets ≡ []
+no_octets octets whole counted = nil_from_length octets (let e : length octets ≡ 0 = omega (arith, whole, counted) in e)
 
 pub one_value : (vs : List ℕ) → length vs ≡ 1 → get_or vs 0 0 ∷ [] ≡ vs
 one_value [] long = absurd (omega (arith, long))
@@ -63,12 +59,10 @@ column_parts ls a b c long p q r = rw (← p, ← q, ← r) (three_columns ls lo
 pub empty_column : (ls : List (List ℕ)) (lengths : List ℕ) (j : ℕ) → map length ls ≡ lengths →
     get_or lengths j 0 ≡ 0 → get_or ls j [] ≡ []
 empty_column ls lengths j long none =
-    nil_from_length (get_or ls j [])
-    (sym (get-lengths ls j) ∙ ap (λ (ns : List ℕ). get_or ns j 0) long ∙ none)
+    nil_from_length (get_or ls j []) (sym (get-lengths ls j) ∙ ap (λ (ns : List ℕ). get_or ns j 0) long ∙ none)
 
 -- the columns of records of no field, of one, of two and of three
-pub no_columns : (ls : List (List ℕ)) → map length ls ≡ shares [] (height ls) →
-    [] ∷ [] ∷ [] ∷ [] ≡ ls
+pub no_columns : (ls : List (List ℕ)) → map length ls ≡ shares [] (height ls) → [] ∷ [] ∷ [] ∷ [] ≡ ls
 no_columns ls long =
     let empty = empty_column ls (0 ∷ 0 ∷ 0 ∷ []) in
     column_parts ls [] [] [] (three_long [] (height ls) ls long) (empty 0 long refl)
@@ -81,15 +75,13 @@ first_column w ls long =
     column_parts ls (get_or ls 0 []) [] [] (three_long (w ∷ []) (height ls) ls long) refl
     (empty 1 long refl) (empty 2 long refl)
 
-pub both_columns : (v w : ℕ) (ls : List (List ℕ)) →
-    map length ls ≡ shares (v ∷ w ∷ []) (height ls) →
+pub both_columns : (v w : ℕ) (ls : List (List ℕ)) → map length ls ≡ shares (v ∷ w ∷ []) (height ls) →
     get_or ls 0 [] ∷ get_or ls 1 [] ∷ [] ∷ [] ≡ ls
 both_columns v w ls long =
     let empty = empty_column ls (height ls ∷ height ls ∷ 0 ∷ []) in
     column_parts ls (get_or ls 0 []) (get_or ls 1 []) []
     (three_long (v ∷ w ∷ []) (height ls) ls long) refl refl (empty 2 long refl)
 
-pub all_columns : (u v w : ℕ) (ls : List (List ℕ)) →
-    map length ls ≡ shares (u ∷ v ∷ w ∷ []) (height ls) →
+pub all_columns : (u v w : ℕ) (ls : List (List ℕ)) → map length ls ≡ shares (u ∷ v ∷ w ∷ []) (height ls) →
     get_or ls 0 [] ∷ get_or ls 1 [] ∷ get_or ls 2 [] ∷ [] ≡ ls
 all_columns u v w ls long = three_columns ls (three_long (u ∷ v ∷ w ∷ []) (height ls) ls long)

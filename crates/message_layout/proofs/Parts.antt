@@ -40,12 +40,10 @@ fields_again ws vs rest have =
     let first = spelled (in_widths ws vs) in
     let all : length ws ≡ length vs = sym have.all in
     let long : length first ≡ total_width ws = length-in_widths ws vs all in
-    let room = le-leb (total_width ws) (length (first ++ rest))
-    (omega (arith, length-append first rest, long)) in
+    let room = le-leb (total_width ws) (length (first ++ rest)) (omega (arith, length-append first rest, long)) in
     rw (room, values_again ws vs rest all have.fit, drop_at first rest (total_width ws) long) refl
 
-pub fields_there : (ws vs : List ℕ) (bits after : List Bool) →
-    fields_at ws bits ≡ Some (vs, after) →
+pub fields_there : (ws vs : List ℕ) (bits after : List Bool) → fields_at ws bits ≡ Some (vs, after) →
     HaveValues ws vs × (bits ≡ spelled (in_widths ws vs) ++ after)
 unfolding fields_at
 fields_there ws vs bits after e =
@@ -69,12 +67,10 @@ unfolding part_at
 part_there n bits xs after e =
     let read : List Bool × List Bool = (take n bits, drop n bits) in
     let g = guard_some (nat_le n (length bits)) (Some read) (xs, after) e in
-    subst (λ (x : List Bool × List Bool). (length x.0 ≡ n) × (bits ≡ x.0 ++ x.1))
-    (some_is read (xs, after) g.1)
+    subst (λ (x : List Bool × List Bool). (length x.0 ≡ n) × (bits ≡ x.0 ++ x.1)) (some_is read (xs, after) g.1)
     (length-take-le n bits (leb-true n (length bits) g.0), sym (take-append-drop n bits))
 
-pub number_again : (w n : ℕ) (rest : List Bool) → n < 2 ^ w →
-    number_part w (binary w n ++ rest) ≡ Some (n, rest)
+pub number_again : (w n : ℕ) (rest : List Bool) → n < 2 ^ w → number_part w (binary w n ++ rest) ≡ Some (n, rest)
 unfolding number_part
 number_again w n rest fits =
     let room = le-leb w (length (binary w n ++ rest))
@@ -91,8 +87,7 @@ number_there w n bits after e =
     (some_is read (n, after) g.1) (front w bits (leb-true w (length bits) g.0))
 
 -- GROUPS
-one_bit : (n : ℕ) (rest : List Bool) →
-    spelled (field 1 n ∷ []) ++ rest ≡ binary 1 n ++ rest
+one_bit : (n : ℕ) (rest : List Bool) → spelled (field 1 n ∷ []) ++ rest ≡ binary 1 n ++ rest
 one_bit n rest = ap (λ (r : List Bool). r ++ rest) (append-nil (binary 1 n))
 
 pub group_again : (p : Presence) (ws : List ℕ) (group : Option (List ℕ)) (rest : List Bool) →
@@ -100,8 +95,7 @@ pub group_again : (p : Presence) (ws : List ℕ) (group : Option (List ℕ)) (re
     group_at p ws (spelled (group_fields p ws group) ++ rest) ≡ Some (group, rest)
 unfolding group_at presence_at
 group_again Never ws group rest told is = rw is refl
-group_again Flagged ws None rest told is =
-    rw (one_bit 0 rest, number_again 1 0 rest (omega arith)) refl
+group_again Flagged ws None rest told is = rw (one_bit 0 rest, number_again 1 0 rest (omega arith)) refl
 group_again Flagged ws (Some vs) rest told is =
     let first = spelled (in_widths ws vs) in
     rw (
@@ -116,14 +110,12 @@ group_again (UnlessLeft count) ws (Some vs) rest told is =
     let first = spelled (in_widths ws vs) in
     let long : length first ≡ total_width ws = length-in_widths ws vs (sym is.all) in
     let more = ltb-true count (total_width ws) told in
-    let f = ne_eqb (length (first ++ rest)) count
-    (λ same. omega (arith, same, more, long, length-append first rest)) in
+    let f = ne_eqb (length (first ++ rest)) count (λ same. omega (arith, same, more, long, length-append first rest)) in
     rw (f, fields_again ws vs rest is) refl
 
 -- a group with its sign, and what was read of it
 abbrev GroupThere : Presence → List ℕ → List Bool → Option (List ℕ) × List Bool → Type 0
-GroupThere p ws bits read =
-    IsGroup p ws read.0 (length read.1) × (bits ≡ spelled (group_fields p ws read.0) ++ read.1)
+GroupThere p ws bits read = IsGroup p ws read.0 (length read.1) × (bits ≡ spelled (group_fields p ws read.0) ++ read.1)
 
 -- A group that was read after its flag is spelled as it stood: a flag of 0 is followed by no group,
 -- one of 1 by the fields that were read, and one bit tells nothing else.
@@ -136,8 +128,7 @@ flag_there ws group bits following after zero a b =
     (tt, flag.1 ∙ sym (one_bit 0 following))
 flag_there ws group bits following after (suc zero) a b =
     let flag = number_there 1 1 bits following a in
-    let d = bind_some (fields_at ws following) (λ values. Some (Some values.0, values.1))
-    (group, after) b in
+    let d = bind_some (fields_at ws following) (λ values. Some (Some values.0, values.1)) (group, after) b in
     let fields = fields_there ws d.0.0 following d.0.1 d.1 in
     let first = spelled (in_widths ws d.0.0) in
     subst (GroupThere Flagged ws bits) (some_is (Some d.0.0, d.0.1) (group, after) d.2) (
@@ -156,8 +147,7 @@ unfolding group_at presence_at
 group_there Never ws group bits after e =
     subst (GroupThere Never ws bits) (some_is (None, bits) (group, after) e) (refl, refl)
 group_there Flagged ws group bits after e =
-    let a = bind_some (presence_at Flagged bits) (λ there. present_at ws there.0 there.1)
-    (group, after) e in
+    let a = bind_some (presence_at Flagged bits) (λ there. present_at ws there.0 there.1) (group, after) e in
     let b = bind_some (number_part 1 bits) (λ flag. Some (flag.0 == 1, flag.1)) a.0 a.1 in
     let same : (b.0.0 == 1, b.0.1) ≡ a.0 = some_is (b.0.0 == 1, b.0.1) a.0 b.2 in
     let present : present_at ws (b.0.0 == 1) b.0.1 ≡ Some (group, after) =
@@ -171,16 +161,13 @@ group_there (UnlessLeft count) ws group bits after e =
           (some_is (None, bits) (group, after) none) (eqb-true (length bits) count t, refl)
       | inr f ↦
           let some : present_at ws true bits ≡ Some (group, after) = rw f at e in
-          let d = bind_some (fields_at ws bits) (λ values. Some (Some values.0, values.1))
-          (group, after) some in
-          subst (GroupThere (UnlessLeft count) ws bits)
-          (some_is (Some d.0.0, d.0.1) (group, after) d.2)
+          let d = bind_some (fields_at ws bits) (λ values. Some (Some values.0, values.1)) (group, after) some in
+          subst (GroupThere (UnlessLeft count) ws bits) (some_is (Some d.0.0, d.0.1) (group, after) d.2)
           (fields_there ws d.0.0 bits d.0.1 d.1)
     ]
 
 -- OCTETS
-octet_parts : (z w : ℕ) (octets rest : List Bool) →
-    octet_bits z w octets ++ rest
+octet_parts : (z w : ℕ) (octets rest : List Bool) → octet_bits z w octets ++ rest
     ≡ binary z 0 ++ (binary w (length octets / 8) ++ (octets ++ rest))
 octet_parts z w octets rest =
     let count = binary w (length octets / 8) in
@@ -190,8 +177,7 @@ octet_parts z w octets rest =
 
 -- Spelled octets are read back: after the bits that are 0 the count is read, which is that of the
 -- octets and fits into its bits, and eight times as many bits are the octets themselves.
-pub octets_again : (z w : ℕ) (octets rest : List Bool) → length octets % 8 ≡ 0 →
-    length octets / 8 < 2 ^ w →
+pub octets_again : (z w : ℕ) (octets rest : List Bool) → length octets % 8 ≡ 0 → length octets / 8 < 2 ^ w →
     octets_at z w (octet_bits z w octets ++ rest) ≡ Some (octets, rest)
 unfolding octets_at
 octets_again z w octets rest whole counted =
@@ -206,10 +192,8 @@ octets_again z w octets rest whole counted =
 
 -- Octets that were read are spelled by the bits that they were read from: the zeros, the count and
 -- the octets were read one after another, and each of the three spells the bits that it took.
-pub octets_there : (z w : ℕ) (bits octets after : List Bool) →
-    octets_at z w bits ≡ Some (octets, after) →
-    (length octets % 8 ≡ 0) × (length octets / 8 < 2 ^ w)
-    × (bits ≡ octet_bits z w octets ++ after)
+pub octets_there : (z w : ℕ) (bits octets after : List Bool) → octets_at z w bits ≡ Some (octets, after) →
+    (length octets % 8 ≡ 0) × (length octets / 8 < 2 ^ w) × (bits ≡ octet_bits z w octets ++ after)
 unfolding octets_at
 octets_there z w bits octets after e =
     let a = bind_some (number_part z bits) (λ none. number_part w none.1 >>= λ count.
@@ -236,12 +220,9 @@ octets_there z w bits octets after e =
 -- Spelled records are read back: the bits after them are too few for one more, so their count is
 -- told by how many bits are left, and each column is read again from its places.
 pub records_part_again : (ws : List ℕ) (least : ℕ) (most : Option ℕ) (columns : List (List ℕ))
-    (rest : List Bool) → length ws ≤ 3 → ends ws most ≡ true →
-    map length columns ≡ shares ws (height columns) →
-    FieldsFit (record_fields ws (height columns) columns) → least ≤ height columns →
-    IsRest most rest →
-    records_at ws least (spelled (record_fields ws (height columns) columns) ++ rest)
-    ≡ Some (columns, rest)
+    (rest : List Bool) → length ws ≤ 3 → ends ws most ≡ true → map length columns ≡ shares ws (height columns) →
+    FieldsFit (record_fields ws (height columns) columns) → least ≤ height columns → IsRest most rest →
+    records_at ws least (spelled (record_fields ws (height columns) columns) ++ rest) ≡ Some (columns, rest)
 unfolding records_at
 records_part_again ws least most columns rest few last even fit some short =
     let n = height columns in
@@ -249,11 +230,9 @@ records_part_again ws least most columns rest few last even fit some short =
     let bits = first ++ rest in
     let wide : length ws ≤ length columns = omega (arith, few, three_long ws n columns even) in
     let long : length first ≡ n * total_width ws = length-records ws n columns wide in
-    let share_of : n ≡ share ws n 0 =
-    sym (get-lengths columns 0) ∙ ap (λ (ls : List ℕ). get_or ls 0 0) even in
+    let share_of : n ≡ share ws n 0 = sym (get-lengths columns 0) ∙ ap (λ (ls : List ℕ). get_or ls 0 0) even in
     let count : count_in ws (length bits) ≡ n =
-    counted ws n most rest (length bits) last short share_of
-    (omega (arith, length-append first rest, long)) in
+    counted ws n most rest (length bits) last short share_of (omega (arith, length-append first rest, long)) in
     ap (λ (k : ℕ). records_from ws least k bits) count
     ∙ rw (
       le-leb least n some,
@@ -322,8 +301,7 @@ octets_left p fixed group z w bits b1 b2 b3 vs g octets a b c =
       after_less (octet_bits z w octets) b3 b2 d.2,
     )
 
-pub length-octets : (z w : ℕ) (octets : List Bool) →
-    length (octet_bits z w octets) ≡ z + w + length octets
+pub length-octets : (z w : ℕ) (octets : List Bool) → length (octet_bits z w octets) ≡ z + w + length octets
 length-octets z w octets =
     let count = binary w (length octets / 8) in
     omega (

@@ -24,8 +24,7 @@ plain_of ws rs least most vs cs rest have even fit some left =
     }
 
 pub plain_spelled : (ws rs : List ℕ) (least : ℕ) (most : Option ℕ) (vs : List ℕ)
-    (cs : List (List ℕ)) (rest : List Bool) →
-    spelling (plain_shape ws rs least most) (plain_contents vs cs rest)
+    (cs : List (List ℕ)) (rest : List Bool) → spelling (plain_shape ws rs least most) (plain_contents vs cs rest)
     ≡ spelled (in_widths ws vs) ++ (spelled (record_fields rs (height cs) cs) ++ rest)
 unfolding spelling binary
 plain_spelled ws rs least most vs cs rest = refl
@@ -39,13 +38,11 @@ plain_back ws rs least most c is =
     rw (← none, group) refl
 
 -- where all bits are the rest
-pub rest_back : (c : Contents) → IsOf (plain_shape [] [] 0 None) c →
-    plain_contents [] ([] ∷ [] ∷ [] ∷ []) c.rest ≡ c
+pub rest_back : (c : Contents) → IsOf (plain_shape [] [] 0 None) c → plain_contents [] ([] ∷ [] ∷ [] ∷ []) c.rest ≡ c
 rest_back c is =
     let none : [] ≡ c.fixed = sym (nil_from_length c.fixed is.fixed.all) in
     ap (λ (vs : List ℕ). plain_contents vs ([] ∷ [] ∷ [] ∷ []) c.rest) none
-    ∙ ap (λ (cs : List (List ℕ)). plain_contents c.fixed cs c.rest)
-    (no_columns c.columns is.columns)
+    ∙ ap (λ (cs : List (List ℕ)). plain_contents c.fixed cs c.rest) (no_columns c.columns is.columns)
     ∙ plain_back [] [] 0 None c is
 
 -- READ

@@ -58,13 +58,7 @@ reading_there s bits c h e =
     rest_at s.most x.0.0 y.0.0 octets.0 records.0 records.1) c y.2 in
     let w = bind_some (records_at s.records s.least z.0.1) (λ records.
     rest_at s.most x.0.0 y.0.0 z.0.0 records.0 records.1) c z.2 in
-    let read : Contents = record {
-      fixed = x.0.0;
-      group = y.0.0;
-      octets = z.0.0;
-      columns = w.0.0;
-      rest = w.0.1;
-    } in
+    let read : Contents = record { fixed = x.0.0; group = y.0.0; octets = z.0.0; columns = w.0.0; rest = w.0.1 } in
     let g = guard_some (is_rest s.most w.0.1) (Some read) c w.2 in
     let fixed = fields_there s.fixed x.0.0 bits x.0.1 x.1 in
     let group = group_there s.presence s.group y.0.0 x.0.1 y.0.1 y.1 in
@@ -73,8 +67,7 @@ reading_there s bits c h e =
     let following : y.0.1 ≡ after_group s read =
     octets.2 ∙ ap (λ (r : List Bool). octet_bits s.zeros s.count z.0.0 ++ r) records.3 in
     let signed = spelled (group_fields s.presence s.group y.0.0) in
-    let whole : x.0.1 ≡ signed ++ after_group s read =
-    group.1 ∙ ap (λ (r : List Bool). signed ++ r) following in
+    let whole : x.0.1 ≡ signed ++ after_group s read = group.1 ∙ ap (λ (r : List Bool). signed ++ r) following in
     subst (Spells s bits) (some_is read c g.1) (
       record {
         fixed = fixed.0;
@@ -93,8 +86,7 @@ reading_there s bits c h e =
 -- contents of one layout with one spelling are the same
 pub one_reading : (s : MessageShape) (c d : Contents) → is_lawful s ≡ true → IsOf s c → IsOf s d →
     spelling s c ≡ spelling s d → c ≡ d
-one_reading s c d h p q same =
-    some_is c d (sym (reading_again s c h p) ∙ ap (reading s) same ∙ reading_again s d h q)
+one_reading s c d h p q same = some_is c d (sym (reading_again s c h p) ∙ ap (reading s) same ∙ reading_again s d h q)
 
 -- what is read by parts is read
 pub read_found : (s : MessageShape) (bits : List Bool) (read : Option Contents) → is_lawful s ≡ true →

@@ -15,8 +15,7 @@ octets_of s c = octet_bits s.zeros s.count c.octets
 abbrev pub record_bits : MessageShape → Contents → List Bool
 record_bits s c = spelled (records_of s c)
 
-pub length-spelling : (s : MessageShape) (c : Contents) →
-    length (spelling s c)
+pub length-spelling : (s : MessageShape) (c : Contents) → length (spelling s c)
     ≡ length (fixed_bits s c) + length (group_bits s c) + length (octets_of s c)
     + length (record_bits s c) + length c.rest
 unfolding spelling
@@ -31,8 +30,7 @@ length-spelling s c =
 
 -- There is room for what is left to write: for all at the start, and after each part that was
 -- written for the parts after it.
-pub room_first : (s : MessageShape) (c : Contents) (first : List Bool) →
-    length first + length (spelling s c) ≤ 1184 →
+pub room_first : (s : MessageShape) (c : Contents) (first : List Bool) → length first + length (spelling s c) ≤ 1184 →
     length first + (length (fixed_bits s c) + (length (group_bits s c)
     + (length (octets_of s c) + (length (record_bits s c) + length c.rest)))) ≤ 1184
 room_first s c first room = omega (arith, room, length-spelling s c)
@@ -68,12 +66,6 @@ pub flagged_room : (p : Presence) (ws : List ℕ) (group : Option (List ℕ)) (b
     p ≡ Flagged → body + length (spelled (group_fields p ws group)) ≤ 1184 → body + 1 ≤ 1184
 flagged_room Never ws group body is room = absurd (cc)
 flagged_room (UnlessLeft count) ws group body is room = absurd (cc)
-flagged_room Flagged ws None body is room =
-    omega (arith, room, length-append (binary 1 0) [], length-binary 1 0)
+flagged_room Flagged ws None body is room = omega (arith, room, length-append (binary 1 0) [], length-binary 1 0)
 flagged_room Flagged ws (Some vs) body is room =
-    omega (
-      arith,
-      room,
-      length-append (binary 1 1) (spelled (in_widths ws vs)),
-      length-binary 1 1,
-    )
+    omega (arith, room, length-append (binary 1 1) (spelled (in_widths ws vs)), length-binary 1 1)

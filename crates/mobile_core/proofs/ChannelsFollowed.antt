@@ -71,8 +71,7 @@ module _ {t : Tuning} {f : Followed} {mark : Option Mark} {heard : List Sample}
   )
 
   -- where nothing is due of it, what was due of the traffic channel has been heard
-  pub heard_other : {n : ℕ} →
-      ¬ IsSomeAnd f.paging (λ r. IsDueAt t.count r.received.clock) → n ≡ length heard →
+  pub heard_other : {n : ℕ} → ¬ IsSomeAnd f.paging (λ r. IsDueAt t.count r.received.clock) → n ≡ length heard →
       WaitFrom n f → (traffic : Option SoftHandoff) (event : Option Event) →
       (HearsFrames t t.traffic mark f.traffic heard [] → HearsFrames t t.traffic mark traffic heard []
       × (event_list event ++ traffic_events_left t t.traffic mark heard traffic

@@ -6,8 +6,7 @@ use Rattle.reception.specs.Sound.{IsSoundChannel}
 -- A channel that is opened now has received the samples so far, and heard no frame: as a new one it
 -- has received nothing and has no frame due, and its first frame starts after these samples.
 pub receives_opened : (count : ℕ) (s : Stream) (c : Continued) (fingers : List Finger)
-    (first : ℕ) → s.waits ≡ true → fingers ≡ s.fingers →
-    first ≡ s.first → c.fingers ≡ fingers → IsSoundChannel c →
+    (first : ℕ) → s.waits ≡ true → fingers ≡ s.fingers → first ≡ s.first → c.fingers ≡ fingers → IsSoundChannel c →
     c.clock ≡ clock_from fingers s.form true first (first_frame fingers first) →
     (heard : List Sample) → length heard ≤ count → length heard ≤ first →
     Receives count s c heard × (c.clock.next ≡ c.clock.low)

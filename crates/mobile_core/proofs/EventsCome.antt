@@ -16,24 +16,21 @@ module _ (t : Tuning) (low : ℕ) (timed : IsSyncTimed t low)
       (following : HearsFollowed t f (mark_before t xs next) xs) (sound : IsSoundFollowed f)
       (none : ¬ IsFollowedDue t.count f) (ends : EndFrom (length xs + length ys) f) where
     -- up to their last but one the mark is that of the frames before
-    mark_here : (n : ℕ) → length xs ≤ n → n < length xs + length ys →
-        mark t (xs ++ ys) n ≡ mark_before t xs next
+    mark_here : (n : ℕ) → length xs ≤ n → n < length xs + length ys → mark t (xs ++ ys) n ≡ mark_before t xs next
     mark_here n least less =
         mark_is t timed (xs ++ ys) n next
         (λ k below inside. let known = before k below inside in omega (arith, known, least))
         (λ k above inside. let known = from k above inside in omega (arith, known, less))
         ∙ mark_before_sooner t low timed xs ys next before
 
-    goes : GoesOn
-        (λ samples n. sync_events_at t samples n ++ followed_after t (mark_before t xs next) samples n)
+    goes : GoesOn (λ samples n. sync_events_at t samples n ++ followed_after t (mark_before t xs next) samples n)
         (λ samples. sync_events_left t samples next
         ++ followed_events_left t (mark_before t xs next) samples f) xs (length xs + length ys)
     goes =
         both (sync_goes t low timed next xs (length xs + length ys) before from)
         (goes_on following sound none (length xs + length ys) ends)
 
-    quiet : (n : ℕ) → length xs < n → n < length xs + length ys →
-        events_at t (xs ++ ys) n ≡ []
+    quiet : (n : ℕ) → length xs < n → n < length xs + length ys → events_at t (xs ++ ys) n ≡ []
     quiet n past less =
         events_at_by t (xs ++ ys) n (mark_before t xs next) (mark_here n (omega (arith, past)) less)
         ∙ goes.quiet ys n past less
@@ -42,8 +39,7 @@ module _ (t : Tuning) (low : ℕ) (timed : IsSyncTimed t low)
     -- channels had left: a mark that a message sets just there changes none, as channels that begin
     -- at it tell nothing yet.
     last_events : events_at t (xs ++ ys) (length (xs ++ ys))
-        ≡ sync_events_left t (xs ++ ys) next
-        ++ followed_events_left t (mark_before t xs next) (xs ++ ys) f
+        ≡ sync_events_left t (xs ++ ys) next ++ followed_events_left t (mark_before t xs next) (xs ++ ys) f
     last_events =
         let all = xs ++ ys in
         let n : ℕ = length xs + length ys - 1 in
@@ -66,11 +62,9 @@ module _ (t : Tuning) (low : ℕ) (timed : IsSyncTimed t low)
     unfolding heard_within
     events_grown =
         let d = length ys - 1 in
-        let long : length (xs ++ ys) ≡ length xs + suc d =
-        omega (arith, length-append xs ys, some) in
+        let long : length (xs ++ ys) ≡ length xs + suc d = omega (arith, length-append xs ys, some) in
         let grown = flat_map_grown (events_at t xs) (events_at t (xs ++ ys)) (length xs) d
-        (λ n h. events_sooner t low timed near xs ys n h)
-        (λ n past less. quiet n past (omega (arith, less, some))) in
+        (λ n h. events_sooner t low timed near xs ys n h) (λ n past less. quiet n past (omega (arith, less, some))) in
         let last = last_events in
         let last' = rw long at last in
         rw (long, grown, last') refl

@@ -35,13 +35,11 @@ unfolding sets_at sets_left_of
 set_there t traffic m samples n j moments whole long = rw (moments, whole, long) refl
 
 no_set : (t : Tuning) (traffic : Traffic) (m : Mark) (samples : List Sample) (n j : ℕ) →
-    moments_before m n ≡ j → ¬ (moment_place m (j + 1) ≡ n) →
-    sets_at t traffic m samples n ≡ []
+    moments_before m n ≡ j → ¬ (moment_place m (j + 1) ≡ n) → sets_at t traffic m samples n ≡ []
 unfolding sets_at
 no_set t traffic m samples n j moments elsewhere =
     let none : (moment_place m (moments_before m n + 1) == n) ≡ false =
-    ne_eqb (moment_place m (moments_before m n + 1)) n
-    (λ e. elsewhere (omega (arith, e, moments))) in
+    ne_eqb (moment_place m (moments_before m n + 1)) n (λ e. elsewhere (omega (arith, e, moments))) in
     rw none refl
 
 module _ {t : Tuning} {traffic : Traffic} {m : Mark} {r : SoftHandoff} {heard : List Sample}
@@ -53,27 +51,22 @@ module _ {t : Tuning} {traffic : Traffic} {m : Mark} {r : SoftHandoff} {heard : 
       (false_from_ne_true r.sets.due (λ due. none (inr due)))
       ∙ ap (λ (x : Mark). moment_place x (r.sets.passed + 1)) st.tuned.mark_is
 
-  ends_at : (n : ℕ) → n ≤ next_end r →
-      (n ≤ r.receiver.frames.clock.end) × (n ≤ moment_place m (r.sets.passed + 1))
+  ends_at : (n : ℕ) → n ≤ next_end r → (n ≤ r.receiver.frames.clock.end) × (n ≤ moment_place m (r.sets.passed + 1))
   ends_at n h = let place = place_is in (omega (arith, h), omega (arith, h, place))
 
   moments_here : (n : ℕ) → length heard < n → n ≤ moment_place m (r.sets.passed + 1) →
       moments_before m n ≡ r.sets.passed
   moments_here n past early =
-      moments_are m r.sets.passed n early
-      (λ some. let b = st.among.begun some in omega (arith, b, past))
+      moments_are m r.sets.passed n early (λ some. let b = st.among.begun some in omega (arith, b, past))
 
   module _ (more : List Sample) where
-    kept_more : kept_to t traffic m (heard ++ more) r.sets.passed
-        ≡ kept_in t traffic m r heard
+    kept_more : kept_to t traffic m (heard ++ more) r.sets.passed ≡ kept_in t traffic m r heard
     kept_more = kept_sooner t traffic m heard more r.sets.passed st.among.begun
 
     legs_here : (n : ℕ) → length heard < n → n ≤ moment_place m (r.sets.passed + 1) →
-        legs_at t traffic m (heard ++ more) n
-        ≡ legs_by traffic m (kept_in t traffic m r heard)
+        legs_at t traffic m (heard ++ more) n ≡ legs_by traffic m (kept_in t traffic m r heard)
     legs_here n past early =
-        ap (λ (j : ℕ). legs_by traffic m (kept_to t traffic m (heard ++ more) j))
-        (moments_here n past early)
+        ap (λ (j : ℕ). legs_by traffic m (kept_to t traffic m (heard ++ more) j)) (moments_here n past early)
         ∙ ap (legs_by traffic m) kept_more
 
   -- frames and what they complete are told, and then the moment
@@ -87,12 +80,10 @@ module _ {t : Tuning} {traffic : Traffic} {m : Mark} {r : SoftHandoff} {heard : 
       -- The frames and messages of a traffic channel go on as those that its receiver has left: up
       -- to the next moment it is heard from the active pilots that the moments before it left,
       -- however many samples follow.
-      told_goes : GoesOn
-          (λ samples n. told_at t traffic m (legs_at t traffic m samples n) (take n samples) n)
+      told_goes : GoesOn (λ samples n. told_at t traffic m (legs_at t traffic m samples n) (take n samples) n)
           (λ samples. told_left_with t traffic m samples r.receiver (kept_in t traffic m r samples)) heard end
       told_goes =
-          let go = told_go st sound (none_come r sound none) (none_kept r none) end parts.0
-          (omega (arith, parts.1)) in
+          let go = told_go st sound (none_come r sound none) (none_kept r none) end parts.0 (omega (arith, parts.1)) in
           record {
             given = go.given;
             quiet = λ more n past before.
@@ -108,20 +99,17 @@ module _ {t : Tuning} {traffic : Traffic} {m : Mark} {r : SoftHandoff} {heard : 
                 (omega (arith, most, parts.1))));
           }
 
-      sets_goes : GoesOn (sets_at t traffic m)
-          (λ samples. sets_left_of t traffic m samples r.sets.passed) heard end
+      sets_goes : GoesOn (sets_at t traffic m) (λ samples. sets_left_of t traffic m samples r.sets.passed) heard end
       sets_goes = record {
         given = λ early.
             not_left t traffic m heard r.sets.passed (λ e. omega (arith, e, early, parts.1));
         quiet = λ more n past before.
-            no_set t traffic m (heard ++ more) n r.sets.passed
-            (moments_here n past (omega (arith, before, parts.1)))
+            no_set t traffic m (heard ++ more) n r.sets.passed (moments_here n past (omega (arith, before, parts.1)))
             (λ e. omega (arith, e, before, parts.1));
         come = λ more some most.
             let n : ℕ = length (heard ++ more) in
             sym (set_there t traffic m (heard ++ more) n r.sets.passed
-            (moments_here n (omega (arith, length-append heard more, some))
-            (omega (arith, most, parts.1)))
+            (moments_here n (omega (arith, length-append heard more, some)) (omega (arith, most, parts.1)))
             (take_all n (heard ++ more) (omega arith)) refl);
       }
 
@@ -130,8 +118,7 @@ module _ {t : Tuning} {assigned : Option Traffic} {mark : Option Mark} {r : Soft
     {heard : List Sample} {pages : List Event} (st : FollowsTraffic t assigned mark r heard pages) where
   -- it has heard more, or more is left to be heard
   pub tells_on : (after : SoftHandoff) (samples : List Sample) (later : List Event) →
-      HearsTraffic t st.traffic st.set after samples later →
-      FollowsTraffic t assigned mark after samples later
+      HearsTraffic t st.traffic st.set after samples later → FollowsTraffic t assigned mark after samples later
   tells_on after samples later hears = record {
     traffic = st.traffic;
     traffic_is = st.traffic_is;
@@ -144,15 +131,13 @@ module _ {t : Tuning} {assigned : Option Traffic} {mark : Option Mark} {r : Soft
       traffic_left t assigned mark samples after ≡ traffic_left_of t st.traffic st.set samples after
   left_is samples after = rw (st.traffic_is, st.set_is) refl
 
-  told_is : (samples : List Sample) (n : ℕ) →
-      told_after t (option_map OnTraffic assigned) mark samples n
+  told_is : (samples : List Sample) (n : ℕ) → told_after t (option_map OnTraffic assigned) mark samples n
       ≡ all_told t st.traffic st.set samples n
   told_is samples n = rw (st.traffic_is, st.set_is) refl
 
   -- what was due first has been heard
   pub tells_first : (after : SoftHandoff) (given later : List Event) →
-      GivesFirst t st.traffic st.set heard r after given later →
-      FollowsTraffic t assigned mark after heard later
+      GivesFirst t st.traffic st.set heard r after given later → FollowsTraffic t assigned mark after heard later
       × (given ++ traffic_left t assigned mark heard after ≡ traffic_left t assigned mark heard r)
   tells_first after given later gives =
       (tells_on after heard later gives.0, rw (left_is heard after, left_is heard r) gives.1)
@@ -173,8 +158,7 @@ told_few r is =
     omega (arith, r.start_least, r.start_most, r.frames.clocked.next_have, few)
 
 -- what an event of the paging channel tells leaves what waits
-pub noted_waits : (n : ℕ) (r : SoftHandoff) (event : Event) → WaitsAt n r →
-    WaitsAt n (noted_by event r)
+pub noted_waits : (n : ℕ) (r : SoftHandoff) (event : Event) → WaitsAt n r → WaitsAt n (noted_by event r)
 noted_waits n r event waits = record { before = waits.before; due = waits.due }
 
 -- WHETHER A CHANNEL IS FOLLOWED OR NOT
@@ -182,8 +166,7 @@ module _ (t : Tuning) (assigned : Option Traffic) (mark : Option Mark) (heard : 
     (pages : List Event) where
   pub frames_go : (receiver : Option SoftHandoff) → HearsFrames t assigned mark receiver heard pages →
       ForSome receiver IsSoundHandoff → ¬ IsSomeAnd receiver IsTrafficDue → (end : ℕ) →
-      ForSome receiver (λ r. end ≤ next_end r) →
-      GoesOn (told_after t (option_map OnTraffic assigned) mark)
+      ForSome receiver (λ r. end ≤ next_end r) → GoesOn (told_after t (option_map OnTraffic assigned) mark)
       (λ samples. traffic_events_left t assigned mark samples receiver) heard end
   frames_go None following sound none end ends =
       never (told_after t (option_map OnTraffic assigned) mark)
@@ -204,8 +187,7 @@ module _ (t : Tuning) (assigned : Option Traffic) (mark : Option Mark) (heard : 
       pages_if_marked t t.paging mark samples n ≡ []) →
       ((m : Mark) (n : ℕ) → n ≤ m.sample →
       pages_if_marked t t.paging (Some m) (heard ++ more) n ≡ []) →
-      HearsFrames t assigned mark receiver (heard ++ more)
-      (paged_after t mark (heard ++ more) (length (heard ++ more)))
+      HearsFrames t assigned mark receiver (heard ++ more) (paged_after t mark (heard ++ more) (length (heard ++ more)))
   frames_more None following sound none more some within waits ends given quiet before = following
   frames_more (Some r) following sound none more some within waits ends given quiet before =
       let st = following.hears in
@@ -222,8 +204,7 @@ module _ (t : Tuning) (assigned : Option Traffic) (mark : Option Mark) (heard : 
       ∙ quiet samples n past less)
       (before m) in
       tells_on following r (heard ++ more) later
-      (subst (HearsWith t following.traffic m r (heard ++ more) later)
-      (sym (kept_more st known none more)) grown)
+      (subst (HearsWith t following.traffic m r (heard ++ more) later) (sym (kept_more st known none more)) grown)
 
 -- WHERE A MARK IS SET
 -- a receiver that is open now has heard nothing

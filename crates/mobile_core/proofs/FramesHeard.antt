@@ -55,8 +55,7 @@ not_left t traffic m samples j elsewhere =
 
 -- what a receiver has still to tell where no message is kept
 pub left_unkept : (t : Tuning) (traffic : Traffic) (m : Mark) (samples : List Sample)
-    (r : TrafficReceiver) (kept : ℕ → Standing) → r.kept ≡ None →
-    told_left_with t traffic m samples r kept
+    (r : TrafficReceiver) (kept : ℕ → Standing) → r.kept ≡ None → told_left_with t traffic m samples r kept
     ≡ told_left t traffic m (legs_by traffic m kept) samples r.frames.clock.next
 left_unkept t traffic m samples r kept empty =
     ap (λ (k : Option SpelledSignal). message_events (length samples) k
@@ -97,8 +96,7 @@ module _ {t : Tuning} {traffic : Traffic} {m : Mark} {r : SoftHandoff} {heard : 
   left_of samples = told_left_with t traffic m samples r.receiver kept
 
   pub far : 2 ^ 16 ≤ m.sample
-  far =
-      subst (λ (x : Mark). 2 ^ 16 ≤ x.sample) st.tuned.mark_is sound.keeper.marked.late
+  far = subst (λ (x : Mark). 2 ^ 16 ≤ x.sample) st.tuned.mark_is sound.keeper.marked.late
 
   pub closes : AreCloseAll t legs
   closes k = st.close (moment_of traffic k)
@@ -107,8 +105,7 @@ module _ {t : Tuning} {traffic : Traffic} {m : Mark} {r : SoftHandoff} {heard : 
   -- it is heard on the fingers of its own pilots, from where it begins
   parts_are : {A : Type 0} (f : ℕ → List ℤ → List Leg → ℕ → A) → IsTold →
       f r.receiver.phase (take r.receiver.near.count r.receiver.near.deltas) r.receiver.legs
-      r.receiver.frames.clock.start
-      ≡ f t.phase t.deltas (legs coming) (traffic_start traffic m coming)
+      r.receiver.frames.clock.start ≡ f t.phase t.deltas (legs coming) (traffic_start traffic m coming)
   parts_are f told =
       let start : ℕ = r.receiver.frames.clock.start in
       ap (λ (p : ℕ). f p (take r.receiver.near.count r.receiver.near.deltas) r.receiver.legs start) st.tuned.phase_is
@@ -137,8 +134,7 @@ module _ {t : Tuning} {traffic : Traffic} {m : Mark} {r : SoftHandoff} {heard : 
       ]
 
   -- where no frame is due, those from the next on end when the next one does, or later
-  pub from_next : coming ≡ next → (n : ℕ) → n ≤ end → n ≤ moment + 24350 → (k : ℕ) → next ≤ k →
-      n ≤ known k
+  pub from_next : coming ≡ next → (n : ℕ) → n ≤ end → n ≤ moment + 24350 → (k : ℕ) → next ≤ k → n ≤ known k
   from_next idle n ends early k above =
       let low = known_low t traffic m legs closes k in
       elim (cases_lt r.sets.passed (moment_of traffic coming)) [
@@ -165,19 +161,16 @@ module _ {t : Tuning} {traffic : Traffic} {m : Mark} {r : SoftHandoff} {heard : 
       map (frame_heard t traffic m legs xs i) ks ++ flat_map (message_heard t traffic m legs xs i) ks in
       goes_as
       (things_go (frames_of t traffic m legs) next (λ xs i. gives (take i xs) i) (λ xs i. refl)
-      heard n (λ k less inside. st.frames.ended k less)
-      (λ k above inside. from_next idle n ends early k above))
+      heard n (λ k less inside. st.frames.ended k less) (λ k above inside. from_next idle n ends early k above))
       (λ xs i. refl)
       (λ xs. left_unkept t traffic m xs r.receiver kept empty
-      ∙ ap (λ (ys : List Sample). gives ys (length xs)
-      (left (frames_of t traffic m legs) next (length xs)))
+      ∙ ap (λ (ys : List Sample). gives ys (length xs) (left (frames_of t traffic m legs) next (length xs)))
       (sym (take_all (length xs) xs (omega arith))))
 
   pub told_given : coming ≡ next → r.receiver.kept ≡ None → length heard < end → left_of heard ≡ []
   told_given idle empty waits =
       let early = st.among.coming in
-      (told_go idle empty (length heard + 1) (omega (arith, waits)) (omega (arith, early))).given
-      (omega arith)
+      (told_go idle empty (length heard + 1) (omega (arith, waits)) (omega (arith, early))).given (omega arith)
 
   -- MORE SAMPLES, UP TO THE END OF THE FRAME THAT COMES NEXT
   module _ (more : List Sample) (none : ¬ IsTrafficDue r) (some : 0 < length more)
@@ -200,8 +193,7 @@ module _ {t : Tuning} {traffic : Traffic} {m : Mark} {r : SoftHandoff} {heard : 
 
     goes : GoesOn (λ xs n. told_at t traffic m legs (take n xs) n) left_of heard (length heard + length more)
     goes =
-        told_go (none_come r sound none) (none_kept r none) (length heard + length more) ends
-        (omega (arith, early))
+        told_go (none_come r sound none) (none_kept r none) (length heard + length more) ends (omega (arith, early))
 
     -- what is heard with the last sample is what is left
     last_told : told_by t traffic m legs samples taken ≡ later ++ left_of samples
@@ -214,8 +206,7 @@ module _ {t : Tuning} {traffic : Traffic} {m : Mark} {r : SoftHandoff} {heard : 
         ∙ ap (λ (es : List Event). es ++ told) (sym later_is)
         ∙ ap (λ (es : List Event). later ++ es) (sym (goes.come more some (omega (arith, long))))
 
-    quiet_told : (n : ℕ) → length heard < n → n < length heard + length more →
-        told_by t traffic m legs samples n ≡ []
+    quiet_told : (n : ℕ) → length heard < n → n < length heard + length more → told_by t traffic m legs samples n ≡ []
     quiet_told n past less =
         told_is t traffic m legs samples n
         ∙ ap (λ (ps : List _). map (page_event n) ps ++ told_at t traffic m legs (take n samples) n)
@@ -278,8 +269,7 @@ module _ {t : Tuning} {traffic : Traffic} {m : Mark} {r : SoftHandoff} {heard : 
     hears_more =
         let idle = none_come r sound none in
         let begun = st.among.begun in
-        let signals =
-        signals_sooner t traffic m legs heard more next (λ k less inside. st.frames.ended k less) in
+        let signals = signals_sooner t traffic m legs heard more next (λ k less inside. st.frames.ended k less) in
         record {
           tuned = st.tuned;
           among = record {
@@ -374,16 +364,14 @@ module _ {t : Tuning} {traffic : Traffic} {m : Mark} {r : SoftHandoff} {heard : 
 
   -- What is decoded of the frame that is due, and its power control bits, are the definition's: its scrambling
   -- and replaced places are those of its own state and mask, and so were its soft values and sums when they came.
-  pub next_here : next < coming → (replaced : List ℕ) (descrambled : List ℤ) (frame : Decoded)
-      (told : List Bool) →
+  pub next_here : next < coming → (replaced : List ℕ) (descrambled : List ℤ) (frame : Decoded) (told : List Bool) →
       replaced ≡ power_places (after r.receiver.frames.scrambling.state (24576 * next)) r.receiver.frames.scrambling.mask →
       descrambled
       ≡ unscrambled
       (scrambling (after r.receiver.frames.scrambling.state (24576 * next)) r.receiver.frames.scrambling.mask) r.receiver.softs →
       frame ≡ decoded replaced descrambled →
       told ≡ map (power_bit (frames.summed_subchannels r.receiver.power)) (places 16) →
-      (frame ≡ decoded_at t traffic m legs heard next)
-      × (told ≡ power_bits_at t traffic m legs heard next)
+      (frame ≡ decoded_at t traffic m legs heard next) × (told ≡ power_bits_at t traffic m legs heard next)
   unfolding decoded_at power_bits_at
   next_here come replaced descrambled frame told replaced_is descrambled_is frame_is told_is =
       let bits = scrambling (frame_state traffic m next) (traffic_mask traffic.esn) in

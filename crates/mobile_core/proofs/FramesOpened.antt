@@ -18,8 +18,7 @@ paths_some (x ∷ deltas) d h = omega arith
 
 -- if the paths of the reference's pilot are close, so are its fingers, and no other pilot has any
 pub first_paths : (m : Mark) (row phase : ℕ) (deltas : List ℤ) →
-    all_close (all_fingers phase deltas (legs_of m (new_standing m.pilot row))) ≡ true →
-    paths_close deltas ≡ true
+    all_close (all_fingers phase deltas (legs_of m (new_standing m.pilot row))) ≡ true → paths_close deltas ≡ true
 first_paths m row phase deltas h =
     let finger = pilot_finger m (get_or (new_standing m.pilot row).deltas m.pilot (pos 0))
     (record { pilot = m.pilot; row = row; subchannel = 0 }) in

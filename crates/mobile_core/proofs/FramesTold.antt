@@ -26,16 +26,13 @@ chosen_legs m false s s' same = refl
 
 page_legs : (m : Mark) (pn : ℕ) (message : PagingMessage) (s : Standing) →
     legs_of m (page_noted pn message s) ≡ legs_of m s
-page_legs m pn (pages.System f) s =
-    chosen_legs m (f.pn == pn) (with_thresholds (system_thresholds f) s) s refl
-page_legs m pn (pages.Neighbors f) s =
-    chosen_legs m (f.pn == pn) (with_neighbors f.pns s) s refl
+page_legs m pn (pages.System f) s = chosen_legs m (f.pn == pn) (with_thresholds (system_thresholds f) s) s refl
+page_legs m pn (pages.Neighbors f) s = chosen_legs m (f.pn == pn) (with_neighbors f.pns s) s refl
 page_legs m pn message s = refl
 
 body_legs : (m : Mark) (first : ℕ) (body : TrafficBody) (s : Standing) →
     legs_of m (body_noted first body s) ≡ legs_of m s
-body_legs m first (bodies.Handoff f) s =
-    refused_legs m (direction_fault f) (accepted_of first f) s
+body_legs m first (bodies.Handoff f) s = refused_legs m (direction_fault f) (accepted_of first f) s
 body_legs m first body s = refl
 
 pub noted_legs : (m : Mark) (pn first : ℕ) (event : Event) (s : Standing) →
@@ -64,14 +61,12 @@ pub hears_noted : {t : Tuning} {traffic : Traffic} {m : Mark} {heard : List Samp
 hears_noted {t} {traffic} {m} {heard} {kept} {r} {pages} event st at' =
     let j : ℕ = r.sets.passed in
     let left = told_left_with t traffic m heard r.receiver kept in
-    let before =
-    moments_are m j (length heard) st.among.coming (st.following event (pages ++ left) refl) in
+    let before = moments_are m j (length heard) st.among.coming (st.following event (pages ++ left) refl) in
     let first : j + 1 ≡ moment_from m (length heard) = omega (arith, before) in
     let same : noted_with r.sets.mark.pilot (r.sets.mark.time + (j + 1)) event r.sets.sets
     ≡ noted m event r.sets.sets =
     ap (λ (x : Mark). noted_with x.pilot (x.time + (j + 1)) event r.sets.sets) st.tuned.mark_is
-    ∙ ap (λ (k : ℕ). noted_with m.pilot (m.time + k) event r.sets.sets)
-    (first ∙ ap (moment_from m) (sym at')) in
+    ∙ ap (λ (k : ℕ). noted_with m.pilot (m.time + k) event r.sets.sets) (first ∙ ap (moment_from m) (sym at')) in
     record {
       tuned = st.tuned;
       among = st.among;

@@ -7,20 +7,17 @@ use Rattle.mobile_core.proofs.Common.{subst, true, List, ◌++◌, Some, mark, M
 
 -- the mark of a handset is that of the samples taken
 pub mark_is : (t : Tuning) (mobile : Mobile) (heard : List Sample) (given : List Event) →
-    StandsFor t mobile heard given →
-    ForSome mobile.sync.mark (λ m. mark t heard (length heard) ≡ Some m)
+    StandsFor t mobile heard given → ForSome mobile.sync.mark (λ m. mark t heard (length heard) ≡ Some m)
 mark_is t mobile heard given st m set =
     let clock = mobile.sync.received.clock in
     let is = st.sync.receives.clocked in
-    mark_told t clock.low is.timed heard (length heard) clock.next m (before_next is)
-    (sym st.sync.marked ∙ set)
+    mark_told t clock.low is.timed heard (length heard) clock.next m (before_next is) (sym st.sync.marked ∙ set)
 
 -- Where the event given last ends at the last sample taken, and none before it sets a mark, the mark
 -- lies there or after.
 pub mark_ahead : (t : Tuning) (mobile : Mobile) (heard : List Sample) (given : List Event)
     (event : Event) → StandsFor t mobile heard (given ++ event ∷ []) → at_of event ≡ length heard →
-    list_any sets_mark given ≡ false → (m : Mark) → mobile.sync.mark ≡ Some m →
-    length heard ≤ m.sample
+    list_any sets_mark given ≡ false → (m : Mark) → mobile.sync.mark ≡ Some m → length heard ≤ m.sample
 mark_ahead t mobile heard given event st here none m marked =
     let clock = mobile.sync.received.clock in
     let is = st.sync.receives.clocked in
@@ -31,8 +28,7 @@ mark_ahead t mobile heard given event st here none m marked =
     elim (cases_lt (sync_known t k) n) [
       | inl less ↦
           let left = events_left t mobile heard in
-          let late : is_before n event ≡ false =
-          lt-leb (at_of event + 1) n (omega (arith, here)) in
+          let late : is_before n event ≡ false = lt-leb (at_of event + 1) n (omega (arith, here)) in
           let pilot = Pilot t.phase t.energy in
           let before = pilot ∷ flat_map (events_at t heard) (places n) in
           let same : given ++ event ∷ left ≡ before ++ events_at t heard n =

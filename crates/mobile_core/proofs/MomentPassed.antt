@@ -11,20 +11,17 @@ use Rattle.heard_events.proofs.MomentGrowth.{kept_new, kept_old}
 
 -- FRAMES ARE HEARD FROM THE PILOTS OF THEIR OWN NUMBER ALONE
 module _ (t : Tuning) (traffic : Traffic) (m : Mark) (legs legs' : ℕ → List Leg) where
-  pub known_same : (k : ℕ) → legs' k ≡ legs k →
-      frame_known t traffic m legs' k ≡ frame_known t traffic m legs k
+  pub known_same : (k : ℕ) → legs' k ≡ legs k → frame_known t traffic m legs' k ≡ frame_known t traffic m legs k
   known_same k same = ap (λ (ls : List Leg). frame_known t traffic m (λ i. ls) k) same
 
-  pub signals_same : (xs : List Sample) (next : ℕ) →
-      ((k : ℕ) → k < next → legs' k ≡ legs k) →
+  pub signals_same : (xs : List Sample) (next : ℕ) → ((k : ℕ) → k < next → legs' k ≡ legs k) →
       signals_before t traffic m legs' xs next ≡ signals_before t traffic m legs xs next
   unfolding signals_before signal_at decoded_at
   signals_same xs next same =
       ap (flat_map (λ k. option_to_list (signal_at t traffic m legs' xs k)))
       (filter_ext_places (has_frame t traffic m legs') (has_frame t traffic m legs) next
       (λ k below. ap (λ (ls : List Leg). has_frame t traffic m (λ i. ls) k) (same k below)))
-      ∙ flat_map_ext_filter_places (has_frame t traffic m legs)
-      (λ k. option_to_list (signal_at t traffic m legs' xs k))
+      ∙ flat_map_ext_filter_places (has_frame t traffic m legs) (λ k. option_to_list (signal_at t traffic m legs' xs k))
       (λ k. option_to_list (signal_at t traffic m legs xs k)) next
       (λ k below inside.
       ap (λ (ls : List Leg). option_to_list (signal_at t traffic m (λ i. ls) xs k)) (same k below))
@@ -54,8 +51,7 @@ module _ {t : Tuning} {traffic : Traffic} {m : Mark} {r : SoftHandoff} {heard : 
   sets_now : r.sets.sets ≡ heard_from t traffic m kept_now heard last 98304
   sets_now =
       let count : length heard - moment_place m last ≡ 98304 = omega (arith, here) in
-      sym (ap (λ (es : List Event). all_noted m es r.sets.sets)
-      (told_given st sound idle empty waits))
+      sym (ap (λ (es : List Event). all_noted m es r.sets.sets) (told_given st sound idle empty waits))
       ∙ st.sets_are
       ∙ ap (heard_from t traffic m kept_now heard last) count
 

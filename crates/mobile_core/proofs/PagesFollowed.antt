@@ -29,26 +29,22 @@ module _ {t : Tuning} {mark : Option Mark} {r : PagingReceiver} {heard : List Sa
     (st : FollowsPages t mark r heard) where
   pub follows_on : (after : PagingReceiver) (samples : List Sample) →
       HearsPaging t t.paging st.set after samples → FollowsPages t mark after samples
-  follows_on after samples hears =
-      record { set = st.set; set_is = st.set_is; rate = st.rate; hears = hears }
+  follows_on after samples hears = record { set = st.set; set_is = st.set_is; rate = st.rate; hears = hears }
 
   -- soft values of a frame have come
-  pub come_left : (after : PagingReceiver) →
-      after.received.clock.next ≡ r.received.clock.next → after.place ≡ r.place →
+  pub come_left : (after : PagingReceiver) → after.received.clock.next ≡ r.received.clock.next → after.place ≡ r.place →
       paging_left t mark heard after ≡ paging_left t mark heard r
   come_left after next place = rw (st.set_is, next, place) refl
 
   -- After a bit has been heard, its message and what is left give what was left before: hearing it
   -- says so of the messages, and the events are made of the messages one by one.
-  pub bit_left : (after : PagingReceiver) (page : Option SpelledPage) →
-      HearsBit t t.paging st.set heard r after page →
+  pub bit_left : (after : PagingReceiver) (page : Option SpelledPage) → HearsBit t t.paging st.set heard r after page →
       map (page_event (length heard)) (option_to_list page) ++ paging_left t mark heard after
       ≡ paging_left t mark heard r
   bit_left after page bit =
       let event : SpelledPage → Event = page_event (length heard) in
       let later = pages_left t t.paging st.set heard after.received.clock.next after.place in
-      rw st.set_is
-      (sym (map-append event (option_to_list page) later) ∙ ap (map event) bit.left)
+      rw st.set_is (sym (map-append event (option_to_list page) later) ∙ ap (map event) bit.left)
 
 -- bits of a frame that is under way are left
 within_frame : (r : PagingReceiver) → IsSoundPaging r → r.place < 192
@@ -70,8 +66,7 @@ module _ (t : Tuning) (mark : Option Mark) (heard : List Sample) where
   pub pages_quiet : (receiver : Option PagingReceiver) → HearsPages t mark receiver heard →
       ¬ IsSomeAnd receiver (λ r. IsDueAt t.count r.received.clock) →
       (samples : List Sample) (n end : ℕ) → length heard < n → n < end →
-      ForSome receiver (λ r. end ≤ r.received.clock.end) →
-      pages_if_marked t t.paging mark samples n ≡ []
+      ForSome receiver (λ r. end ≤ r.received.clock.end) → pages_if_marked t t.paging mark samples n ≡ []
   pages_quiet None following none samples n end past before ends = unpaged t mark following samples n
   pages_quiet (Some r) following none samples n end past before ends =
       let is = following.hears.receives.clocked in
@@ -88,8 +83,7 @@ module _ (t : Tuning) (mark : Option Mark) (heard : List Sample) where
       ForSome receiver (λ r. end ≤ r.received.clock.end) →
       GoesOn (paged_after t mark) (λ samples. paging_events_left t mark samples receiver) heard end
   pages_go None following none end ends =
-      never (paged_after t mark)
-      (λ samples n. ap (map (page_event n)) (unpaged t mark following samples n)) heard end
+      never (paged_after t mark) (λ samples n. ap (map (page_event n)) (unpaged t mark following samples n)) heard end
   pages_go (Some r) following none end ends =
       let is = following.hears.receives.clocked in
       let start = pages.idle following.hears none in
@@ -102,13 +96,11 @@ module _ (t : Tuning) (mark : Option Mark) (heard : List Sample) where
   -- more samples, up to the end of the frame that comes next
   pub pages_more : (receiver : Option PagingReceiver) → HearsPages t mark receiver heard →
       ¬ IsSomeAnd receiver (λ r. IsDueAt t.count r.received.clock) → (more : List Sample) →
-      length heard + length more ≤ t.count →
-      ForSome receiver (λ r. length heard + length more ≤ r.received.clock.end) →
+      length heard + length more ≤ t.count → ForSome receiver (λ r. length heard + length more ≤ r.received.clock.end) →
       HearsPages t mark receiver (heard ++ more)
   pages_more None following none more within ends = following
   pages_more (Some r) following none more within ends =
-      follows_on following r (heard ++ more)
-      (pages.hears_more following.hears more none within (ends r refl))
+      follows_on following r (heard ++ more) (pages.hears_more following.hears more none within (ends r refl))
 
 -- A receiver that is opened now has heard nothing, with no message left to tell: none of its frames
 -- is due, and the first one ends after the mark, which lies after all samples so far.

@@ -27,8 +27,7 @@ hears_none t channel m r heard receives next tuned none framed =
     let clock = r.received.clock in
     let own = frame_own_bits t.count heard s clock.next in
     let empty : paging_bits_before t.count heard s clock.next ≡ [] =
-    bits_before_none t.count heard s clock.low clock.next receives.clocked.timed
-    (omega (arith, next)) in
+    bits_before_none t.count heard s clock.low clock.next receives.clocked.timed (omega (arith, next)) in
     record {
       receives = receives;
       tuned = tuned;
@@ -48,10 +47,8 @@ module _ {t : Tuning} {channel : ℕ} {m : Mark} {r : PagingReceiver} {heard : L
 
   -- The receiver has heard more samples, up to the end of its next frame: no frame is due, so none
   -- is under way, and the bits of the frames before, which are known, stay the same.
-  pub hears_more : (more : List Sample) → ¬ IsDueAt t.count r.received.clock →
-      length heard + length more ≤ t.count →
-      length heard + length more ≤ r.received.clock.end →
-      HearsPaging t channel m r (heard ++ more)
+  pub hears_more : (more : List Sample) → ¬ IsDueAt t.count r.received.clock → length heard + length more ≤ t.count →
+      length heard + length more ≤ r.received.clock.end → HearsPaging t channel m r (heard ++ more)
   hears_more more none within most =
       let s = paging_stream t channel m in
       let next : ℕ = r.received.clock.next in
@@ -70,8 +67,7 @@ module _ {t : Tuning} {channel : ℕ} {m : Mark} {r : PagingReceiver} {heard : L
 
   -- one frame more has come
   pub hears_come : (received : Continued) → ¬ IsDueAt t.count r.received.clock →
-      received.clock.next ≡ r.received.clock.next →
-      Receives t.count (paging_stream t channel m) received heard →
+      received.clock.next ≡ r.received.clock.next → Receives t.count (paging_stream t channel m) received heard →
       HearsPaging t channel m (record r { received = received }) heard
   hears_come received none next receives = record {
     receives = receives;
@@ -92,18 +88,15 @@ module _ {t : Tuning} {channel : ℕ} {m : Mark} {r : PagingReceiver} {heard : L
     -- With the bit that is heard the paging channel's bits are those of the frames before and of
     -- this frame up to there, since it is the frame's own bit at this place.
     taken_bits : paging_bits_before t.count heard (paging_stream t channel m) r.received.clock.next
-        ++ take r.place
-        (frame_own_bits t.count heard (paging_stream t channel m) r.received.clock.next)
-        ++ bit ∷ []
-        ≡ bits_up_to t.count heard (paging_stream t channel m) r.received.clock.next r.place
+        ++ take r.place (frame_own_bits t.count heard (paging_stream t channel m) r.received.clock.next)
+        ++ bit ∷ [] ≡ bits_up_to t.count heard (paging_stream t channel m) r.received.clock.next r.place
     unfolding bits_up_to
     taken_bits =
         let s = paging_stream t channel m in
         let own = frame_own_bits t.count heard s r.received.clock.next in
         let before = paging_bits_before t.count heard s r.received.clock.next in
         append_assoc before (take r.place own) (bit ∷ [])
-        ∙ ap (λ (bits : List Bool). before ++ bits)
-        (sym (taken_more own r.place bit (rw own_is at read)))
+        ∙ ap (λ (bits : List Bool). before ++ bits) (sym (taken_more own r.place bit (rw own_is at read)))
 
     stands_on : HalfFramesStandFor framer
         (bits_up_to t.count heard (paging_stream t channel m) r.received.clock.next r.place)
@@ -125,10 +118,8 @@ module _ {t : Tuning} {channel : ℕ} {m : Mark} {r : PagingReceiver} {heard : L
 
     -- The message that the bit completes is the first of those left: its frame is the next one known,
     -- so its messages come first, and among them that of this bit before those of the bits after.
-    left_here : (rest : List SpelledPage) →
-        rest ≡ pages_from t channel m heard r.received.clock.next (r.place + 1)
-        ++ pages_left t channel m heard (r.received.clock.next + 1) 0 →
-        option_to_list page ++ rest
+    left_here : (rest : List SpelledPage) → rest ≡ pages_from t channel m heard r.received.clock.next (r.place + 1)
+        ++ pages_left t channel m heard (r.received.clock.next + 1) 0 → option_to_list page ++ rest
         ≡ pages_left t channel m heard r.received.clock.next r.place
     left_here rest rest_is =
         let is = st.receives.clocked in
@@ -142,8 +133,7 @@ module _ {t : Tuning} {channel : ℕ} {m : Mark} {r : PagingReceiver} {heard : L
         (pages_from t channel m heard next (r.place + 1)) others))
 
     -- a bit that isn't its frame's last
-    hears_inside : r.place + 1 < length frame →
-        HearsBit t channel m heard r
+    hears_inside : r.place + 1 < length frame → HearsBit t channel m heard r
         (record r { framer = framer; frame = frame; place = r.place + 1 }) page
     unfolding bits_up_to
     hears_inside more =
@@ -163,8 +153,7 @@ module _ {t : Tuning} {channel : ℕ} {m : Mark} {r : PagingReceiver} {heard : L
 
     -- With its last bit the frame has been heard: all of its bits are taken, so they join those of
     -- the frames before, and it has no message left after the one that this bit may complete.
-    hears_last : length frame ≤ r.place + 1 →
-        HearsBit t channel m heard r
+    hears_last : length frame ≤ r.place + 1 → HearsBit t channel m heard r
         (record r {
           received = record r.received { clock = clock_after_frame r.received.clock };
           framer = framer;
@@ -179,8 +168,7 @@ module _ {t : Tuning} {channel : ℕ} {m : Mark} {r : PagingReceiver} {heard : L
         let own = frame_own_bits t.count heard s next in
         let before = paging_bits_before t.count heard s next in
         let later = frame_own_bits t.count heard s (next + 1) in
-        let whole : take (r.place + 1) own ≡ own =
-        take_all (r.place + 1) own (rw own_is at last) in
+        let whole : take (r.place + 1) own ≡ own = take_all (r.place + 1) own (rw own_is at last) in
         let more = bits_before_more t.count heard s next (due_inside is d) in
         let none = pages_after_last t channel m heard next (r.place + 1) (rw own_is at last) in
         let others = pages_left t channel m heard (next + 1) 0 in
@@ -196,16 +184,13 @@ module _ {t : Tuning} {channel : ℕ} {m : Mark} {r : PagingReceiver} {heard : L
         }
 
     pub hears_bit : (after : PagingReceiver) →
-        after ≡ bit_passed (record r { framer = framer; frame = frame }) →
-        HearsBit t channel m heard r after page
+        after ≡ bit_passed (record r { framer = framer; frame = frame }) → HearsBit t channel m heard r after page
     hears_bit after after_is =
         elim (cases_lt (r.place + 1) (length frame)) [
           | inl more ↦
-              let e : nat_lt (r.place + 1) (length frame) ≡ true =
-              lt-ltb (r.place + 1) (length frame) more in
+              let e : nat_lt (r.place + 1) (length frame) ≡ true = lt-ltb (r.place + 1) (length frame) more in
               rw (after_is, e) (hears_inside more)
           | inr last ↦
-              let e : nat_lt (r.place + 1) (length frame) ≡ false =
-              le-ltb (r.place + 1) (length frame) last in
+              let e : nat_lt (r.place + 1) (length frame) ≡ false = le-ltb (r.place + 1) (length frame) last in
               rw (after_is, e) (hears_last last)
         ]

@@ -24,11 +24,9 @@ module _ {r : TrafficReceiver} (is : IsSoundTraffic r) where
       }
 
   -- a frame's soft values, and on to the frame after it, in a file
-  pub sound_taken : (softs : List ℤ) (power : PowerSofts) →
-      sum_by unsigned_abs softs ≤ 3 * 2 ^ 60 → power.count ≤ 6 →
+  pub sound_taken : (softs : List ℤ) (power : PowerSofts) → sum_by unsigned_abs softs ≤ 3 * 2 ^ 60 → power.count ≤ 6 →
       r.frames.clock.have ≡ r.frames.clock.next → r.frames.clock.end ≤ 2 ^ 26 →
-      IsSoundReceiver (frame_taken softs power r).frames →
-      IsSoundTraffic (frame_taken softs power r)
+      IsSoundReceiver (frame_taken softs power r).frames → IsSoundTraffic (frame_taken softs power r)
   sound_taken softs power small few idle early frames =
       let ends = is.frames.ends in
       let low = (close_ends r.frames.clock.start r.frames.fingers is.frames.close).0 in
@@ -56,8 +54,7 @@ waits_tuned start end n fingers close ends few =
 -- after a moment the active pilots' fingers are close
 pub passed_close : {t : Tuning} {traffic : Traffic} {m mark : Mark} {r : TrafficReceiver} →
     IsTunedIn t traffic m mark r.phase r.near r.frames.scrambling → IsSoundTraffic r →
-    (k : SetsKeeper) → k.mark ≡ m → 1 ≤ length (legs_of k.mark k.sets) →
-    legs_close (legs_of k.mark k.sets) ≡ true →
+    (k : SetsKeeper) → k.mark ≡ m → 1 ≤ length (legs_of k.mark k.sets) → legs_close (legs_of k.mark k.sets) ≡ true →
     AreClose (all_fingers t.phase t.deltas (legs_of m k.sets))
 passed_close {t} {r = r} tuned is k mark some close =
     let legs = legs_of k.mark k.sets in

@@ -45,8 +45,7 @@ steps_joined {one} {two} {three} {samples} {n} m k event sum before next =
     let on : (t : Tuning) (heard : List Sample) (given : List Event) → StandsFor t one heard given →
     StandsFor t two (heard ++ take n samples) given =
     λ t heard given st.
-    subst (StandsFor t two (heard ++ take n samples)) (append-nil given)
-    (before.stands t heard given st) in
+    subst (StandsFor t two (heard ++ take n samples)) (append-nil given) (before.stands t heard given st) in
     rw (← sum) (record {
       most = omega (arith, before.most, next.most, length-drop n samples);
       room = omega (arith, before.room, next.room);

@@ -89,14 +89,12 @@ module _ {t : Tuning} {count : ℕ} {check : CheckForm} {pilot : Option Best} {r
         let left = sync_given sync_waits (omega (arith, taken, sound.waits)) in
         let others = (goes_on st.followed sound.follows others_wait (length heard + 1)
         (ends_later (length heard) followed others_wait_here)).given (omega arith) in
-        let all : given ++ ([] ++ ([] ++ [])) ≡ events t heard =
-        rw (ap pilot_left is_told, left, others) at st.told in
+        let all : given ++ ([] ++ ([] ++ [])) ≡ events t heard = rw (ap pilot_left is_told, left, others) at st.told in
         sym (append-nil given) ∙ all
 
     -- The handset stands for more samples, up to the end of the frame that comes next: nothing is
     -- due, so all events were given, and the events that the samples add are what is left now.
-    pub stands_taken : (more : List Sample) (kept : Held) → 0 < length more →
-        length heard + length more ≤ count →
+    pub stands_taken : (more : List Sample) (kept : Held) → 0 < length more → length heard + length more ≤ count →
         length heard + length more ≤ sync.received.clock.end →
         EndFrom (length heard + length more) followed → HoldsLast kept (heard ++ more) →
         Stands t count check pilot kept sync followed (heard ++ more) given
@@ -154,8 +152,7 @@ module _ {t : Tuning} {count : ℕ} {check : CheckForm} {pilot : Option Best} {r
   -- soft values of frames have come
   pub stands_come : (after : SyncReceiver) (others : Followed) → HearsSync t after heard →
       after.received.clock.next ≡ sync.received.clock.next → after.mark ≡ sync.mark →
-      HearsFollowed t others sync.mark heard →
-      followed_events_left t sync.mark heard others
+      HearsFollowed t others sync.mark heard → followed_events_left t sync.mark heard others
       ≡ followed_events_left t sync.mark heard followed →
       Stands t count check pilot ring after others heard (given ++ [])
   stands_come after others hears next set follows left =
@@ -165,20 +162,17 @@ module _ {t : Tuning} {count : ℕ} {check : CheckForm} {pilot : Option Best} {r
 
   -- a frame of the sync channel that is heard leaves the mark, or sets one that lies after
   pub heard_sets : (after : SyncReceiver) → HearsSync t after heard → IsSoundSync after →
-      IsDueAt t.count sync.received.clock →
-      after.received.clock.next ≡ sync.received.clock.next + 1 →
+      IsDueAt t.count sync.received.clock → after.received.clock.next ≡ sync.received.clock.next + 1 →
       SetsMark (length heard) sync.mark after.mark
   heard_sets after hears sound due next = by_mark sync.mark refl
     where
       -- A mark that is set stays as it was. Where none was set before and one is now, the frame
       -- just heard completed its message, and such a mark lies after the samples within which the
       -- message is known.
-      by_mark : (before : Option Mark) → sync.mark ≡ before →
-          SetsMark (length heard) before after.mark
+      by_mark : (before : Option Mark) → sync.mark ≡ before → SetsMark (length heard) before after.mark
       by_mark (Some m) e =
           let before = sym st.sync.marked ∙ e in
-          let more = mark_before_more t heard sync.received.clock.next
-          (due_inside st.sync.receives.clocked due) in
+          let more = mark_before_more t heard sync.received.clock.next (due_inside st.sync.receives.clocked due) in
           inl (rw (hears.marked, next, more, before) refl)
       by_mark None e =
           inr (
@@ -221,6 +215,5 @@ module _ {t : Tuning} {count : ℕ} {check : CheckForm} {pilot : Option Best} {r
       ≡ followed_events_left t sync.mark heard followed →
       Stands t count check pilot ring sync others heard (given ++ event_list event)
   stands_followed others event told none waits unset follows left =
-      stands_on pilot sync others event st.early st.sync follows
-      (rw unset (sym (or-false (is_some sync.mark))))
+      stands_on pilot sync others event st.early st.sync follows (rw unset (sym (or-false (is_some sync.mark))))
       (rw (told, sync_given (rw st.count_is at none) waits) left)

@@ -11,8 +11,7 @@ either None n = refl
 either (Some m) n = refl
 
 -- the first bit of a frame
-pub starts_is : (bits : List Bool) (begins : Bool) → slice_get bits 0 ≡ Some begins →
-    begins ≡ (piece bits).starts
+pub starts_is : (bits : List Bool) (begins : Bool) → slice_get bits 0 ≡ Some begins → begins ≡ (piece bits).starts
 starts_is [] begins read = absurd (cc)
 starts_is (b ∷ bits) begins read = cc
 
@@ -38,8 +37,7 @@ hears_new t r receives next framed frames none =
 module _ {t : Tuning} {r : SyncReceiver} {heard : List Sample} (st : HearsSync t r heard) where
   -- The receiver has heard more samples, up to the end of its next frame: the frames before that
   -- one are known, so they give the same bits and the same mark as before.
-  pub hears_more : (more : List Sample) → ¬ IsDueAt t.count r.received.clock →
-      length heard + length more ≤ t.count →
+  pub hears_more : (more : List Sample) → ¬ IsDueAt t.count r.received.clock → length heard + length more ≤ t.count →
       length heard + length more ≤ r.received.clock.end → HearsSync t r (heard ++ more)
   unfolding frames_open
   hears_more more none within most =
@@ -55,8 +53,7 @@ module _ {t : Tuning} {r : SyncReceiver} {heard : List Sample} (st : HearsSync t
       }
 
   -- one frame more has come
-  pub hears_come : (received : Continued) →
-      received.clock.next ≡ r.received.clock.next →
+  pub hears_come : (received : Continued) → received.clock.next ≡ r.received.clock.next →
       Receives t.count (sync_stream t) received heard →
       HearsSync t (record r { received = received }) heard
   hears_come received next receives = record {

@@ -12,8 +12,7 @@ use Rattle.mobile_core.specs.declared.soft_handoff.SoftHandoff.{SoftHandoff}
 
 -- What is told by n samples leaves the mark, or sets one that lies after them.
 abbrev pub SetsMark : ℕ → Option Mark → Option Mark → Type 0
-SetsMark n before after =
-    (after ≡ before) ⊎ ((before ≡ None) × ForSome after (λ m. n < m.sample))
+SetsMark n before after = (after ≡ before) ⊎ ((before ≡ None) × ForSome after (λ m. n < m.sample))
 
 -- THE PAGING CHANNEL
 -- whether it is heard after a mark that may be set: its PRAT has to stand for a rate
@@ -33,15 +32,13 @@ pub record FollowsPages (t : Tuning) (mark : Option Mark) (r : PagingReceiver)
   pub hears : HearsPaging t t.paging set r heard
 
 -- the messages of these samples' end that it has still to give, and their events
-abbrev pub pages_left_after : Tuning → Option Mark → List Sample → PagingReceiver →
-    List SpelledPage
+abbrev pub pages_left_after : Tuning → Option Mark → List Sample → PagingReceiver → List SpelledPage
 pages_left_after t None samples r = []
 pages_left_after t (Some m) samples r =
     pages_left t t.paging m samples r.received.clock.next r.place
 
 abbrev pub paging_left : Tuning → Option Mark → List Sample → PagingReceiver → List Event
-paging_left t mark samples r =
-    map (page_event (length samples)) (pages_left_after t mark samples r)
+paging_left t mark samples r = map (page_event (length samples)) (pages_left_after t mark samples r)
 
 -- how many bits of the frames that have come haven't been heard, where each frame counts as 192
 abbrev pub paging_due : PagingReceiver → ℕ

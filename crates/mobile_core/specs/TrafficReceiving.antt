@@ -34,12 +34,7 @@ beside sets receiver = record { receiver = receiver; sets = sets }
 
 -- at the mark they are new, and nothing has passed
 abbrev pub first_keeper : Mark → ℕ → SetsKeeper
-first_keeper m row = record {
-  sets = new_standing m.pilot row;
-  mark = m;
-  passed = 0;
-  due = false;
-}
+first_keeper m row = record { sets = new_standing m.pilot row; mark = m; passed = 0; due = false }
 
 -- THE EVENTS THAT ARE LEFT
 -- The events that a receiver has not returned yet, from what is kept after each moment: the message
@@ -124,8 +119,7 @@ pub record HearsUpTo (until : ℕ) (t : Tuning) (traffic : Traffic) (m : Mark) (
   pub frames : HasHeard t traffic m (legs_by traffic m kept) heard r.receiver.frames.clock.next
       r.receiver.frames.clock.have r.receiver.frames.clock.start r.receiver.softs r.receiver.power
       r.receiver.framer
-  pub close : (i : ℕ) →
-      AreClose (all_fingers t.phase t.deltas (legs_of m (kept i)))
+  pub close : (i : ℕ) → AreClose (all_fingers t.phase t.deltas (legs_of m (kept i)))
   pub legs_are : moment_of traffic r.receiver.frames.clock.have < until →
       r.receiver.legs ≡ legs_by traffic m kept r.receiver.frames.clock.have
   pub pilots_are : legs_of m r.sets.sets ≡ legs_of m (kept r.sets.passed)
@@ -141,13 +135,11 @@ abbrev pub HearsWith : Tuning → Traffic → Mark → SoftHandoff → List Samp
     (ℕ → Standing) → Type 0
 HearsWith t traffic m r = HearsUpTo (r.sets.passed + 1) t traffic m r
 
-abbrev pub HearsTraffic : Tuning → Traffic → Mark → SoftHandoff → List Sample → List Event →
-    Type 0
+abbrev pub HearsTraffic : Tuning → Traffic → Mark → SoftHandoff → List Sample → List Event → Type 0
 HearsTraffic t traffic m r heard pages =
     HearsWith t traffic m r heard pages (kept_in t traffic m r heard)
 
-abbrev pub HearsUntuned : Tuning → Traffic → Mark → SoftHandoff → List Sample → List Event →
-    Type 0
+abbrev pub HearsUntuned : Tuning → Traffic → Mark → SoftHandoff → List Sample → List Event → Type 0
 HearsUntuned t traffic m r heard pages =
     HearsUpTo r.sets.passed t traffic m r heard pages (kept_in t traffic m r heard)
 

@@ -30,8 +30,7 @@ by_type P one three four others k =
 pub passes : (test : MessageType → Bool) → list_all test own_types ≡ true →
     ((k : ℕ) → test (other_type k) ≡ true) → (k : ℕ) → test (type_in own_types k) ≡ true
 passes test own others k = row_passes own_types own where
-  row_passes : (types : List MessageType) → list_all test types ≡ true →
-      test (type_in types k) ≡ true
+  row_passes : (types : List MessageType) → list_all test types ≡ true → test (type_in types k) ≡ true
   row_passes [] all = others k
   row_passes (row ∷ types) all =
       let both = and_parts (test row) (list_all test types) all in
@@ -41,8 +40,7 @@ passes test own others k = row_passes own_types own where
       ]
 
 -- a type that isn't in the table
-unlisted : (types : List MessageType) (k : ℕ) → has_type types k ≡ false →
-    type_in types k ≡ other_type k
+unlisted : (types : List MessageType) (k : ℕ) → has_type types k ≡ false → type_in types k ≡ other_type k
 unlisted [] k none = refl
 unlisted (row ∷ types) k none =
     elim (cases_Bool (k == row.kind)) [
@@ -50,14 +48,12 @@ unlisted (row ∷ types) k none =
       | inr f ↦ rw f (unlisted types k (sym (ap (λ b. b || has_type types k) f) ∙ none))
     ]
 
-no_own_type : (k : ℕ) → (k == 1) ≡ false → (k == 3) ≡ false → (k == 4) ≡ false →
-    has_type own_types k ≡ false
+no_own_type : (k : ℕ) → (k == 1) ≡ false → (k == 3) ≡ false → (k == 4) ≡ false → has_type own_types k ≡ false
 no_own_type k a b d =
     let none : ((k == 1) || ((k == 3) || ((k == 4) || false))) ≡ false = rw (a, b, d) refl in
     none
 
-other_row : (k : ℕ) → (k == 1) ≡ false → (k == 3) ≡ false → (k == 4) ≡ false →
-    other_type k ≡ type_in own_types k
+other_row : (k : ℕ) → (k == 1) ≡ false → (k == 3) ≡ false → (k == 4) ≡ false → other_type k ≡ type_in own_types k
 other_row k a b d = sym (unlisted own_types k (no_own_type k a b d))
 
 pub lawful : (k : ℕ) → is_lawful (paging_shape_of k) ≡ true
@@ -86,8 +82,7 @@ spelled_by (messages.Other m) is =
 other_made_again : (c : Contents) (k : ℕ) → has_type own_types k ≡ false →
     message_from k c ≡ messages.Other (other_from k c)
 other_made_again c =
-    by_type
-    (λ k. has_type own_types k ≡ false → message_from k c ≡ messages.Other (other_from k c))
+    by_type (λ k. has_type own_types k ≡ false → message_from k c ≡ messages.Other (other_from k c))
     (λ none. absurd (not_both none refl)) (λ none. absurd (not_both none refl))
     (λ none. absurd (not_both none refl)) (λ k a b d none. rw (a, b, d) refl)
 
@@ -111,16 +106,14 @@ unfolding places
 neighbor_back c is =
     let values : get_or c.fixed 0 0 ∷ get_or c.fixed 1 0 ∷ get_or c.fixed 2 0 ∷ [] ≡ c.fixed =
     sym (map-places-all (λ k. get_or c.fixed k 0) c.fixed 3 0 is.fixed.all (λ k lt. refl)) in
-    rw (values, both_columns 3 9 c.columns is.columns)
-    (plain_back neighbor_widths (3 ∷ 9 ∷ []) 0 (Some 7) c is)
+    rw (values, both_columns 3 9 c.columns is.columns) (plain_back neighbor_widths (3 ∷ 9 ∷ []) 0 (Some 7) c is)
 
 channel_back : (c : Contents) → IsOf channel_shape c → channel_contents (channels_from c) ≡ c
 unfolding places
 channel_back c is =
     let values : get_or c.fixed 0 0 ∷ get_or c.fixed 1 0 ∷ [] ≡ c.fixed =
     sym (map-places-all (λ k. get_or c.fixed k 0) c.fixed 2 0 is.fixed.all (λ k lt. refl)) in
-    rw (values, first_column 11 c.columns is.columns)
-    (plain_back channel_widths (11 ∷ []) 0 (Some 7) c is)
+    rw (values, first_column 11 c.columns is.columns) (plain_back channel_widths (11 ∷ []) 0 (Some 7) c is)
 
 -- a message that is made of contents
 abbrev MadeOf : ℕ → Type 0
@@ -139,22 +132,16 @@ other_made k a b d c is =
     let made : message_from k c ≡ messages.Other (other_from k c) = rw (a, b, d) refl in
     subst (λ (m : PagingMessage). IsPagingMessage m × (body_of k (paging_shape_of k) c ≡ message_body m))
     (sym made) (
-      record {
-        spelled = subst (IsSpelled k other_shape) back said;
-        other = no_own_type k a b d;
-      },
+      record { spelled = subst (IsSpelled k other_shape) back said; other = no_own_type k a b d },
       ap (body_of k (paging_shape_of k)) back,
     )
 
 pub made_of : (k : ℕ) → MadeOf k
 unfolding message_body
 made_of =
-    by_type MadeOf
-    (λ c is. made_so 1 system_shape c (system_contents (system_from c)) (system_back c is.said) is)
-    (λ c is. made_so 3 neighbor_shape c (neighbor_contents (neighbors_from c))
-    (neighbor_back c is.said) is)
-    (λ c is. made_so 4 channel_shape c (channel_contents (channels_from c))
-    (channel_back c is.said) is)
+    by_type MadeOf (λ c is. made_so 1 system_shape c (system_contents (system_from c)) (system_back c is.said) is)
+    (λ c is. made_so 3 neighbor_shape c (neighbor_contents (neighbors_from c)) (neighbor_back c is.said) is)
+    (λ c is. made_so 4 channel_shape c (channel_contents (channels_from c)) (channel_back c is.said) is)
     other_made
 
 -- READ BY PLACES
@@ -169,8 +156,7 @@ plain =
     s ≡ plain_shape s.fixed s.records s.least s.most) (other_row k a b d) refl)
 
 -- what is read by a layout is what stands at the places of the fields
-pub placed : (bits : List Bool) (k : ℕ) →
-    mapped (message_from k) (reading (paging_shape_of k) bits)
+pub placed : (bits : List Bool) (k : ℕ) → mapped (message_from k) (reading (paging_shape_of k) bits)
     ≡ cond (admits k (8 + length bits)) (Some (message_at k bits)) None
 unfolding admits message_at
 placed bits k =
@@ -189,8 +175,7 @@ admits_short k count short = rw (lt-leb 8 count short) refl
 -- the offsets of neighbors
 pub pns_below : (m : NeighborFields) → IsNeighborList m → All (λ p. p < 512) m.pns
 pns_below m is k d within =
-    let paired : length m.configs ≡ length m.pns =
-    sym (ap (λ (ls : List ℕ). get_or ls 1 0) is.said.columns) in
+    let paired : length m.configs ≡ length m.pns = sym (ap (λ (ls : List ℕ). get_or ls 1 0) is.said.columns) in
     let fit = record_fit (3 ∷ 9 ∷ []) (length m.configs) k (m.configs ∷ m.pns ∷ [] ∷ [])
     (omega (arith, within, paired)) is.said.records in
     omega (arith, get_or_default m.pns k d 0 within, fit.1.0)

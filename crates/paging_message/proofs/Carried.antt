@@ -32,8 +32,7 @@ all_numbers_off o g (k ∷ ks) =
     ∙ ap (λ (l : List (List Bool)). g k ++ l) (all_numbers_off o g ks)
 
 -- the bits of one half-frame more
-pub stream-next : (pieces : List Piece) (p : Piece) →
-    stream (pieces ++ p ∷ []) ≡ stream pieces ++ bits_of p
+pub stream-next : (pieces : List Piece) (p : Piece) → stream (pieces ++ p ∷ []) ≡ stream pieces ++ bits_of p
 stream-next pieces p =
     flat_map-append bits_of pieces (p ∷ [])
     ∙ ap (λ (l : List Bool). stream pieces ++ l) (append-nil (bits_of p))
@@ -43,8 +42,7 @@ half_frames_end : (size : ℕ) (before : List Piece) (o : ℕ) (pieces : List Pi
     AreWhole size before → AreWhole size pieces →
     ended_by_bits size (stream before) (stream pieces) ≡ unnumbered (scan size before o pieces)
 half_frames_end size before o [] large are more =
-    flat_map-zero (λ i. option_to_list
-    (half_frame_capsule_ending size (stream before ++ take (i + 1) [])))
+    flat_map-zero (λ i. option_to_list (half_frame_capsule_ending size (stream before ++ take (i + 1) [])))
 half_frames_end size before o (p ∷ pieces) large are more =
     let told = told_in size before p in
     let next = before ++ p ∷ [] in
@@ -62,11 +60,9 @@ half_frames_end size before o (p ∷ pieces) large are more =
 -- ---- what a run ends
 
 -- All bits of a run end just its capsules.
-run_ends : (size at : ℕ) (cs : List (List Bool)) (bits : ℕ) → AreChained size at cs →
-    length (joined cs 0) ≤ bits →
+run_ends : (size at : ℕ) (cs : List (List Bool)) (bits : ℕ) → AreChained size at cs → length (joined cs 0) ≤ bits →
     flat_map (λ m. option_to_list (ended_of cs (suc m))) (places bits) ≡ cs
-run_ends size at [] bits chained room =
-    flat_map-nothing (λ m. option_to_list (ended_of [] (suc m))) bits (λ k lt. refl)
+run_ends size at [] bits chained room = flat_map-nothing (λ m. option_to_list (ended_of [] (suc m))) bits (λ k lt. refl)
 run_ends size at (c ∷ cs) bits chained room =
     let g = λ (m : ℕ). option_to_list (ended_of (c ∷ cs) (suc m)) in
     let n = length c in
@@ -89,8 +85,7 @@ run_ends size at (c ∷ cs) bits chained room =
 
 -- so do all half-frames of runs, whatever was heard before
 runs_end : (size : ℕ) (before : List Piece) (o : ℕ) (runs : List (List (List Bool))) → 0 < size →
-    AreChainedRuns size runs →
-    unnumbered (scan size before o (runs_pieces size runs)) ≡ flat_map (λ run. run) runs
+    AreChainedRuns size runs → unnumbered (scan size before o (runs_pieces size runs)) ≡ flat_map (λ run. run) runs
 runs_end size before o [] large are = refl
 runs_end size before o (run ∷ runs) large are =
     let own = run_pieces size run in
@@ -101,16 +96,13 @@ runs_end size before o (run ∷ runs) large are =
     ∙ map-append (λ (p : ℕ × List Bool). p.1) (scan size before o own) rest
     ∙ ap (λ (l : List (List Bool)). l ++ unnumbered rest)
     (ap unnumbered (run_scanned size before o run w large are.0 (omega arith))
-    ∙ all_numbers_off (λ m. (size * o + m) / size) (λ m. option_to_list (ended_of run (suc m)))
-    (places (size * w))
+    ∙ all_numbers_off (λ m. (size * o + m) / size) (λ m. option_to_list (ended_of run (suc m))) (places (size * w))
     ∙ run_ends size 0 run (size * w) are.0 (omega (arith, fills size (length (joined run 0)) large)))
-    ∙ ap (λ (l : List (List Bool)). run ++ l)
-    (runs_end size (before ++ own) (o + length own) runs large are.2)
+    ∙ ap (λ (l : List (List Bool)). run ++ l) (runs_end size (before ++ own) (o + length own) runs large are.2)
 
 -- Each half-frame of a run is full: the run's bits are filled with zeros up to whole half-frames,
 -- so from the beginning of each one on there are `size` bits to take.
-pub run_pieces_whole : (size : ℕ) (cs : List (List Bool)) → 0 < size →
-    AreWhole size (run_pieces size cs)
+pub run_pieces_whole : (size : ℕ) (cs : List (List Bool)) → 0 < size → AreWhole size (run_pieces size cs)
 run_pieces_whole size cs large =
     let bits = run_bits size cs in
     let w = run_width size cs in
@@ -119,11 +111,9 @@ run_pieces_whole size cs large =
     (λ j lt.
     let room : size * suc j ≤ size * w = mul-le-mul_left size lt in
     let e : size * suc j ≡ size * j + size = omega arith in
-    length-take-le size (drop (size * j) bits)
-    (omega (arith, room, e, long, length-drop (size * j) bits)))
+    length-take-le size (drop (size * j) bits) (omega (arith, room, e, long, length-drop (size * j) bits)))
 
-runs_whole : (size : ℕ) (runs : List (List (List Bool))) → 0 < size →
-    AreWhole size (runs_pieces size runs)
+runs_whole : (size : ℕ) (runs : List (List (List Bool))) → 0 < size → AreWhole size (runs_pieces size runs)
 runs_whole size [] large = tt
 runs_whole size (run ∷ runs) large =
     whole-append size (run_pieces size run) (runs_pieces size runs) (run_pieces_whole size run large)
@@ -133,8 +123,7 @@ runs_whole size (run ∷ runs) large =
 
 -- their runs have just their capsules
 capsules_put : (run : List (List Bool)) (puts : List laying.Put) →
-    flat_map (λ (r : List (List Bool)). r) (runs_put run puts)
-    ≡ run ++ map (λ (p : laying.Put). p.capsule) puts
+    flat_map (λ (r : List (List Bool)). r) (runs_put run puts) ≡ run ++ map (λ (p : laying.Put). p.capsule) puts
 capsules_put run [] = refl
 capsules_put run (p ∷ puts) =
     let capsules = map (λ (q : laying.Put). q.capsule) puts in
@@ -163,8 +152,7 @@ nothing_framed size large =
 -- The half-frames of laid capsules end just these capsules, in order: what is laid is the
 -- half-frames of the runs one after another, from the first capsule's on, and the half-frames of a
 -- run end its own capsules. Where nothing is laid there is no half-frame, and nothing ends.
-pub laid_is_carried : (size : ℕ) (puts : List laying.Put) → 2 ≤ size →
-    laying.AreLawful size laying.nothing_laid puts →
+pub laid_is_carried : (size : ℕ) (puts : List laying.Put) → 2 ≤ size → laying.AreLawful size laying.nothing_laid puts →
     capsules_in size (laying.half_frames_of size (laying.laid_all size laying.nothing_laid puts))
     ≡ map (λ (p : laying.Put). p.capsule) puts
 laid_is_carried size [] large lawful =

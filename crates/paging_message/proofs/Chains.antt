@@ -10,16 +10,14 @@ use Rattle.quality_bits.proofs.Opened as opened
 abbrev pub is_there : List Bool → Bool
 is_there bits = is_stated bits && nat_le (stated_bits bits) (length bits)
 
-is_there_parts : (bits : List Bool) → is_there bits ≡ true →
-    (is_stated bits ≡ true) × (stated_bits bits ≤ length bits)
+is_there_parts : (bits : List Bool) → is_there bits ≡ true → (is_stated bits ≡ true) × (stated_bits bits ≤ length bits)
 is_there_parts bits h = let both =
     and_parts (is_stated bits) (nat_le (stated_bits bits) (length bits)) h in (
       both.0,
       leb-true (stated_bits bits) (length bits) both.1,
     )
 
-from_there : (bits : List Bool) → is_stated bits ≡ true → stated_bits bits ≤ length bits →
-    is_there bits ≡ true
+from_there : (bits : List Bool) → is_stated bits ≡ true → stated_bits bits ≤ length bits → is_there bits ≡ true
 from_there bits s l = let e = le-leb (stated_bits bits) (length bits) l in rw (s, e) refl
 
 unstated : (bits : List Bool) → is_stated bits ≡ false → is_there bits ≡ false
@@ -41,17 +39,14 @@ ends-short fuel size count bits h = rw h refl
 ends-exact : (fuel size count : ℕ) (bits : List Bool) → is_there bits ≡ true →
     length bits ≤ stated_bits bits → ends_chain (suc fuel) size count bits ≡ Some bits
 unfolding ends_chain
-ends-exact fuel size count bits h l = let e =
-    le-leb (length bits) (stated_bits bits) l in rw (h, e) refl
+ends-exact fuel size count bits h l = let e = le-leb (length bits) (stated_bits bits) l in rw (h, e) refl
 
-ends-past : (fuel size count : ℕ) (bits : List Bool) → is_there bits ≡ true →
-    stated_bits bits < length bits →
+ends-past : (fuel size count : ℕ) (bits : List Bool) → is_there bits ≡ true → stated_bits bits < length bits →
     ends_chain (suc fuel) size count bits
     ≡ cond (nat_le 8 (bits_left size (count + stated_bits bits)))
     (ends_chain fuel size (count + stated_bits bits) (drop (stated_bits bits) bits)) None
 unfolding ends_chain
-ends-past fuel size count bits h l = let e =
-    lt-leb (length bits) (stated_bits bits) l in rw (h, e) refl
+ends-past fuel size count bits h l = let e = lt-leb (length bits) (stated_bits bits) l in rw (h, e) refl
 
 open-short : (fuel size count : ℕ) (bits : List Bool) → is_there bits ≡ false →
     open_chain (suc fuel) size count bits ≡ still_open bits
@@ -80,8 +75,7 @@ one bits b = omega (arith, length-append bits (b ∷ []))
 -- a capsule that is there stays there
 is_there_parts-more : (bits : List Bool) (b : Bool) → is_there bits ≡ true →
     (is_there (bits ++ b ∷ []) ≡ true) × (stated_bits (bits ++ b ∷ []) ≡ stated_bits bits) ×
-    (stated_bits bits < length (bits ++ b ∷ [])) × (40 ≤ stated_bits bits)
-    × (stated_bits bits ≤ length bits)
+    (stated_bits bits < length (bits ++ b ∷ [])) × (40 ≤ stated_bits bits) × (stated_bits bits ≤ length bits)
 is_there_parts-more bits b h =
     let is = is_there_parts bits h in
     let bounds = opened.stated_bounds bits is.0 in
@@ -131,8 +125,7 @@ unfolding open_chain
 open-zero size count bits = refl
 
 -- what the bits end is what their last one completes
-pub ends_more : (fuel size count : ℕ) (bits : List Bool) (b : Bool) →
-    ends_chain fuel size count (bits ++ b ∷ [])
+pub ends_more : (fuel size count : ℕ) (bits : List Bool) (b : Bool) → ends_chain fuel size count (bits ++ b ∷ [])
     ≡ completed (open_chain fuel size count bits) (b ∷ [])
 ends_more zero size count bits b = ends-zero size count (bits ++ b ∷ [])
     ∙ ap (λ (o : Option (List Bool)). completed o (b ∷ [])) (sym (open-zero size count bits))
@@ -192,24 +185,21 @@ abbrev pub follow : ℕ → ℕ → Option (List Bool) → Option (List Bool) �
 follow size count whole open_bits = after (bits_left size count) whole open_bits
 
 abbrev pub step : ℕ → ℕ → Option (List Bool) → Bool → Option (List Bool)
-step size count open_bits b =
-    follow size count (completed open_bits (b ∷ [])) (continued open_bits (b ∷ []))
+step size count open_bits b = follow size count (completed open_bits (b ∷ [])) (continued open_bits (b ∷ []))
 
 step_cond : (left : Bool) (size count : ℕ) (o : Option (List Bool)) (b : Bool) →
     cond left (step size count o b) None ≡ step size count (cond left o None) b
 step_cond true size count o b = refl
 step_cond false size count o b = refl
 
-step-none : (size count : ℕ) (o : Option (List Bool)) (b : Bool) → o ≡ None →
-    step size count o b ≡ None
+step-none : (size count : ℕ) (o : Option (List Bool)) (b : Bool) → o ≡ None → step size count o b ≡ None
 step-none size count o b e = ap (λ (p : Option (List Bool)). step size count p b) e
 
 -- What is open after one bit more follows from what was open before it. Where a whole capsule
 -- stands at the front the rest is a shorter chain, for which this holds by induction. Otherwise the
 -- bit ends the open capsule, continues it, or follows a length that no capsule has, and then
 -- nothing is open.
-pub open_more : (fuel size count : ℕ) (bits : List Bool) (b : Bool) →
-    length (bits ++ b ∷ []) < fuel →
+pub open_more : (fuel size count : ℕ) (bits : List Bool) (b : Bool) → length (bits ++ b ∷ []) < fuel →
     open_chain fuel size count (bits ++ b ∷ [])
     ≡ step size (count + length (bits ++ b ∷ [])) (open_chain fuel size count bits) b
 open_more zero size count bits b room = absurd (omega (arith, room))
@@ -268,8 +258,7 @@ open_more (suc fuel) size count bits b room =
     now_there : (fuel size count : ℕ) (bits : List Bool) (b : Bool) → awaits_more bits ≡ true →
         is_there (bits ++ b ∷ []) ≡ true → length (bits ++ b ∷ []) < suc fuel →
         open_chain (suc fuel) size count (bits ++ b ∷ [])
-        ≡ follow size (count + length (bits ++ b ∷ [])) (front_capsule (bits ++ b ∷ []))
-        (still_open (bits ++ b ∷ []))
+        ≡ follow size (count + length (bits ++ b ∷ [])) (front_capsule (bits ++ b ∷ [])) (still_open (bits ++ b ∷ []))
     now_there zero size count bits b waits t room =
         let is = is_there_parts (bits ++ b ∷ []) t in
         let bounds = opened.stated_bounds (bits ++ b ∷ []) is.0 in
@@ -288,8 +277,7 @@ open_more (suc fuel) size count bits b room =
         ∙ ap (λ (o : Option (List Bool)). cond (nat_le 8 (bits_left size (count + st))) o None)
         (open_none fuel size (count + st))
         ∙ ap (λ (n : ℕ). cond (nat_le 8 (bits_left size (count + n))) (Some []) None) all
-        ∙ ap (λ (o : Option (List Bool)). cond (nat_le 8 (bits_left size (count + length more)))
-        (Some []) o) (sym over)
+        ∙ ap (λ (o : Option (List Bool)). cond (nat_le 8 (bits_left size (count + length more))) (Some []) o) (sym over)
         ∙ ap (λ (w : Option (List Bool)). follow size (count + length more) w (still_open more))
         (sym (opened.front-whole more is.0 is.1))
 
@@ -305,8 +293,7 @@ open_fuel (suc fuel) size count bits room =
           let bounds = opened.stated_bounds bits is.0 in
           open-past (suc fuel) size count bits t
           ∙ ap (λ (o : Option (List Bool)). cond (nat_le 8 (bits_left size (count + st))) o None)
-          (open_fuel fuel size (count + st) (drop st bits)
-          (omega (arith, room, length-drop st bits, bounds.1, is.1)))
+          (open_fuel fuel size (count + st) (drop st bits) (omega (arith, room, length-drop st bits, bounds.1, is.1)))
           ∙ sym (open-past fuel size count bits t)
       | inr f ↦ open-short (suc fuel) size count bits f ∙ sym (open-short fuel size count bits f)
     ]

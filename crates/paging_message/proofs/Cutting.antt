@@ -52,8 +52,7 @@ halves_more size n front q long some most =
     ap (λ (k : ℕ). map (part size (front ++ q)) (places k)) count
     ∙ map-places-more (part size (front ++ q)) n
     ∙ ap (λ (ps : List Piece). ps ++ part size (front ++ q) n ∷ [])
-    (map_ext_places (part size (front ++ q)) (part size front) n
-    (λ h lt. part_front size n h front q long lt))
+    (map_ext_places (part size (front ++ q)) (part size front) n (λ h lt. part_front size n h front q long lt))
     ∙ ap (λ (p : Piece). map (part size front) (places n) ++ p ∷ []) last
 
 -- THE BITS OF THE MESSAGE
@@ -83,8 +82,7 @@ bodies_if_any : List Piece → Option (List Bool)
 bodies_if_any [] = None
 bodies_if_any (p ∷ pieces) = Some (bodies (p ∷ pieces))
 
-opened_told : (size : ℕ) (message : List Piece) →
-    halves.opened size message ≡ open_of size (bodies_if_any message)
+opened_told : (size : ℕ) (message : List Piece) → halves.opened size message ≡ open_of size (bodies_if_any message)
 unfolding bodies_if_any
 opened_told size [] = refl
 opened_told size (p ∷ pieces) = refl
@@ -96,12 +94,10 @@ ended_told size [] = ends_none size
 ended_told size (p ∷ pieces) = refl
 
 told_extended : (message : List Piece) (body : List Bool) →
-    bodies_if_any (extended message (record { starts = false; body = body }))
-    ≡ grown (begun false message) body
+    bodies_if_any (extended message (record { starts = false; body = body })) ≡ grown (begun false message) body
 unfolding bodies_if_any
 told_extended [] body = refl
-told_extended (q ∷ message) body =
-    ap Some (bodies-more (q ∷ message) (record { starts = false; body = body }))
+told_extended (q ∷ message) body = ap Some (bodies-more (q ∷ message) (record { starts = false; body = body }))
 
 told_more : (pieces : List Piece) (starts : Bool) (body : List Bool) →
     bodies_if_any (from_last_start (pieces ++ record { starts = starts; body = body } ∷ []))
@@ -129,15 +125,13 @@ long_choice size true b later own p q = p
 long_choice size false true later own p q = q
 long_choice size false false later own p q = tt
 
-long_from : (size : ℕ) (pieces : List Piece) → AreLong size pieces →
-    AreLong size (from_last_start pieces)
+long_from : (size : ℕ) (pieces : List Piece) → AreLong size pieces → AreLong size (from_last_start pieces)
 long_from size [] are = tt
 long_from size (p ∷ pieces) are =
     long_choice size (nat_lt 0 (length (from_last_start pieces))) p.starts (from_last_start pieces)
     (p ∷ pieces) (long_from size pieces are.1) are
 
-length-bodies : (size : ℕ) (pieces : List Piece) → AreLong size pieces →
-    length (bodies pieces) ≡ size * length pieces
+length-bodies : (size : ℕ) (pieces : List Piece) → AreLong size pieces → length (bodies pieces) ≡ size * length pieces
 length-bodies size [] are = omega arith
 length-bodies size (p ∷ pieces) are =
     omega (arith, length-append p.body (bodies pieces), are.0, length-bodies size pieces are.1)
@@ -184,8 +178,7 @@ left_of size k r some most =
 -- ONE MORE BIT
 -- an SCI bit
 pub mark_opens : (size n : ℕ) (front : List Bool) (b : Bool) → length front ≡ (size + 1) * n →
-    halves.half_under_way size (front ++ b ∷ [])
-    ≡ cond b (Some []) (halves.half_under_way size front)
+    halves.half_under_way size (front ++ b ∷ []) ≡ cond b (Some []) (halves.half_under_way size front)
 unfolding halves.half_under_way
 mark_opens size n front b long =
     let ps = map (part size front) (places n) in
@@ -202,23 +195,20 @@ mark_opens size n front b long =
     begun_open true message = open_none 0 size 0
     begun_open false [] = refl
     begun_open false (q ∷ message) =
-        ap (λ (bits : List Bool). halves.open_chain (suc (length bits)) size 0 bits)
-        (append-nil (bodies (q ∷ message)))
+        ap (λ (bits : List Bool). halves.open_chain (suc (length bits)) size 0 bits) (append-nil (bodies (q ∷ message)))
 
 pub mark_ends : (size n : ℕ) (front : List Bool) (b : Bool) → 0 < size →
     length front ≡ (size + 1) * n → halves.half_frame_capsule_ending size (front ++ b ∷ []) ≡ None
 unfolding halves.half_frame_capsule_ending
 mark_ends size n front b large long =
-    let turned : length (front ++ b ∷ []) ≡ n * (size + 1) + 1 =
-    omega (arith, long, length-append front (b ∷ [])) in
+    let turned : length (front ++ b ∷ []) ≡ n * (size + 1) + 1 = omega (arith, long, length-append front (b ∷ [])) in
     let first : length (front ++ b ∷ []) % (size + 1) == 1 ≡ true =
     eq-eqb (length (front ++ b ∷ []) % (size + 1)) 1 (ap (λ (k : ℕ). k % (size + 1)) turned
     ∙ mod-mul-add n (size + 1) 1 (omega (arith, large))) in
     rw first refl
 
 -- what a half-frame under way says
-way_of : (size n : ℕ) (front body : List Bool) (s : Bool) → length front ≡ (size + 1) * n →
-    length body ≤ size →
+way_of : (size n : ℕ) (front body : List Bool) (s : Bool) → length front ≡ (size + 1) * n → length body ≤ size →
     halves.half_under_way size (front ++ s ∷ body)
     ≡ open_of size (grown (begun s (from_last_start (map (part size front) (places n)))) body)
 unfolding halves.half_under_way
@@ -233,8 +223,7 @@ way_of size n front body s long most =
 -- a capsule, grown by the bits of this one. The bits are n whole half-frames and this piece, and
 -- since it has a bit after its SCI bit, the last bit is no SCI bit, which would end nothing.
 end_at : (size n : ℕ) (front body : List Bool) (s : Bool) → 0 < length body →
-    length front ≡ (size + 1) * n → length body ≤ size →
-    halves.half_frame_capsule_ending size (front ++ s ∷ body)
+    length front ≡ (size + 1) * n → length body ≤ size → halves.half_frame_capsule_ending size (front ++ s ∷ body)
     ≡ end_of size (grown (begun s (from_last_start (map (part size front) (places n)))) body)
 unfolding halves.half_frame_capsule_ending
 end_at size n front body s some long most =
@@ -250,8 +239,7 @@ end_at size n front body s some long most =
     ∙ ended_told size (from_last_start (ps ++ record { starts = s; body = body } ∷ []))
     ∙ ap (end_of size) (told_more ps s body))
   where
-    not_first : (count r : ℕ) → count ≡ n * (size + 1) + suc r → 0 < r → r ≤ size →
-        count % (size + 1) ≡ 1 → ⊥
+    not_first : (count r : ℕ) → count ≡ n * (size + 1) + suc r → 0 < r → r ≤ size → count % (size + 1) ≡ 1 → ⊥
     not_first count r is some most one =
         elim (cases_lt r size) [
           | inl less ↦
@@ -304,8 +292,7 @@ chain_more size left (Some before) body b is =
           ∙ ends_more (suc (length bits)) size 0 bits b,
       ap (λ (xs : List Bool). halves.open_chain (suc (length xs)) size 0 xs) grouped
           ∙ open_more (suc (length more)) size 0 bits b (omega arith)
-          ∙ ap (λ (k : ℕ). step size (0 + length more)
-          (halves.open_chain (suc k) size 0 bits) b) long
+          ∙ ap (λ (k : ℕ). step size (0 + length more) (halves.open_chain (suc k) size 0 bits) b) long
           ∙ ap (λ (o : Option (List Bool)). step size (0 + length more) o b)
           (open_fuel (suc (length bits)) size 0 bits (omega arith))
           ∙ ap (λ (k : ℕ). after k (completed own (b ∷ [])) (continued own (b ∷ []))) place,
@@ -347,15 +334,13 @@ pub sci_opens : (size : ℕ) (bits : List Bool) (b : Bool) (o : Option (List Boo
     0 ≡ length bits % (size + 1) → o ≡ halves.half_under_way size bits →
     cond b (Some []) o ≡ halves.half_under_way size (bits ++ b ∷ [])
 sci_opens size bits b o placed is =
-    let long : length bits ≡ (size + 1) * (length bits / (size + 1)) =
-    omega (arith, whole_of size bits, placed) in
+    let long : length bits ≡ (size + 1) * (length bits / (size + 1)) = omega (arith, whole_of size bits, placed) in
     ap (cond b (Some [])) is ∙ sym (mark_opens size (length bits / (size + 1)) bits b long)
 
 pub sci_ends : (size : ℕ) (bits : List Bool) (b : Bool) → 0 < size → 0 ≡ length bits % (size + 1) →
     None ≡ halves.half_frame_capsule_ending size (bits ++ b ∷ [])
 sci_ends size bits b large placed =
-    let long : length bits ≡ (size + 1) * (length bits / (size + 1)) =
-    omega (arith, whole_of size bits, placed) in
+    let long : length bits ≡ (size + 1) * (length bits / (size + 1)) = omega (arith, whole_of size bits, placed) in
     sym (mark_ends size (length bits / (size + 1)) bits b large long)
 
 -- A bit in the body of half-frame n ends what the definition says, and leaves what it says open:
@@ -367,8 +352,7 @@ body_at : (size place left n : ℕ) (bits front q : List Bool) (b : Bool) (o : O
     (completed o (b ∷ []) ≡ halves.half_frame_capsule_ending size (bits ++ b ∷ [])) ×
     (after left (completed o (b ∷ [])) (continued o (b ∷ []))
     ≡ halves.half_under_way size (bits ++ b ∷ []))
-body_at size place left n bits front [] b o is long own some room stands =
-    absurd (omega (arith, own, some))
+body_at size place left n bits front [] b o is long own some room stands = absurd (omega (arith, own, some))
 body_at size place left n bits front (s ∷ body) b o is long own some room stands =
     let known = body_bit size n left front body s b long (omega (arith, own, room)) in
     let state : o ≡ halves.half_under_way size (front ++ s ∷ body) = stands
@@ -385,8 +369,7 @@ body_at size place left n bits front (s ∷ body) b o is long own some room stan
 -- open: the bits so far are cut into whole half-frames and the one under way, which has as many
 -- bits as the place tells.
 pub body_step : (size place left : ℕ) (bits : List Bool) (b : Bool) (o : Option (List Bool)) →
-    place ≡ length bits % (size + 1) → 0 < place → left + place ≡ size →
-    o ≡ halves.half_under_way size bits →
+    place ≡ length bits % (size + 1) → 0 < place → left + place ≡ size → o ≡ halves.half_under_way size bits →
     (completed o (b ∷ []) ≡ halves.half_frame_capsule_ending size (bits ++ b ∷ [])) ×
     (after left (completed o (b ∷ [])) (continued o (b ∷ []))
     ≡ halves.half_under_way size (bits ++ b ∷ []))
@@ -397,12 +380,10 @@ body_step size place left bits b o placed some room stands =
     let front = take cut bits in
     let long : length front ≡ cut = length-take-le cut bits (omega (arith, all)) in
     let own : length (drop cut bits) ≡ place = omega (arith, length-drop cut bits, all, placed) in
-    body_at size place left n bits front (drop cut bits) b o
-    (sym (take-append-drop cut bits)) long own some room stands
+    body_at size place left n bits front (drop cut bits) b o (sym (take-append-drop cut bits)) long own some room stands
 
 -- where in its half-frame the next bit stands
-pub place_more : (size place : ℕ) (bits : List Bool) (b : Bool) →
-    place ≡ length bits % (size + 1) → place < size →
+pub place_more : (size place : ℕ) (bits : List Bool) (b : Bool) → place ≡ length bits % (size + 1) → place < size →
     place + 1 ≡ length (bits ++ b ∷ []) % (size + 1)
 place_more size place bits b placed less =
     let n = length bits / (size + 1) in
@@ -419,10 +400,8 @@ place_over size place bits b placed last =
     omega (arith, length-append bits (b ∷ []), whole_of size bits, placed, last) in
     sym (ap (λ (k : ℕ). k % (size + 1)) turned ∙ mod-mul-add (suc n) (size + 1) 0 (omega arith))
 
-pub after_is : (ended : Bool) (left : ℕ) (whole open_bits : Option (List Bool)) →
-    (IsTrue ended ↔ IsSome whole) →
-    (if ended then (if nat_le 8 left then Some [] else open_bits) else open_bits)
-    ≡ after left whole open_bits
+pub after_is : (ended : Bool) (left : ℕ) (whole open_bits : Option (List Bool)) → (IsTrue ended ↔ IsSome whole) →
+    (if ended then (if nat_le 8 left then Some [] else open_bits) else open_bits) ≡ after left whole open_bits
 after_is true left None open_bits h = absurd (cc (h.0 refl))
 after_is true left (Some whole) open_bits h = refl
 after_is false left None open_bits h = refl

@@ -34,14 +34,11 @@ runs_pieces size runs = flat_map (run_pieces size) runs
 -- the capsules of each run are chained, and there are some
 abbrev pub AreChainedRuns : ℕ → List (List (List Bool)) → Type 0
 AreChainedRuns size [] = Unit {0}
-AreChainedRuns size (run ∷ runs) =
-    AreChained size 0 run × (0 < length (joined run 0)) × AreChainedRuns size runs
+AreChainedRuns size (run ∷ runs) = AreChained size 0 run × (0 < length (joined run 0)) × AreChainedRuns size runs
 
-pub joined-push : (cs : List (List Bool)) (c : List Bool) →
-    joined (cs ++ c ∷ []) 0 ≡ joined cs 0 ++ c
+pub joined-push : (cs : List (List Bool)) (c : List Bool) → joined (cs ++ c ∷ []) 0 ≡ joined cs 0 ++ c
 joined-push [] c = append-nil c
-joined-push (d ∷ cs) c =
-    ap (λ (l : List Bool). d ++ l) (joined-push cs c) ∙ sym (append_assoc d (joined cs 0) c)
+joined-push (d ∷ cs) c = ap (λ (l : List Bool). d ++ l) (joined-push cs c) ∙ sym (append_assoc d (joined cs 0) c)
 
 pub turned_back : (size x : ℕ) → 0 < size → x * size / size ≡ x
 turned_back size x large =
@@ -61,8 +58,7 @@ padded_after : (size n : ℕ) (front bits : List Bool) → length front ≡ size
 unfolding laying.fill
 padded_after size n front bits long =
     let count = length bits in
-    let all : length (front ++ bits) ≡ size * n + count =
-    omega (arith, length-append front bits, long) in
+    let all : length (front ++ bits) ≡ size * n + count = omega (arith, length-append front bits, long) in
     let same : (size - length (front ++ bits) % size) % size ≡ (size - count % size) % size =
     ap (λ (k : ℕ). (size - k % size) % size) all
     ∙ ap (λ (k : ℕ). (size - k) % size) (mul-add-mod_self_left size n count) in
@@ -93,10 +89,8 @@ any_from size n i starts begun =
 -- earlier run starts as late, so its SCI bit is set only if i is 0, and its bits are those i
 -- half-frames after the first n.
 half_frame_of_run : (size n i : ℕ) (starts : List ℕ) (front : List Bool)
-    (cs : List (List Bool)) → laying.HaveBegun size (size * n) starts →
-    length front ≡ size * n →
-    laying.half_frame size (starts ++ n ∷ []) (front ++ run_bits size cs) (n + i)
-    ≡ bits_of (run_piece size cs i)
+    (cs : List (List Bool)) → laying.HaveBegun size (size * n) starts → length front ≡ size * n →
+    laying.half_frame size (starts ++ n ∷ []) (front ++ run_bits size cs) (n + i) ≡ bits_of (run_piece size cs i)
 half_frame_of_run size n i starts front cs begun long =
     let bits = run_bits size cs in
     let all = front ++ bits in
@@ -114,8 +108,7 @@ stream_of f (k ∷ ks) = ap (λ (l : List Bool). bits_of (f k) ++ l) (stream_of 
 -- a run's half-frames stand after those before it
 run_laid : (size n : ℕ) (starts : List ℕ) (front : List Bool) (cs : List (List Bool)) →
     laying.HaveBegun size (size * n) starts → length front ≡ size * n →
-    flat_map (laying.half_frame size (starts ++ n ∷ []) (front ++ run_bits size cs))
-    (places (n + run_width size cs))
+    flat_map (laying.half_frame size (starts ++ n ∷ []) (front ++ run_bits size cs)) (places (n + run_width size cs))
     ≡ flat_map (laying.half_frame size starts front) (places n) ++ stream (run_pieces size cs)
 run_laid size n starts front cs begun long =
     let half = laying.half_frame size (starts ++ n ∷ []) (front ++ run_bits size cs) in
@@ -123,8 +116,7 @@ run_laid size n starts front cs begun long =
     flat_map-add half n w
     ∙ ap (λ (l : List Bool). l ++ flat_map (λ i. half (n + i)) (places w))
     (flat_map_ext_places half (laying.half_frame size starts front) n
-    (λ h lt. half_front size n h starts (starts ++ n ∷ []) front (run_bits size cs) long lt
-    (any_other h n starts lt)))
+    (λ h lt. half_front size n h starts (starts ++ n ∷ []) front (run_bits size cs) long lt (any_other h n starts lt)))
     ∙ ap (λ (l : List Bool). flat_map (laying.half_frame size starts front) (places n) ++ l)
     (flat_map_ext_places (λ i. half (n + i)) (λ i. bits_of (run_piece size cs i)) w
     (λ i lt. half_frame_of_run size n i starts front cs begun long)
@@ -135,10 +127,8 @@ run_laid size n starts front cs begun long =
 abbrev pub under_way : List ℕ → ℕ → List Bool → List Bool → laying.Laid
 under_way starts n front bits = record { body = front ++ bits; starts = starts ++ n ∷ [] }
 
-laid-follows : (size : ℕ) (starts : List ℕ) (n : ℕ) (front bits c : List Bool) (follow : Bool) →
-    follow ≡ true →
-    laying.laid_on size (under_way starts n front bits) follow c
-    ≡ under_way starts n front (bits ++ c)
+laid-follows : (size : ℕ) (starts : List ℕ) (n : ℕ) (front bits c : List Bool) (follow : Bool) → follow ≡ true →
+    laying.laid_on size (under_way starts n front bits) follow c ≡ under_way starts n front (bits ++ c)
 unfolding laying.laid_on
 laid-follows size starts n front bits c follow t =
     rw t (ap (λ (l : List Bool). let x : laying.Laid =
@@ -148,8 +138,7 @@ laid-follows size starts n front bits c follow t =
 -- filled with zeros up to w half-frames, so what is laid is n + w whole ones, and the capsule
 -- starts at the next.
 laid-begins : (size : ℕ) (starts : List ℕ) (n w : ℕ) (front bits c : List Bool) (follow : Bool) →
-    0 < size → follow ≡ false → length front ≡ size * n →
-    length (laying.padded_to size bits) ≡ size * w →
+    0 < size → follow ≡ false → length front ≡ size * n → length (laying.padded_to size bits) ≡ size * w →
     laying.laid_on size (under_way starts n front bits) follow c
     ≡ under_way (starts ++ n ∷ []) (n + w) (front ++ laying.padded_to size bits) c
 unfolding laying.laid_on
@@ -187,8 +176,7 @@ first_laid size c follow large f =
 -- together they are n + w half-frames when the last run is filled with zeros, and no start of one
 -- run lies in another.
 last_run_laid : (size : ℕ) (starts : List ℕ) (n : ℕ) (front : List Bool)
-    (cs : List (List Bool)) → 0 < size → laying.HaveBegun size (size * n) starts →
-    length front ≡ size * n →
+    (cs : List (List Bool)) → 0 < size → laying.HaveBegun size (size * n) starts → length front ≡ size * n →
     laying.half_frames_of size (under_way starts n front (joined cs 0))
     ≡ flat_map (laying.half_frame size starts front) (places n) ++ stream (run_pieces size cs)
 unfolding laying.half_frames_of
@@ -196,20 +184,14 @@ last_run_laid size starts n front cs large begun long =
     let w = run_width size cs in
     let all = front ++ run_bits size cs in
     let count : length all ≡ size * (n + w) =
-    omega (
-      arith,
-      length-append front (run_bits size cs),
-      long,
-      length-padded size (joined cs 0) large,
-    ) in
+    omega (arith, length-append front (run_bits size cs), long, length-padded size (joined cs 0) large) in
     ap (λ (l : List Bool). laying.framed size (record { body = l; starts = starts ++ n ∷ [] }))
     (padded_after size n front (joined cs 0) long)
     ∙ framed_whole size (n + w) (starts ++ n ∷ []) all large count
     ∙ run_laid size n starts front cs begun long
 
 -- a put that begins a run after the one under way
-begun_next : (size n w : ℕ) (starts : List ℕ) → 0 < size → 0 < w →
-    laying.HaveBegun size (size * n) starts →
+begun_next : (size n w : ℕ) (starts : List ℕ) → 0 < size → 0 < w → laying.HaveBegun size (size * n) starts →
     laying.HaveBegun size (size * (n + w)) (starts ++ n ∷ [])
 begun_next size n w starts large more begun =
     let next : size * suc n ≤ size * (n + w) = mul-le-mul_left size (omega (arith, more)) in
@@ -230,8 +212,7 @@ pub puts_laid : (size : ℕ) (puts : List laying.Put) (run : List (List Bool)) (
     (n : ℕ) (front : List Bool) → 0 < size → AreSome puts → 0 < length (joined run 0) →
     laying.HaveBegun size (size * n) starts → length front ≡ size * n →
     laying.half_frames_of size (laying.laid_all size (under_way starts n front (joined run 0)) puts)
-    ≡ flat_map (laying.half_frame size starts front) (places n) ++
-    stream (runs_pieces size (runs_put run puts))
+    ≡ flat_map (laying.half_frame size starts front) (places n) ++ stream (runs_pieces size (runs_put run puts))
 puts_laid size [] run starts n front large each some begun long =
     last_run_laid size starts n front run large begun long
     ∙ ap (λ (l : List Piece). flat_map (laying.half_frame size starts front) (places n) ++ stream l)
@@ -263,8 +244,7 @@ puts_laid size (p ∷ puts) run starts n front large each some begun long =
           ∙ puts_laid size puts (c ∷ []) (starts ++ n ∷ []) (n + w) front' large each.1
           (omega (arith, each.0, ap length one))
           (begun_next size n w starts large (run_width_some size run large some) begun) long'
-          ∙ ap (λ (l : List Bool). l ++ stream (runs_pieces size rest))
-          (run_laid size n starts front run begun long)
+          ∙ ap (λ (l : List Bool). l ++ stream (runs_pieces size rest)) (run_laid size n starts front run begun long)
           ∙ append_assoc before (stream (run_pieces size run)) (stream (runs_pieces size rest))
           ∙ ap (λ (l : List Bool). before ++ l)
           (sym (flat_map-append bits_of (run_pieces size run) (runs_pieces size rest)))
@@ -303,8 +283,7 @@ chained-push size at (d ∷ d' ∷ cs) c chained room whole =
 
 left_within : (size n count : ℕ) → bits_left size (size * n + count) ≡ bits_left size count
 unfolding bits_left
-left_within size n count =
-    ap (λ (k : ℕ). (size - k) % size) (mul-add-mod_self_left size n count)
+left_within size n count = ap (λ (k : ℕ). (size - k) % size) (mul-add-mod_self_left size n count)
 
 -- Lawful puts after the runs before, of which the last is under way, make chained runs, by induction
 -- over the puts: one that follows has the eight bits that it needs left in its half-frame and goes
@@ -312,8 +291,7 @@ left_within size n count =
 pub puts_chained : (size : ℕ) (puts : List laying.Put) (run : List (List Bool))
     (starts : List ℕ) (n : ℕ) (front : List Bool) → 0 < size → length front ≡ size * n →
     AreChained size 0 run → 0 < length (joined run 0) →
-    laying.AreLawful size (under_way starts n front (joined run 0)) puts →
-    AreChainedRuns size (runs_put run puts)
+    laying.AreLawful size (under_way starts n front (joined run 0)) puts → AreChainedRuns size (runs_put run puts)
 puts_chained size [] run starts n front large long chained some lawful = (chained, some, tt)
 puts_chained size (p ∷ puts) run starts n front large long chained some lawful =
     let c = p.capsule in
@@ -323,11 +301,9 @@ puts_chained size (p ∷ puts) run starts n front large long chained some lawful
     elim (cases_Bool p.follows) [
       | inl t ↦
           let push = joined-push run c in
-          let all : length (front ++ bits) ≡ size * n + length bits =
-          omega (arith, length-append front bits, long) in
+          let all : length (front ++ bits) ≡ size * n + length bits = omega (arith, length-append front bits, long) in
           let room : 8 ≤ bits_left size (length bits) =
-          subst (λ (k : ℕ). 8 ≤ k)
-          (ap (bits_left size) all ∙ left_within size n (length bits)) (lawful.1 t) in
+          subst (λ (k : ℕ). 8 ≤ k) (ap (bits_left size) all ∙ left_within size n (length bits)) (lawful.1 t) in
           subst (AreChainedRuns size) (sym (put-follows run p puts t))
           (puts_chained size puts (run ++ c ∷ []) starts n front large long
           (chained-push size 0 run c chained (λ s. subst (λ (k : ℕ). 8 ≤ bits_left size k)
@@ -364,12 +340,10 @@ none_left size large =
 pub first_put_begins : (size : ℕ) (p : laying.Put) (puts : List laying.Put) → 0 < size →
     laying.AreLawful size laying.nothing_laid (p ∷ puts) → p.follows ≡ false
 first_put_begins size p puts large lawful =
-    false_from_ne_true p.follows
-    (λ t. let room = lawful.1 t in omega (arith, room, none_left size large))
+    false_from_ne_true p.follows (λ t. let room = lawful.1 t in omega (arith, room, none_left size large))
 
 first_way : (size : ℕ) (p : laying.Put) → 0 < size → p.follows ≡ false →
-    laying.laid_on size laying.nothing_laid p.follows p.capsule
-    ≡ under_way [] 0 [] (joined (p.capsule ∷ []) 0)
+    laying.laid_on size laying.nothing_laid p.follows p.capsule ≡ under_way [] 0 [] (joined (p.capsule ∷ []) 0)
 first_way size p large f =
     first_laid size p.capsule p.follows large f
     ∙ ap (under_way [] 0 []) (sym (append-nil p.capsule))
@@ -382,16 +356,14 @@ pub first_puts_laid : (size : ℕ) (p : laying.Put) (puts : List laying.Put) →
 first_puts_laid size p puts large f each =
     let c = p.capsule in
     let none : 0 ≡ size * 0 = omega arith in
-    ap (λ (l : laying.Laid). laying.half_frames_of size (laying.laid_all size l puts))
-    (first_way size p large f)
+    ap (λ (l : laying.Laid). laying.half_frames_of size (laying.laid_all size l puts)) (first_way size p large f)
     ∙ puts_laid size puts (c ∷ []) [] 0 [] large each.1 (omega (arith, each.0, length-append c [])) tt none
     ∙ ap (λ (l : List Bool). l ++ stream (runs_pieces size (runs_put (c ∷ []) puts)))
     (flat_map-zero (laying.half_frame size [] []))
 
 -- and lawful ones make chained runs
 pub first_puts_chained : (size : ℕ) (p : laying.Put) (puts : List laying.Put) → 0 < size →
-    laying.AreLawful size laying.nothing_laid (p ∷ puts) →
-    AreChainedRuns size (runs_put (p.capsule ∷ []) puts)
+    laying.AreLawful size laying.nothing_laid (p ∷ puts) → AreChainedRuns size (runs_put (p.capsule ∷ []) puts)
 first_puts_chained size p puts large lawful =
     let c = p.capsule in
     let whole = lawful.0 in
@@ -400,8 +372,7 @@ first_puts_chained size p puts large lawful =
     (subst (λ (l : laying.Laid). laying.AreLawful size l puts)
     (first_way size p large (first_put_begins size p puts large lawful)) lawful.2)
 
-pub lawful_some : (size : ℕ) (l : laying.Laid) (puts : List laying.Put) →
-    laying.AreLawful size l puts → AreSome puts
+pub lawful_some : (size : ℕ) (l : laying.Laid) (puts : List laying.Put) → laying.AreLawful size l puts → AreSome puts
 lawful_some size l [] lawful = tt
 lawful_some size l (p ∷ puts) lawful = (
   omega (arith, lawful.0.told),

@@ -11,8 +11,7 @@ use Rattle.paging_message.specs.Laying as laying
 -- HALF-FRAMES
 -- A half-frame that lies in the first bits is the same whatever follows them: it ends among the
 -- first n, so its bits are cut only out of these, and its SCI bit must be the same.
-pub half_front : (size n h : ℕ) (starts starts' : List ℕ) (front more : List Bool) →
-    length front ≡ size * n → h < n →
+pub half_front : (size n h : ℕ) (starts starts' : List ℕ) (front more : List Bool) → length front ≡ size * n → h < n →
     list_any (λ s. s == h) starts' ≡ list_any (λ s. s == h) starts →
     laying.half_frame size starts' (front ++ more) h ≡ laying.half_frame size starts front h
 half_front size n h starts starts' front more long lt same =
@@ -24,8 +23,7 @@ half_front size n h starts starts' front more long lt same =
     (ap (take size) cut ∙ take-append-le size (drop (size * h) front) more
     (omega (arith, far, long, length-drop (size * h) front)))
 
-pub framed_whole : (size n : ℕ) (starts : List ℕ) (front : List Bool) → 0 < size →
-    length front ≡ size * n →
+pub framed_whole : (size n : ℕ) (starts : List ℕ) (front : List Bool) → 0 < size → length front ≡ size * n →
     laying.framed size (record { body = front; starts = starts })
     ≡ flat_map (laying.half_frame size starts front) (places n)
 unfolding laying.framed
@@ -42,8 +40,7 @@ pub framed_more : (size n : ℕ) (starts starts' : List ℕ) (front q : List Boo
     length front ≡ size * n → 0 < length q → length q ≤ size →
     ((h : ℕ) → h < n → list_any (λ s. s == h) starts' ≡ list_any (λ s. s == h) starts) →
     laying.framed size (record { body = front ++ q; starts = starts' })
-    ≡ flat_map (laying.half_frame size starts front) (places n) ++
-    (list_any (λ s. s == n) starts' ∷ q)
+    ≡ flat_map (laying.half_frame size starts front) (places n) ++ (list_any (λ s. s == n) starts' ∷ q)
 unfolding laying.framed
 framed_more size n starts starts' front q large long some most same =
     let half = laying.half_frame size starts' (front ++ q) in
@@ -155,22 +152,19 @@ place_within size count place is some =
 
 next_mod : (size count : ℕ) → count % size + 1 < size → (count + 1) % size ≡ count % size + 1
 next_mod size count less =
-    let turned : count + 1 ≡ count / size * size + (count % size + 1) =
-    omega (arith, div-add-mod count size) in
+    let turned : count + 1 ≡ count / size * size + (count % size + 1) = omega (arith, div-add-mod count size) in
     ap (λ (k : ℕ). k % size) turned ∙ mod-mul-add (count / size) size (count % size + 1) less
 
 last_mod : (size count : ℕ) → 0 < size → count % size + 1 ≡ size → (count + 1) % size ≡ 0
 last_mod size count large last =
-    let turned : count + 1 ≡ suc (count / size) * size + 0 =
-    omega (arith, div-add-mod count size, last) in
+    let turned : count + 1 ≡ suc (count / size) * size + 0 = omega (arith, div-add-mod count size, last) in
     ap (λ (k : ℕ). k % size) turned ∙ mod-mul-add (suc (count / size)) size 0 large
 
 -- A BIT MORE
 -- where a half-frame begins with it
 pub bit_first : (size : ℕ) (l : laying.Laid) (bits : List Bool) (sci b : Bool) → 2 ≤ size →
     laying.HasLaid (record { size = size; place = 0 }) l bits →
-    laying.HasLaid (record { size = size; place = 2 }) (laying.bit_on size l sci b)
-    ((bits ++ sci ∷ []) ++ b ∷ [])
+    laying.HasLaid (record { size = size; place = 2 }) (laying.bit_on size l sci b) ((bits ++ sci ∷ []) ++ b ∷ [])
 bit_first size l bits sci b large laid =
     let n = length l.body / size in
     let none = place_zero size (length l.body) laid.placed in
@@ -192,8 +186,7 @@ bit_first size l bits sci b large laid =
         ≡ laying.framed size
         (record {
           body = l.body ++ b ∷ [];
-          starts =
-              if sci then l.starts ++ length l.body / size ∷ [] else l.starts;
+          starts = if sci then l.starts ++ length l.body / size ∷ [] else l.starts;
         })
     spelled_so true n long =
         let own : length l.body / size ≡ n = ap (λ (k : ℕ). k / size) (omega (arith, long))
@@ -201,10 +194,8 @@ bit_first size l bits sci b large laid =
         ap (λ (t : Bool). flat_map (laying.half_frame size l.starts l.body) (places n) ++
         (t ∷ b ∷ [])) (sym (any_own n l.starts))
         ∙ sym (framed_more size n l.starts (l.starts ++ n ∷ []) l.body (b ∷ [])
-        (omega (arith, large)) long (omega arith) (omega (arith, large))
-        (λ h lt. any_other h n l.starts lt))
-        ∙ ap (λ (k : ℕ). laying.framed size
-        (record { body = l.body ++ b ∷ []; starts = l.starts ++ k ∷ [] })) (sym own)
+        (omega (arith, large)) long (omega arith) (omega (arith, large)) (λ h lt. any_other h n l.starts lt))
+        ∙ ap (λ (k : ℕ). laying.framed size (record { body = l.body ++ b ∷ []; starts = l.starts ++ k ∷ [] })) (sym own)
     spelled_so false n long =
         ap (λ (t : Bool). flat_map (laying.half_frame size l.starts l.body) (places n) ++
         (t ∷ b ∷ [])) (sym (not_begun size n (length l.body) l.starts laid.begun long))
@@ -213,8 +204,7 @@ bit_first size l bits sci b large laid =
 
     -- All noted half-frames still begin among the bits that were laid: the earlier ones did before,
     -- and a new one begins with the bit that is added.
-    begun_so : (sci : Bool) (n : ℕ) → length l.body ≡ size * n →
-        laying.HaveBegun size (length (l.body ++ b ∷ []))
+    begun_so : (sci : Bool) (n : ℕ) → length l.body ≡ size * n → laying.HaveBegun size (length (l.body ++ b ∷ []))
         (if sci then l.starts ++ length l.body / size ∷ [] else l.starts)
     begun_so true n long =
         let own : length l.body / size ≡ n = ap (λ (k : ℕ). k / size) (omega (arith, long))
@@ -249,8 +239,7 @@ bit_next size place l bits false b large some laid whole =
             ∙ sym (place-none size (length (l.body ++ b ∷ [])) (ap (λ (k : ℕ). k % size) grown
             ∙ last_mod size (length l.body) (omega (arith, large)) (omega (arith, full, within.0))))
         | inr less ↦
-            let inner : length l.body % size + 1 < size =
-            omega (arith, within.0, room, eqb-false place size less) in
+            let inner : length l.body % size + 1 < size = omega (arith, within.0, room, eqb-false place size less) in
             let next : length (l.body ++ b ∷ []) % size ≡ length l.body % size + 1 =
             ap (λ (k : ℕ). k % size) grown ∙ next_mod size (length l.body) inner in
             ap (λ (t : Bool). if t then 0 else place + 1) less
@@ -264,8 +253,7 @@ bit_next size place l bits false b large some laid whole =
     }
 
 -- PADDING
-fill-some : (size count : ℕ) → 0 < count % size → 0 < size →
-    laying.fill size count ≡ size - count % size
+fill-some : (size count : ℕ) → 0 < count % size → 0 < size → laying.fill size count ≡ size - count % size
 unfolding laying.fill
 fill-some size count some large = mod-eq_of_lt (omega (arith, some, large))
 
@@ -283,8 +271,7 @@ left_is layout l bits large most laid =
     elim (cases_lt 0 layout.place) [
       | inl some ↦
           let within = place_within size (length l.body) layout.place laid.placed some in
-          let f : (layout.place == 0) ≡ false =
-          ne_eqb layout.place 0 (λ e. omega (arith, some, e)) in
+          let f : (layout.place == 0) ≡ false = ne_eqb layout.place 0 (λ e. omega (arith, some, e)) in
           ap (λ (t : Bool). if t then 0 else size + 1 - layout.place) f ∙ omega (arith, within.0)
           ∙ sym (fill-some size (length l.body) within.1 large)
       | inr none ↦
@@ -300,8 +287,7 @@ unfolding laying.fill bits_left
 same_left size count = refl
 
 -- padded bits fill whole half-frames
-pub padded_whole : (size : ℕ) (bits : List Bool) → 0 < size →
-    length (laying.padded_to size bits) % size ≡ 0
+pub padded_whole : (size : ℕ) (bits : List Bool) → 0 < size → length (laying.padded_to size bits) % size ≡ 0
 padded_whole size bits large =
     let count = length bits in
     let n = count / size in
@@ -322,8 +308,7 @@ padded_whole size bits large =
           ap (λ (k : ℕ). k % size) turned ∙ mod-mul-add n size 0 large
     ]
 
-pub zero_more : (bits : List Bool) (k : ℕ) →
-    (bits ++ replicate k false) ++ false ∷ [] ≡ bits ++ replicate (k + 1) false
+pub zero_more : (bits : List Bool) (k : ℕ) → (bits ++ replicate k false) ++ false ∷ [] ≡ bits ++ replicate (k + 1) false
 zero_more bits k =
     append_assoc bits (replicate k false) (false ∷ [])
     ∙ ap (λ (r : List Bool). bits ++ r) (replicate-append-replicate k 1 false)
@@ -342,10 +327,8 @@ way_is size l false k is =
 
 -- A CAPSULE
 -- its first bit
-pub capsule_first : (size : ℕ) (l : laying.Laid) (follow b : Bool) (capsule : List Bool) →
-    take 1 capsule ≡ b ∷ [] →
-    laying.bit_on size (laying.way_for size l follow) (not follow) b
-    ≡ laying.laid_on size l follow (take 1 capsule)
+pub capsule_first : (size : ℕ) (l : laying.Laid) (follow b : Bool) (capsule : List Bool) → take 1 capsule ≡ b ∷ [] →
+    laying.bit_on size (laying.way_for size l follow) (not follow) b ≡ laying.laid_on size l follow (take 1 capsule)
 unfolding laying.laid_on
 capsule_first size l true b capsule is =
     ap (λ (bits : List Bool). let m : laying.Laid =
@@ -393,22 +376,19 @@ left_most layout true k most is = omega (arith, is)
 left_most layout false k most is =
     elim (cases_lt 0 layout.place) [
       | inl some ↦
-          let f : (layout.place == 0) ≡ false =
-          ne_eqb layout.place 0 (λ e. omega (arith, some, e)) in
+          let f : (layout.place == 0) ≡ false = ne_eqb layout.place 0 (λ e. omega (arith, some, e)) in
           let left : laying.left_in layout ≡ layout.size + 1 - layout.place =
           ap (λ (t : Bool). if t then 0 else layout.size + 1 - layout.place) f in
           omega (arith, is, left, most, some)
       | inr none ↦
           let t : (layout.place == 0) ≡ true = eq-eqb layout.place 0 (omega (arith, none)) in
-          let left : laying.left_in layout ≡ 0 =
-          ap (λ (t : Bool). if t then 0 else layout.size + 1 - layout.place) t in
+          let left : laying.left_in layout ≡ 0 = ap (λ (t : Bool). if t then 0 else layout.size + 1 - layout.place) t in
           omega (arith, is, left)
     ]
 
 -- WHOLE HALF-FRAMES
 -- what is laid, and zeros after it
-pub padded_framed : (size : ℕ) (l : laying.Laid) → 0 < size →
-    laying.half_frames_of size l
+pub padded_framed : (size : ℕ) (l : laying.Laid) → 0 < size → laying.half_frames_of size l
     ≡ laying.framed size l ++ replicate (laying.fill size (length l.body)) false
 unfolding laying.half_frames_of
 padded_framed size l large =
@@ -416,8 +396,7 @@ padded_framed size l large =
     let zeros = replicate (laying.fill size count) false in
     elim (cases_lt 0 (count % size)) [
       | inr none ↦
-          let nothing : zeros ≡ [] =
-          ap (λ (k : ℕ). replicate k false) (fill-none size count (omega (arith, none))) in
+          let nothing : zeros ≡ [] = ap (λ (k : ℕ). replicate k false) (fill-none size count (omega (arith, none))) in
           ap (λ (body : List Bool). laying.framed size (record { body = body; starts = l.starts }))
           (ap (λ (r : List Bool). l.body ++ r) nothing ∙ append-nil l.body)
           ∙ sym (ap (λ (r : List Bool). laying.framed size l ++ r) nothing

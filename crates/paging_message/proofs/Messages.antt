@@ -18,8 +18,7 @@ pub typed_reading : (k : ℕ) (w : List Bool) → k < 2 ^ 8 → FillsCapsule M30
 unfolding body_reading is_body
 typed_reading k w small fills =
     let body = binary 8 k ++ w in
-    let long : length body ≡ 8 + length w =
-    omega (arith, length-append (binary 8 k) w, length-binary 8 k) in
+    let long : length body ≡ 8 + length w = omega (arith, length-append (binary 8 k) w, length-binary 8 k) in
     let whole = eq-eqb (length body % 8) 2 (omega (arith, fills.whole)) in
     let most = le-leb (length body) 1146 (omega (arith, fills.whole, fills.most)) in
     rw (whole, most, number_front 8 k w small, after_front 8 k w, long) (sym (placed w k))
@@ -60,11 +59,7 @@ typed_from body h =
     ] in
     let one = front 8 body eight in
     record {
-      fills = record {
-        whole = omega (arith, rest);
-        least = omega (arith, rest);
-        most = omega (arith, most);
-      };
+      fills = record { whole = omega (arith, rest); least = omega (arith, rest); most = omega (arith, most) };
       admitted = more.1;
       kind = one.0;
       same = one.1;
@@ -74,17 +69,14 @@ pub is_body_from : (body : List Bool) → FillsCapsule M30 body →
     admits (number (take 8 body)) (length body) ≡ true → is_body body ≡ true
 unfolding is_body
 is_body_from body fills h =
-    and_from (length body % 8 == 2)
-    (nat_le (length body) 1146 && admits (number (take 8 body)) (length body))
+    and_from (length body % 8 == 2) (nat_le (length body) 1146 && admits (number (take 8 body)) (length body))
     (eq-eqb (length body % 8) 2 (omega (arith, fills.whole)))
     (and_from (nat_le (length body) 1146) (admits (number (take 8 body)) (length body))
     (le-leb (length body) 1146 (omega (arith, fills.whole, fills.most))) h)
 
-pub body_told : (body : List Bool) (m : PagingMessage) → body_reading body ≡ Some m →
-    is_body body ≡ true
+pub body_told : (body : List Bool) (m : PagingMessage) → body_reading body ≡ Some m → is_body body ≡ true
 unfolding body_reading
-body_told body m e =
-    (guard_some (is_body body) (Some (message_at (number_at 0 8 body) (drop 8 body))) m e).0
+body_told body m e = (guard_some (is_body body) (Some (message_at (number_at 0 8 body) (drop 8 body))) m e).0
 
 -- what is read is spelled so
 pub body_is_read : (body : List Bool) (m : PagingMessage) → body_reading body ≡ Some m →
@@ -102,8 +94,7 @@ body_is_read body m e =
     t.same ∙ ap (λ (r : List Bool). binary 8 k ++ r) there.1 in
     let made = made_of k some.0
     (record { typed = t.kind; said = there.0; fills = subst (FillsCapsule M30) spelled t.fills }) in
-    subst (λ (n : PagingMessage). IsPagingMessage n × (body ≡ message_body n)) some.2
-    (made.0, spelled ∙ made.1)
+    subst (λ (n : PagingMessage). IsPagingMessage n × (body ≡ message_body n)) some.2 (made.0, spelled ∙ made.1)
 
 -- WHICH BODIES
 pub admits_message : (body : List Bool) → FillsCapsule M30 body →
@@ -115,11 +106,9 @@ admits_message body fills h =
     let is = body_is_read body m (rw t refl) in
     record { message = m; spelled = is.0; same = is.1 }
 
-pub message_is_admitted : (body : List Bool) → HasMessage body →
-    admits (number (take 8 body)) (length body) ≡ true
+pub message_is_admitted : (body : List Bool) → HasMessage body → admits (number (take 8 body)) (length body) ≡ true
 message_is_admitted body has =
-    let read : body_reading body ≡ Some has.message =
-    ap body_reading has.same ∙ reads_body has.message has.spelled in
+    let read : body_reading body ≡ Some has.message = ap body_reading has.same ∙ reads_body has.message has.spelled in
     (typed_from body (body_told body has.message read)).admitted
 
 -- WHAT THE CODE READS AND WRITES
@@ -175,8 +164,7 @@ read_is_message body w k s c fills typed layout found =
     let there = subst (λ (r : MessageShape). IsOf r c × (w ≡ spelling r c)) layout found in
     let same : body ≡ binary 8 k ++ spelling (paging_shape_of k) c =
     t.1 ∙ ap (λ (r : List Bool). binary 8 k ++ r) there.1 in
-    (made_of k c
-    (record { typed = t.0; said = there.0; fills = subst (FillsCapsule M30) same fills })).0
+    (made_of k c (record { typed = t.0; said = there.0; fills = subst (FillsCapsule M30) same fills })).0
 
 -- what is written
 pub record IsWritten (k : ℕ) (s : MessageShape) (c : Contents) (m : PagingMessage) : Type 0 where

@@ -48,16 +48,14 @@ none_starts f at (suc n) none =
 
 -- where the first starts one, and no later one
 pub first_starts : (f : ℕ → Piece) (at n : ℕ) → (f at).starts ≡ true →
-    ((i : ℕ) → 0 < i → i < suc n → (f (at + i)).starts ≡ false) →
-    from_last_start (run f at (suc n)) ≡ run f at (suc n)
+    ((i : ℕ) → 0 < i → i < suc n → (f (at + i)).starts ≡ false) → from_last_start (run f at (suc n)) ≡ run f at (suc n)
 first_starts f at n here none =
     let rest = none_starts f (at + 1) n (λ i lt. let g : at + suc i ≡ at + 1 + i = omega arith in
     rw g at (none (suc i) (omega arith) (omega (arith, lt)))) in
     rw (rest, here) refl
 
 -- pieces in front of a message change nothing
-pub started_after : (xs l : List Piece) → from_last_start l ≡ l → 0 < length l →
-    from_last_start (xs ++ l) ≡ l
+pub started_after : (xs l : List Piece) → from_last_start l ≡ l → 0 < length l → from_last_start (xs ++ l) ≡ l
 started_after [] l e some = e
 started_after (p ∷ xs) l e some =
     let rest = started_after xs l e some in

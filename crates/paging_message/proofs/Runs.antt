@@ -22,8 +22,7 @@ HasRoom size at (c ∷ cs) = 8 ≤ bits_left size at
 -- whole capsules that follow one another from a place of a run on
 abbrev pub AreChained : ℕ → ℕ → List (List Bool) → Type 0
 AreChained size at [] = Unit {0}
-AreChained size at (c ∷ cs) =
-    IsWhole c × HasRoom size (at + length c) cs × AreChained size (at + length c) cs
+AreChained size at (c ∷ cs) = IsWhole c × HasRoom size (at + length c) cs × AreChained size (at + length c) cs
 
 -- the capsule whose last bit is bit m of them, counted from 1
 abbrev pub ended_of : List (List Bool) → ℕ → Option (List Bool)
@@ -39,17 +38,14 @@ joined (c ∷ cs) pads = c ++ joined cs pads
 
 -- ---- what a chain of these bits ends
 
-ends-not_there : (fuel size at : ℕ) (bits : List Bool) → is_there bits ≡ false →
-    ends_chain fuel size at bits ≡ None
+ends-not_there : (fuel size at : ℕ) (bits : List Bool) → is_there bits ≡ false → ends_chain fuel size at bits ≡ None
 unfolding ends_chain
 ends-not_there zero size at bits e = refl
 ends-not_there (suc fuel) size at bits e = rw e refl
 
-pub ends-unstated : (fuel size at : ℕ) (bits : List Bool) → is_stated bits ≡ false →
-    ends_chain fuel size at bits ≡ None
+pub ends-unstated : (fuel size at : ℕ) (bits : List Bool) → is_stated bits ≡ false → ends_chain fuel size at bits ≡ None
 ends-unstated fuel size at bits e =
-    ends-not_there fuel size at bits
-    (and_left (is_stated bits) (nat_le (stated_bits bits) (length bits)) e)
+    ends-not_there fuel size at bits (and_left (is_stated bits) (nat_le (stated_bits bits) (length bits)) e)
 
 ends-unfinished : (fuel size at : ℕ) (bits : List Bool) → length bits < stated_bits bits →
     ends_chain fuel size at bits ≡ None
@@ -63,8 +59,7 @@ all_there : (bits : List Bool) (n : ℕ) → stated_bits bits ≡ n → 40 ≤ n
     n ≤ length bits → is_there bits ≡ true
 all_there bits n is least most room =
     and_from (is_stated bits) (nat_le (stated_bits bits) (length bits))
-    (stated_from bits (omega (arith, least, room)) (omega (arith, is, least))
-    (omega (arith, is, most)))
+    (stated_from bits (omega (arith, least, room)) (omega (arith, is, least)) (omega (arith, is, most)))
     (le-leb (stated_bits bits) (length bits) (omega (arith, is, room)))
 
 ends-finished : (fuel size at : ℕ) (bits : List Bool) (n : ℕ) → stated_bits bits ≡ n → 40 ≤ n →
@@ -77,8 +72,7 @@ ends-finished fuel size at bits n is least most long =
     rw (e, l) refl
 
 ends-later : (fuel size at : ℕ) (bits : List Bool) (n : ℕ) → stated_bits bits ≡ n → 40 ≤ n →
-    n ≤ 1184 → n < length bits →
-    ends_chain (suc fuel) size at bits
+    n ≤ 1184 → n < length bits → ends_chain (suc fuel) size at bits
     ≡ cond (nat_le 8 (bits_left size (at + n))) (ends_chain fuel size (at + n) (drop n bits)) None
 unfolding ends_chain
 ends-later fuel size at bits n is least most more =
@@ -97,8 +91,7 @@ number-zeros (suc k) (suc m) (suc pads) = number-zeros k m pads
 
 -- A chain of zeros ends no capsule, since the length that they state is 0, and no lawful length is
 -- that short.
-ends-zeros : (fuel size at m pads : ℕ) →
-    ends_chain fuel size at (take m (replicate pads false)) ≡ None
+ends-zeros : (fuel size at m pads : ℕ) → ends_chain fuel size at (take m (replicate pads false)) ≡ None
 ends-zeros fuel size at m pads =
     let bits = take m (replicate pads false) in
     ends-unstated fuel size at bits
@@ -110,11 +103,9 @@ ends-zeros fuel size at m pads =
 -- ---- the chain
 
 -- the front of bits that begin with a capsule states its length
-stated-front : (c more : List Bool) (m : ℕ) → IsWhole c → 8 ≤ m →
-    stated_bits (take m (c ++ more)) ≡ length c
+stated-front : (c more : List Bool) (m : ℕ) → IsWhole c → 8 ≤ m → stated_bits (take m (c ++ more)) ≡ length c
 stated-front c more m whole enough =
-    ap (λ (bits : List Bool). 8 * number bits)
-    (take-take 8 m (c ++ more) enough ∙ take-append-le 8 c more whole.told)
+    ap (λ (bits : List Bool). 8 * number bits) (take-take 8 m (c ++ more) enough ∙ take-append-le 8 c more whole.told)
     ∙ sym whole.all
 
 -- the bits after the first capsule
@@ -138,8 +129,7 @@ with_room (c ∷ cs) size at m r has e =
 
 -- the first m bits of a chain end what its bit m ends
 pub chain_ends : (cs : List (List Bool)) (fuel size at pads m : ℕ) → AreChained size at cs →
-    m ≤ fuel → m ≤ length (joined cs pads) →
-    ends_chain fuel size at (take m (joined cs pads)) ≡ ended_of cs m
+    m ≤ fuel → m ≤ length (joined cs pads) → ends_chain fuel size at (take m (joined cs pads)) ≡ ended_of cs m
 chain_ends [] fuel size at pads m chained enough room = ends-zeros fuel size at m pads
 chain_ends (c ∷ cs) zero size at pads m chained enough room =
     let whole = chained.0 in
@@ -202,8 +192,7 @@ width size count = (count + size - 1) / size
 
 -- The zeros after a run fill its last half-frame: where r bits of one are taken they are the other
 -- size - r and one half-frame more is counted, and where none is taken there are no zeros.
-fills_from : (size count q r : ℕ) → count ≡ q * size + r → r < size →
-    count + fill size count ≡ size * width size count
+fills_from : (size count q r : ℕ) → count ≡ q * size + r → r < size → count + fill size count ≡ size * width size count
 unfolding fill
 fills_from size count q r parts low =
     let rest : count % size ≡ r = ap (λ (k : ℕ). k % size) parts ∙ mod-mul-add q size r low in
@@ -232,8 +221,7 @@ fills_from size count q r parts low =
 -- zeros fill the last of them
 pub fills : (size count : ℕ) → 0 < size → count + fill size count ≡ size * width size count
 fills size count large =
-    fills_from size count (count / size) (count % size) (sym (div-add-mod' count size))
-    (mod_below count size large)
+    fills_from size count (count / size) (count % size) (sym (div-add-mod' count size)) (mod_below count size large)
 
 pub length-padded : (size : ℕ) (bits : List Bool) → 0 < size →
     length (padded_to size bits) ≡ size * width size (length bits)
@@ -259,8 +247,7 @@ run_width size cs = width size (length (joined cs 0))
 
 -- its half-frame j
 abbrev pub run_piece : ℕ → List (List Bool) → ℕ → Piece
-run_piece size cs j =
-    record { starts = j == 0; body = take size (drop (size * j) (run_bits size cs)) }
+run_piece size cs j = record { starts = j == 0; body = take size (drop (size * j) (run_bits size cs)) }
 
 -- all of them
 abbrev pub run_pieces : ℕ → List (List Bool) → List Piece
@@ -270,12 +257,10 @@ run_pieces size cs = map (run_piece size cs) (places (run_width size cs))
 pub first_begins : (size : ℕ) (cs : List (List Bool)) → (run_piece size cs 0).starts ≡ true
 first_begins size cs = eq-eqb 0 0 refl
 
-pub later_begins_none : (size : ℕ) (cs : List (List Bool)) (j : ℕ) → 0 < j →
-    (run_piece size cs j).starts ≡ false
+pub later_begins_none : (size : ℕ) (cs : List (List Bool)) (j : ℕ) → 0 < j → (run_piece size cs j).starts ≡ false
 later_begins_none size cs j some = ne_eqb j 0 (λ e. omega (arith, e, some))
 
-pub run_width_some : (size : ℕ) (cs : List (List Bool)) → 0 < size → 0 < length (joined cs 0) →
-    0 < run_width size cs
+pub run_width_some : (size : ℕ) (cs : List (List Bool)) → 0 < size → 0 < length (joined cs 0) → 0 < run_width size cs
 run_width_some size cs large some =
     let all = fills size (length (joined cs 0)) large in
     elim (cases_lt 0 (run_width size cs)) [
@@ -302,15 +287,13 @@ runs_on before f (suc j) q begins none same =
     ap (λ (l : List Piece). from_last_start ((before ++ l) ++ q ∷ [])) (run-places f (suc j))
     ∙ ap from_last_start (append_assoc before (f 0 ∷ rest) (q ∷ []))
     ∙ from_start_of_run before (f 0) (rest ++ q ∷ []) begins
-    (none_starts-append rest (q ∷ []) (silent_rest f 1 j (omega arith) none)
-    (same ∙ none (suc j) (omega arith), tt))
+    (none_starts-append rest (q ∷ []) (silent_rest f 1 j (omega arith) none) (same ∙ none (suc j) (omega arith), tt))
     ∙ ap (λ (l : List Piece). l ++ q ∷ []) (sym (run-places f (suc j)))
   where
     silent_rest : (f : ℕ → Piece) (at n : ℕ) → 0 < at →
         ((i : ℕ) → 0 < i → (f i).starts ≡ false) → NoneStarts (run f at n)
     silent_rest f at zero some none = tt
-    silent_rest f at (suc n) some none =
-        (none at some, silent_rest f (at + 1) n (omega arith) none)
+    silent_rest f at (suc n) some none = (none at some, silent_rest f (at + 1) n (omega arith) none)
 
 -- their body bits
 front_bodies : (size : ℕ) (cs : List (List Bool)) (j : ℕ) →
@@ -342,8 +325,7 @@ message_bits size before cs j i lt =
     let q = cut_short (f j) (suc i) in
     let rest = drop (size * j) bits in
     let e : size * j + suc i ≡ suc (size * j + i) = omega arith in
-    ap bodies (runs_on before f j q (first_begins size cs)
-    (λ k some. later_begins_none size cs k some) refl)
+    ap bodies (runs_on before f j q (first_begins size cs) (λ k some. later_begins_none size cs k some) refl)
     ∙ flat_map-append (λ (p : Piece). p.body) (map f (places j)) (q ∷ [])
     ∙ ap (λ (l : List Bool). bodies (map f (places j)) ++ l) (append-nil q.body)
     ∙ ap (λ (l : List Bool). l ++ take (suc i) (take size rest)) (front_bodies size cs j)
@@ -370,8 +352,7 @@ front_ends size cs m chained room =
     let bits = take m (run_bits size cs) in
     let long : length bits ≡ m = length-take-le m (run_bits size cs) room in
     ap (λ (l : List Bool). ends_chain (length bits) size 0 (take m l)) (sym same)
-    ∙ chain_ends cs (length bits) size 0 n m chained (omega (arith, long))
-    (rw same room)
+    ∙ chain_ends cs (length bits) size 0 n m chained (omega (arith, long)) (rw same room)
 
 -- the capsules of a run's half-frame j
 half_frame_tells : (size : ℕ) (before : List Piece) (cs : List (List Bool)) (j : ℕ) → 0 < size →
@@ -384,14 +365,11 @@ half_frame_tells size before cs j large chained lt =
     let long : length bits ≡ size * run_width size cs = length-padded size (joined cs 0) large in
     let room : size * suc j ≤ size * run_width size cs = mul-le-mul_left size lt in
     let e : size * suc j ≡ size * j + size = omega arith in
-    flat_map_ext_places
-    (λ i. option_to_list (ended size (front ++ cut_short (run_piece size cs j) (suc i) ∷ [])))
+    flat_map_ext_places (λ i. option_to_list (ended size (front ++ cut_short (run_piece size cs j) (suc i) ∷ [])))
     (λ i. option_to_list (ended_of cs (suc (size * j + i)))) size
     (λ i less.
-    ap (λ (l : List Bool). option_to_list (chain_of size l))
-    (message_bits size before cs j i less)
-    ∙ ap option_to_list (front_ends size cs (suc (size * j + i)) chained
-    (omega (arith, less, room, long, e))))
+    ap (λ (l : List Bool). option_to_list (chain_of size l)) (message_bits size before cs j i less)
+    ∙ ap option_to_list (front_ends size cs (suc (size * j + i)) chained (omega (arith, less, room, long, e))))
 
 -- what bit m of a run ends, counted from 0, with the number of its half-frame
 abbrev pub ending_at : ℕ → ℕ → List (List Bool) → ℕ → List (ℕ × List Bool)
@@ -406,8 +384,7 @@ numbered o g (k ∷ ks) =
 
 -- The first j half-frames of a run, whatever was heard before, end what their bits end.
 pub run_scanned : (size : ℕ) (before : List Piece) (o : ℕ) (cs : List (List Bool)) (j : ℕ) →
-    0 < size → AreChained size 0 cs → j ≤ run_width size cs →
-    scan size before o (map (run_piece size cs) (places j))
+    0 < size → AreChained size 0 cs → j ≤ run_width size cs → scan size before o (map (run_piece size cs) (places j))
     ≡ flat_map (ending_at size (size * o) cs) (places (size * j))
 run_scanned size before o cs zero large chained le =
     let e : size * zero ≡ 0 = omega arith in
@@ -425,8 +402,7 @@ run_scanned size before o cs (suc j) large chained le =
     ∙ ap (λ (l : List (ℕ × List Bool)). flat_map g (places (size * j)) ++ l)
     (ap (with_number (o + j)) (half_frame_tells size before cs j large chained le)
     ∙ numbered (o + j) (λ i. option_to_list (ended_of cs (suc (size * j + i)))) (places size)
-    ∙ flat_map_ext_places
-    (λ i. with_number (o + j) (option_to_list (ended_of cs (suc (size * j + i)))))
+    ∙ flat_map_ext_places (λ i. with_number (o + j) (option_to_list (ended_of cs (suc (size * j + i)))))
     (λ i. g (size * j + i)) size
     (λ i lt.
     let far : size * o + (size * j + i) ≡ (o + j) * size + i = omega arith in
@@ -438,15 +414,13 @@ run_scanned size before o cs (suc j) large chained le =
 
 -- ---- bits that end a capsule
 
-pub ended-first : (c : List Bool) (cs : List (List Bool)) (m : ℕ) → m ≡ length c →
-    ended_of (c ∷ cs) m ≡ Some c
+pub ended-first : (c : List Bool) (cs : List (List Bool)) (m : ℕ) → m ≡ length c → ended_of (c ∷ cs) m ≡ Some c
 ended-first c cs m e =
     let a : nat_lt m (length c) ≡ false = le-ltb m (length c) (omega (arith, e)) in
     let b : nat_le m (length c) ≡ true = le-leb m (length c) (omega (arith, e)) in
     rw (a, b) refl
 
-pub ended-before : (c : List Bool) (cs : List (List Bool)) (m : ℕ) → m < length c →
-    ended_of (c ∷ cs) m ≡ None
+pub ended-before : (c : List Bool) (cs : List (List Bool)) (m : ℕ) → m < length c → ended_of (c ∷ cs) m ≡ None
 ended-before c cs m less =
     let a : nat_lt m (length c) ≡ true = lt-ltb m (length c) less in rw a refl
 
@@ -468,13 +442,11 @@ first_bits_told size at d c cs long =
     ∙ ap (λ (l : List (ℕ × List Bool)). l ++ g d)
     (flat_map-nothing g d (λ k lt. ap (λ o. with_number ((at + k) / size) (option_to_list o))
     (ended-before c cs (suc k) (omega (arith, lt, long)))))
-    ∙ ap (λ o. with_number ((at + d) / size) (option_to_list o))
-    (ended-first c cs (suc d) (sym long))
+    ∙ ap (λ o. with_number ((at + d) / size) (option_to_list o)) (ended-first c cs (suc d) (sym long))
     ∙ ap (λ (k : ℕ). (k / size, c) ∷ []) e
 
 -- none after all of them
-pub ended-past : (cs : List (List Bool)) (m : ℕ) → length (joined cs 0) ≤ m →
-    ended_of cs (suc m) ≡ None
+pub ended-past : (cs : List (List Bool)) (m : ℕ) → length (joined cs 0) ≤ m → ended_of cs (suc m) ≡ None
 ended-past [] m past = refl
 ended-past (c ∷ cs) m past =
     let long = length-append c (joined cs 0) in

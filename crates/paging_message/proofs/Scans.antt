@@ -23,8 +23,7 @@ abbrev pub AreWhole : ℕ → List Piece → Type 0
 AreWhole size [] = Unit {0}
 AreWhole size (p ∷ pieces) = (length p.body ≡ size) × AreWhole size pieces
 
-pub whole-append : (size : ℕ) (xs ys : List Piece) → AreWhole size xs → AreWhole size ys →
-    AreWhole size (xs ++ ys)
+pub whole-append : (size : ℕ) (xs ys : List Piece) → AreWhole size xs → AreWhole size ys → AreWhole size (xs ++ ys)
 whole-append size [] ys a b = b
 whole-append size (x ∷ xs) ys a b = (a.0, whole-append size xs ys a.1 b)
 
@@ -39,12 +38,7 @@ pub length-stream : (size : ℕ) (pieces : List Piece) → AreWhole size pieces 
     length (stream pieces) ≡ (size + 1) * length pieces
 length-stream size [] are = omega arith
 length-stream size (p ∷ pieces) are =
-    omega (
-      arith,
-      length-append (bits_of p) (stream pieces),
-      length-stream size pieces are.1,
-      are.0,
-    )
+    omega (arith, length-append (bits_of p) (stream pieces), length-stream size pieces are.1, are.0)
 
 -- the default where there is no half-frame
 pub no_piece : Piece
@@ -76,8 +70,7 @@ half_frames_of_stream size pieces more are some most =
     let n = length pieces in
     halves_more size n (stream pieces) more (length-stream size pieces are) some most
     ∙ ap (λ (l : List Piece). l ++ piece more ∷ [])
-    (sym (map-places-all (part size (stream pieces)) pieces n no_piece refl
-    (λ h lt. part_is size pieces h are lt)))
+    (sym (map-places-all (part size (stream pieces)) pieces n no_piece refl (λ h lt. part_is size pieces h are lt)))
 
 -- ---- the message
 
@@ -86,17 +79,14 @@ abbrev pub NoneStarts : List Piece → Type 0
 NoneStarts [] = Unit {0}
 NoneStarts (p ∷ pieces) = (p.starts ≡ false) × NoneStarts pieces
 
-pub none_starts-append : (xs ys : List Piece) → NoneStarts xs → NoneStarts ys →
-    NoneStarts (xs ++ ys)
+pub none_starts-append : (xs ys : List Piece) → NoneStarts xs → NoneStarts ys → NoneStarts (xs ++ ys)
 none_starts-append [] ys a b = b
 none_starts-append (x ∷ xs) ys a b = (a.0, none_starts-append xs ys a.1 b)
 
-pub none_starts-map : (f : ℕ → Piece) (n : ℕ) → ((k : ℕ) → (f k).starts ≡ false) →
-    NoneStarts (map f (places n))
+pub none_starts-map : (f : ℕ → Piece) (n : ℕ) → ((k : ℕ) → (f k).starts ≡ false) → NoneStarts (map f (places n))
 none_starts-map f zero none = rw (map-zero f) tt
 none_starts-map f (suc n) none =
-    rw (map-next f n) (none_starts-append (map f (places n)) (f n ∷ [])
-    (none_starts-map f n none) (none n, tt))
+    rw (map-next f n) (none_starts-append (map f (places n)) (f n ∷ []) (none_starts-map f n none) (none n, tt))
 
 pub from_no_start : (pieces : List Piece) → NoneStarts pieces → from_last_start pieces ≡ []
 from_no_start [] none = refl
@@ -129,8 +119,7 @@ cut_short p m = record { starts = p.starts; body = take m p.body }
 
 -- the capsules that a half-frame's bits end, after others
 abbrev pub told_in : ℕ → List Piece → Piece → List (List Bool)
-told_in size before p =
-    flat_map (λ i. option_to_list (ended size (before ++ cut_short p (suc i) ∷ []))) (places size)
+told_in size before p = flat_map (λ i. option_to_list (ended size (before ++ cut_short p (suc i) ∷ []))) (places size)
 
 -- capsules, each with a number
 abbrev pub with_number : ℕ → List (List Bool) → List (ℕ × List Bool)
@@ -139,13 +128,11 @@ with_number o cs = map (λ (c : List Bool). (o, c)) cs
 -- those of many, each with its half-frame's number; the first of them has number `o`
 abbrev pub scan : ℕ → List Piece → ℕ → List Piece → List (ℕ × List Bool)
 scan size before o [] = []
-scan size before o (p ∷ pieces) =
-    with_number o (told_in size before p) ++ scan size (before ++ p ∷ []) (suc o) pieces
+scan size before o (p ∷ pieces) = with_number o (told_in size before p) ++ scan size (before ++ p ∷ []) (suc o) pieces
 
 -- Half-frames in two lists end what the first list ends, and then what the second does after it
 -- with numbers that go on, by induction over the first list.
-pub scan-append : (size : ℕ) (before : List Piece) (o : ℕ) (xs ys : List Piece) →
-    scan size before o (xs ++ ys)
+pub scan-append : (size : ℕ) (before : List Piece) (o : ℕ) (xs ys : List Piece) → scan size before o (xs ++ ys)
     ≡ scan size before o xs ++ scan size (before ++ xs) (o + length xs) ys
 scan-append size before o [] ys =
     let e : o ≡ o + 0 = omega arith in
@@ -156,18 +143,15 @@ scan-append size before o (x ∷ xs) ys =
     let e : suc o + length xs ≡ o + suc (length xs) = omega arith in
     let next = before ++ x ∷ [] in
     ap (λ (l : List (ℕ × List Bool)). own ++ l) (scan-append size next (suc o) xs ys)
-    ∙ sym (append_assoc own (scan size next (suc o) xs)
-    (scan size (next ++ xs) (suc o + length xs) ys))
+    ∙ sym (append_assoc own (scan size next (suc o) xs) (scan size (next ++ xs) (suc o + length xs) ys))
     ∙ ap (λ (l : List Piece). (own ++ scan size next (suc o) xs) ++
     scan size l (suc o + length xs) ys) (append_assoc before (x ∷ []) xs)
     ∙ ap (λ (n : ℕ). (own ++ scan size next (suc o) xs) ++ scan size (before ++ x ∷ xs) n ys) e
 
 -- one half-frame more
-pub scan-next : (size : ℕ) (before : List Piece) (o : ℕ) (f : ℕ → Piece) (n : ℕ) →
-    length (map f (places n)) ≡ n →
+pub scan-next : (size : ℕ) (before : List Piece) (o : ℕ) (f : ℕ → Piece) (n : ℕ) → length (map f (places n)) ≡ n →
     scan size before o (map f (places (suc n)))
-    ≡ scan size before o (map f (places n)) ++
-    with_number (o + n) (told_in size (before ++ map f (places n)) (f n))
+    ≡ scan size before o (map f (places n)) ++ with_number (o + n) (told_in size (before ++ map f (places n)) (f n))
 scan-next size before o f n long =
     let front = map f (places n) in
     let own = λ (k : ℕ). with_number k (told_in size (before ++ front) (f n)) in
@@ -180,8 +164,7 @@ scan-next size before o f n long =
 
 pub ended_none : (size : ℕ) (pieces : List Piece) → NoneStarts pieces → ended size pieces ≡ None
 unfolding ends_chain
-ended_none size pieces none =
-    ap (λ (l : List Piece). chain_of size (bodies l)) (from_no_start pieces none)
+ended_none size pieces none = ap (λ (l : List Piece). chain_of size (bodies l)) (from_no_start pieces none)
 
 -- half-frames in which no run begins, after others of the kind, end nothing
 pub scan_silent : (size : ℕ) (before : List Piece) (o : ℕ) (pieces : List Piece) →
@@ -189,14 +172,12 @@ pub scan_silent : (size : ℕ) (before : List Piece) (o : ℕ) (pieces : List Pi
 scan_silent size before o [] none more = refl
 scan_silent size before o (p ∷ pieces) none more =
     let nothing : told_in size before p ≡ [] =
-    flat_map-nothing
-    (λ i. option_to_list (ended size (before ++ cut_short p (suc i) ∷ []))) size
+    flat_map-nothing (λ i. option_to_list (ended size (before ++ cut_short p (suc i) ∷ []))) size
     (λ i lt. ap option_to_list (ended_none size (before ++ cut_short p (suc i) ∷ [])
     (none_starts-append before (cut_short p (suc i) ∷ []) none (more.0, tt)))) in
     ap (λ (l : List (List Bool)). with_number o l ++ scan size (before ++ p ∷ []) (suc o) pieces)
     nothing
-    ∙ scan_silent size (before ++ p ∷ []) (suc o) pieces
-    (none_starts-append before (p ∷ []) none (more.0, tt)) more.1
+    ∙ scan_silent size (before ++ p ∷ []) (suc o) pieces (none_starts-append before (p ∷ []) none (more.0, tt)) more.1
 
 -- ---- bit by bit
 
@@ -223,47 +204,38 @@ ending_of_half_frames : (size : ℕ) (bits : List Bool) (pieces : List Piece) �
     (length bits % (size + 1) == 1) ≡ false → half_frames size bits ≡ pieces →
     half_frame_capsule_ending size bits ≡ ended size pieces
 unfolding half_frame_capsule_ending
-ending_of_half_frames size bits pieces inside are =
-    rw inside (ap (ended size) are)
+ending_of_half_frames size bits pieces inside are = rw inside (ap (ended size) are)
 
 -- a body bit of a half-frame after others
 body_bit_ends : (size : ℕ) (before : List Piece) (p : Piece) (i : ℕ) → AreWhole size before →
-    length p.body ≡ size → i < size →
-    half_frame_capsule_ending size (stream before ++ take (suc (suc i)) (bits_of p))
+    length p.body ≡ size → i < size → half_frame_capsule_ending size (stream before ++ take (suc (suc i)) (bits_of p))
     ≡ ended size (before ++ cut_short p (suc i) ∷ [])
 body_bit_ends size before p i are long lt =
     let n = length before in
     let more = take (suc (suc i)) (bits_of p) in
-    let own : length more ≡ suc (suc i) =
-    ap suc (length-take-le (suc i) p.body (omega (arith, long, lt))) in
+    let own : length more ≡ suc (suc i) = ap suc (length-take-le (suc i) p.body (omega (arith, long, lt))) in
     let all : length (stream before ++ more) ≡ (size + 1) * n + suc (suc i) =
     omega (arith, length-append (stream before) more, length-stream size before are, own) in
     let inside : (length (stream before ++ more) % (size + 1) == 1) ≡ false =
     ne_eqb (length (stream before ++ more) % (size + 1)) 1
-    (λ one. not_first size n (suc i) (omega arith) lt
-    (ap (λ (k : ℕ). k % (size + 1)) (sym all) ∙ one)) in
+    (λ one. not_first size n (suc i) (omega arith) lt (ap (λ (k : ℕ). k % (size + 1)) (sym all) ∙ one)) in
     ending_of_half_frames size (stream before ++ more) (before ++ cut_short p (suc i) ∷ []) inside
     (half_frames_of_stream size before more are (omega (arith, own)) (omega (arith, own, lt)))
 
 -- the capsules that more bits end, after others
 abbrev pub ended_by_bits : ℕ → List Bool → List Bool → List (List Bool)
 ended_by_bits size bits more =
-    flat_map
-    (λ i. option_to_list (half_frame_capsule_ending size (bits ++ take (i + 1) more)))
-    (places (length more))
+    flat_map (λ i. option_to_list (half_frame_capsule_ending size (bits ++ take (i + 1) more))) (places (length more))
 
 -- the bits of a half-frame, the SCI bit among them
 pub half_frame_ends : (size : ℕ) (before : List Piece) (p : Piece) → 0 < size →
-    AreWhole size before → length p.body ≡ size →
-    ended_by_bits size (stream before) (bits_of p) ≡ told_in size before p
+    AreWhole size before → length p.body ≡ size → ended_by_bits size (stream before) (bits_of p) ≡ told_in size before p
 half_frame_ends size before p large are long =
-    let each = λ (i : ℕ). option_to_list
-    (half_frame_capsule_ending size (stream before ++ take (i + 1) (bits_of p))) in
+    let each = λ (i : ℕ). option_to_list (half_frame_capsule_ending size (stream before ++ take (i + 1) (bits_of p))) in
     let count : length (bits_of p) ≡ 1 + size = omega (arith, long) in
     let one : 0 + 1 ≡ suc 0 = omega arith in
     let first : each 0 ≡ [] =
-    ap (λ (k : ℕ). option_to_list
-    (half_frame_capsule_ending size (stream before ++ take k (bits_of p)))) one
+    ap (λ (k : ℕ). option_to_list (half_frame_capsule_ending size (stream before ++ take k (bits_of p)))) one
     ∙ ap option_to_list (mark_ends size (length before) (stream before) p.starts large
     (length-stream size before are)) in
     ap (λ (k : ℕ). flat_map each (places k)) count
@@ -275,19 +247,16 @@ half_frame_ends size before p large are long =
     (λ i. option_to_list (ended size (before ++ cut_short p (suc i) ∷ []))) size
     (λ i lt.
     let e : 1 + i + 1 ≡ suc (suc i) = omega arith in
-    ap (λ (k : ℕ). option_to_list
-    (half_frame_capsule_ending size (stream before ++ take k (bits_of p)))) e
+    ap (λ (k : ℕ). option_to_list (half_frame_capsule_ending size (stream before ++ take k (bits_of p)))) e
     ∙ ap option_to_list (body_bit_ends size before p i are long lt))
 
 -- What a list of bits ends is what its first part ends and then what its second part does: the
 -- fronts that reach into the second part are the first part and a front of the second, and the
 -- others are fronts of the first.
-pub ended_by-append : (size : ℕ) (bits xs ys : List Bool) →
-    ended_by_bits size bits (xs ++ ys)
+pub ended_by-append : (size : ℕ) (bits xs ys : List Bool) → ended_by_bits size bits (xs ++ ys)
     ≡ ended_by_bits size bits xs ++ ended_by_bits size (bits ++ xs) ys
 ended_by-append size bits xs ys =
-    let each = λ (more : List Bool) (k : ℕ). option_to_list
-    (half_frame_capsule_ending size (bits ++ take k more)) in
+    let each = λ (more : List Bool) (k : ℕ). option_to_list (half_frame_capsule_ending size (bits ++ take k more)) in
     let a = length xs in
     ap (λ (k : ℕ). flat_map (λ i. each (xs ++ ys) (i + 1)) (places k)) (length-append xs ys)
     ∙ flat_map-add (λ i. each (xs ++ ys) (i + 1)) a (length ys)
@@ -298,8 +267,7 @@ ended_by-append size bits xs ys =
     (take-append-le (i + 1) xs ys (omega (arith, lt)))))
     ∙ ap (λ (l : List (List Bool)). ended_by_bits size bits xs ++ l)
     (flat_map_ext_places (λ i. each (xs ++ ys) (a + i + 1))
-    (λ i. option_to_list (half_frame_capsule_ending size ((bits ++ xs) ++ take (i + 1) ys)))
-    (length ys)
+    (λ i. option_to_list (half_frame_capsule_ending size ((bits ++ xs) ++ take (i + 1) ys))) (length ys)
     (λ i lt.
     let e : a + i + 1 ≡ a + (i + 1) = omega arith in
     ap (λ (l : List Bool). option_to_list (half_frame_capsule_ending size (bits ++ l)))
@@ -321,11 +289,9 @@ silent_pieces : (size n : ℕ) → NoneStarts (half_frames size (replicate n fal
 unfolding half_frames
 silent_pieces size n =
     none_starts-map (λ h. piece (take (size + 1) (drop ((size + 1) * h) (replicate n false))))
-    ((length (replicate n false) + size) / (size + 1))
-    (λ h. zero_piece (size + 1) ((size + 1) * h) n)
+    ((length (replicate n false) + size) / (size + 1)) (λ h. zero_piece (size + 1) ((size + 1) * h) n)
 
-ending_is : (size : ℕ) (bits : List Bool) →
-    half_frame_capsule_ending size bits
+ending_is : (size : ℕ) (bits : List Bool) → half_frame_capsule_ending size bits
     ≡ cond (length bits % (size + 1) == 1) None (ended size (half_frames size bits))
 unfolding half_frame_capsule_ending
 ending_is size bits = refl

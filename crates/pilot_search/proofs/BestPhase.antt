@@ -20,16 +20,14 @@ best_phase-only samples phase most h =
 
 pub best_energy-only : (samples : List Sample) (phase most : ℕ) →
     IsBestIn samples 0 32768 phase most → most ≡ energy samples (best_phase samples)
-best_energy-only samples phase most h =
-    h.measured ∙ ap (energy samples) (best_phase-only samples phase most h)
+best_energy-only samples phase most h = h.measured ∙ ap (energy samples) (best_phase-only samples phase most h)
 
 pub best_phase-is : (samples : List Sample) →
     IsBestIn samples 0 32768 (best_phase samples) (energy samples (best_phase samples))
 unfolding best_phase
 best_phase-is samples =
     let f = λ (k : ℕ). pos (energy samples k) in
-    let is : IsFirstGreatest f 32768 (first_greatest f 32768) =
-    first_greatest-is f 32768 (omega arith) in
+    let is : IsFirstGreatest f 32768 (first_greatest f 32768) = first_greatest-is f 32768 (omega arith) in
     record {
       not_below = omega arith;
       below = is.below;

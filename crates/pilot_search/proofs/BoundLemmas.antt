@@ -8,8 +8,7 @@ use Rattle.pilot_search.proofs.CorrelationSums.{plus_is}
 
 -- PARTS OF THE SAMPLES
 -- the code begins again after 32,768 chips
-pub despread_mod : (samples : List Sample) (a b : ℕ) → a % 32768 ≡ b % 32768 →
-    despread a samples ≡ despread b samples
+pub despread_mod : (samples : List Sample) (a b : ℕ) → a % 32768 ≡ b % 32768 → despread a samples ≡ despread b samples
 despread_mod [] a b e = refl
 despread_mod (s ∷ samples) a b e =
     ap (λ (n : ℕ). times (of_sample s) (conjugate (point (pilot_chip n)))
@@ -31,8 +30,7 @@ correlation-append xs ys phase =
 
 -- one chunk further
 pub chunk_more : (samples : List Sample) (phase k n : ℕ) → k ≤ length samples →
-    phase_correlation (take (k + n) samples) phase ≡
-    plus (phase_correlation (take k samples) phase)
+    phase_correlation (take (k + n) samples) phase ≡ plus (phase_correlation (take k samples) phase)
     (phase_correlation (take n (drop k samples)) ((phase + k) % 32768))
 chunk_more samples phase k n le =
     let before = take k samples in
@@ -48,10 +46,8 @@ unfolding phase_correlation
 nothing_yet samples phase = refl
 
 -- the sum so far and the sum of the rest
-parted : (samples : List Sample) (phase k : ℕ) →
-    sum_of (despread phase samples) ≡
-    plus (sum_of (despread phase (take k samples)))
-    (sum_of (despread (phase + k) (drop k samples)))
+parted : (samples : List Sample) (phase k : ℕ) → sum_of (despread phase samples) ≡
+    plus (sum_of (despread phase (take k samples))) (sum_of (despread (phase + k) (drop k samples)))
 parted [] phase zero = refl
 parted [] phase (suc k) = refl
 parted (s ∷ samples) phase zero = let e : phase + 0 ≡ phase = omega arith in
@@ -64,16 +60,14 @@ parted (s ∷ samples) phase (suc k) =
     (sum_of (despread (phase + 1 + k) (drop k samples)))))
 
 -- BOUNDS
-product_i : (s : Sample) (chip : Bool × Bool) →
-    unsigned_abs (times (of_sample s) (conjugate (point chip))).i ≤
+product_i : (s : Sample) (chip : Bool × Bool) → unsigned_abs (times (of_sample s) (conjugate (point chip))).i ≤
     unsigned_abs s.i + unsigned_abs s.q
 product_i s (true, true) = omega (arith, ints)
 product_i s (true, false) = omega (arith, ints)
 product_i s (false, true) = omega (arith, ints)
 product_i s (false, false) = omega (arith, ints)
 
-product_q : (s : Sample) (chip : Bool × Bool) →
-    unsigned_abs (times (of_sample s) (conjugate (point chip))).q ≤
+product_q : (s : Sample) (chip : Bool × Bool) → unsigned_abs (times (of_sample s) (conjugate (point chip))).q ≤
     unsigned_abs s.i + unsigned_abs s.q
 product_q s (true, true) = omega (arith, ints)
 product_q s (true, false) = omega (arith, ints)
@@ -83,22 +77,18 @@ product_q s (false, false) = omega (arith, ints)
 near : (t u : ℤ) (m n : ℕ) → unsigned_abs t ≤ m → unsigned_abs u ≤ n → unsigned_abs (t +ℤ u) ≤ m + n
 near t u m n a b = omega (arith, ints)
 
-rest_i : (phase : ℕ) (samples : List Sample) →
-    unsigned_abs (sum_of (despread phase samples)).i ≤ magnitudes samples
+rest_i : (phase : ℕ) (samples : List Sample) → unsigned_abs (sum_of (despread phase samples)).i ≤ magnitudes samples
 rest_i phase [] = omega arith
 rest_i phase (s ∷ samples) =
     near (times (of_sample s) (conjugate (code_point phase))).i
-    (sum_of (despread (phase + 1) samples)).i (unsigned_abs s.i + unsigned_abs s.q)
-    (magnitudes samples)
+    (sum_of (despread (phase + 1) samples)).i (unsigned_abs s.i + unsigned_abs s.q) (magnitudes samples)
     (product_i s (pilot_chip (phase % 32768))) (rest_i (phase + 1) samples)
 
-rest_q : (phase : ℕ) (samples : List Sample) →
-    unsigned_abs (sum_of (despread phase samples)).q ≤ magnitudes samples
+rest_q : (phase : ℕ) (samples : List Sample) → unsigned_abs (sum_of (despread phase samples)).q ≤ magnitudes samples
 rest_q phase [] = omega arith
 rest_q phase (s ∷ samples) =
     near (times (of_sample s) (conjugate (code_point phase))).q
-    (sum_of (despread (phase + 1) samples)).q (unsigned_abs s.i + unsigned_abs s.q)
-    (magnitudes samples)
+    (sum_of (despread (phase + 1) samples)).q (unsigned_abs s.i + unsigned_abs s.q) (magnitudes samples)
     (product_q s (pilot_chip (phase % 32768))) (rest_q (phase + 1) samples)
 
 reach : (a b : ℤ) (left : ℕ) → unsigned_abs b ≤ left →
@@ -107,16 +97,13 @@ reach a b left h = let w : unsigned_abs (a +ℤ b) ≤ unsigned_abs a + left = o
     mul-le-mul w w
 
 -- the bound holds
-pub bounds : (samples : List Sample) (phase done : ℕ) →
-    energy samples phase ≤ bound samples phase done
+pub bounds : (samples : List Sample) (phase done : ℕ) → energy samples phase ≤ bound samples phase done
 unfolding energy phase_correlation
 bounds samples phase done =
     let x = sum_of (despread phase (take done samples)) in
     let y = sum_of (despread (phase + done) (drop done samples)) in
-    let i = reach x.i y.i (magnitudes (drop done samples))
-    (rest_i (phase + done) (drop done samples)) in
-    let q = reach x.q y.q (magnitudes (drop done samples))
-    (rest_q (phase + done) (drop done samples)) in
+    let i = reach x.i y.i (magnitudes (drop done samples)) (rest_i (phase + done) (drop done samples)) in
+    let q = reach x.q y.q (magnitudes (drop done samples)) (rest_q (phase + done) (drop done samples)) in
     let both : norm (plus x y) ≤ bound samples phase done = omega arith in
     rw (parted samples phase done) both
 
@@ -130,13 +117,11 @@ magnitudes_parted (s ∷ samples) (suc n) =
     let rest = magnitudes_parted samples n in
     omega (arith, rest)
 
-chunk_i : (samples : List Sample) (phase : ℕ) →
-    unsigned_abs (phase_correlation samples phase).i ≤ magnitudes samples
+chunk_i : (samples : List Sample) (phase : ℕ) → unsigned_abs (phase_correlation samples phase).i ≤ magnitudes samples
 unfolding phase_correlation
 chunk_i samples phase = rest_i phase samples
 
-chunk_q : (samples : List Sample) (phase : ℕ) →
-    unsigned_abs (phase_correlation samples phase).q ≤ magnitudes samples
+chunk_q : (samples : List Sample) (phase : ℕ) → unsigned_abs (phase_correlation samples phase).q ≤ magnitudes samples
 unfolding phase_correlation
 chunk_q samples phase = rest_q phase samples
 
@@ -195,11 +180,7 @@ none_left (s ∷ samples) phase limit e = absurd (omega (arith, e))
 -- THE SUM SO FAR
 pub none_added : (samples : List Sample) (phase : ℕ) → IsSumOf samples phase 0 origin
 none_added samples phase =
-    record {
-      value = sym (nothing_yet samples phase);
-      i_bound = omega arith;
-      q_bound = omega arith;
-    }
+    record { value = sym (nothing_yet samples phase); i_bound = omega arith; q_bound = omega arith }
 
 -- the step of the loop over blocks of chunks
 pub sum_more : (samples rest : List Sample) (phase j chunks : ℕ) (sum part : Pair) (i q : ℤ) →
@@ -233,8 +214,7 @@ unfolding phase_correlation
 whole_parted samples phase done = sym (parted samples phase done)
 
 -- the last chunk is added
-pub sum_whole : (samples : List Sample) (phase done : ℕ) (sum part all : Pair) →
-    IsSumOf samples phase done sum →
+pub sum_whole : (samples : List Sample) (phase done : ℕ) (sum part all : Pair) → IsSumOf samples phase done sum →
     part ≡ phase_correlation (drop done samples) ((phase + done) % 32768) → all ≡ plus sum part →
     norm all ≡ energy samples phase
 unfolding energy

@@ -10,8 +10,7 @@ abbrev pub no_sample : Sample
 no_sample = record { i = pos 0; q = pos 0 }
 
 -- one sample further
-pub correlation_with-more : (samples : List Sample) (signs : List (ℤ × ℤ)) (t : ℕ)
-    (sum product : Pair) (i q : ℤ) →
+pub correlation_with-more : (samples : List Sample) (signs : List (ℤ × ℤ)) (t : ℕ) (sum product : Pair) (i q : ℤ) →
     t < length samples → t < length signs →
     product ≡ turned (get_or samples t no_sample) (get_or signs t (pos 0, pos 0)) →
     i ≡ sum.i +ℤ product.i → q ≡ sum.q +ℤ product.q →
@@ -21,21 +20,16 @@ unfolding correlation_with
 correlation_with-more samples signs t sum product i q h g is ei eq =
     let x = get_or samples t no_sample in
     let s = get_or signs t (pos 0, pos 0) in
-    let more : drop t samples ≡ x ∷ drop (t + 1) samples =
-    rw add-one (drop-cons samples t no_sample h) in
-    let more_signs : drop t signs ≡ s ∷ drop (t + 1) signs =
-    rw add-one (drop-cons signs t (pos 0, pos 0) g) in
+    let more : drop t samples ≡ x ∷ drop (t + 1) samples = rw add-one (drop-cons samples t no_sample h) in
+    let more_signs : drop t signs ≡ s ∷ drop (t + 1) signs = rw add-one (drop-cons signs t (pos 0, pos 0) g) in
     rw (more, more_signs, ei, eq, is)
-    (plus_assoc sum (turned x s)
-    (sum_of (zip_with turned (drop (t + 1) samples) (drop (t + 1) signs))))
+    (plus_assoc sum (turned x s) (sum_of (zip_with turned (drop (t + 1) samples) (drop (t + 1) signs))))
 
 -- nothing is left
-pub correlation_with-all : (samples : List Sample) (signs : List (ℤ × ℤ)) (t : ℕ) (sum : Pair) →
-    length samples ≤ t →
+pub correlation_with-all : (samples : List Sample) (signs : List (ℤ × ℤ)) (t : ℕ) (sum : Pair) → length samples ≤ t →
     plus sum (correlation_with (drop t samples) (drop t signs)) ≡ sum
 unfolding correlation_with
-correlation_with-all samples signs t sum h =
-    rw (drop_all t samples h) (plus-origin sum)
+correlation_with-all samples signs t sum h = rw (drop_all t samples h) (plus-origin sum)
 
 -- each of the pilot's signs is +1 or -1
 pub units : All IsUnit pilot_signs
@@ -46,8 +40,7 @@ units =
 
 -- samples at a phase, on the table from that phase on, where it doesn't end before them
 pub despread_from : (samples : List Sample) (phase n turns : ℕ) → phase ≡ n + 32768 * turns →
-    n + length samples ≤ 32768 →
-    despread phase samples ≡ zip_with turned samples (drop n pilot_signs)
+    n + length samples ≤ 32768 → despread phase samples ≡ zip_with turned samples (drop n pilot_signs)
 despread_from [] phase n turns at room = refl
 despread_from (s ∷ samples) phase n turns at room =
     let within : n < 32768 = omega (arith, room) in
@@ -61,8 +54,7 @@ despread_from (s ∷ samples) phase n turns at room =
     rw (entry, place, rest)
 
 -- the samples after the part that ends with the code, or none
-rest_from_start : (after : List Sample) (phase : ℕ) → length after ≤ 32768 →
-    (phase ≡ 32768) ⊎ (length after ≡ 0) →
+rest_from_start : (after : List Sample) (phase : ℕ) → length after ≤ 32768 → (phase ≡ 32768) ⊎ (length after ≡ 0) →
     despread phase after ≡ zip_with turned after pilot_signs
 rest_from_start [] phase few ends = refl
 rest_from_start (s ∷ after) phase few ends =
@@ -73,13 +65,11 @@ rest_from_start (s ∷ after) phase few ends =
 lesser : (a b n : ℕ) → n ≡ min a b → (n ≡ b) ⊎ (a ≡ n)
 lesser a b n is =
     ⊎_elim (λ e. inr (omega (arith, e, is)))
-    (⊎_elim (λ lt. inr (omega (arith, lt, is))) (λ gt. inl (omega (arith, gt, is))))
-    (cases_order a b)
+    (⊎_elim (λ lt. inr (omega (arith, lt, is))) (λ gt. inl (omega (arith, gt, is)))) (cases_order a b)
 
 -- the samples parted where the code begins again
 pub parted : (samples : List Sample) (phase n : ℕ) → phase < 32768 → length samples ≤ 32768 →
-    n ≡ min (length samples) (32768 - phase) →
-    plus (correlation_with (take n samples) (drop phase pilot_signs))
+    n ≡ min (length samples) (32768 - phase) → plus (correlation_with (take n samples) (drop phase pilot_signs))
     (correlation_with (drop n samples) pilot_signs) ≡ phase_correlation samples phase
 unfolding correlation_with phase_correlation
 parted samples phase n low few is =
@@ -91,8 +81,7 @@ parted samples phase n low few is =
     let first : despread phase before ≡ zip_with turned before (drop phase pilot_signs) =
     despread_from before phase phase 0 (omega arith) (omega (arith, long, room)) in
     let ends : (phase + length before ≡ 32768) ⊎ (length after ≡ 0) =
-    ⊎_elim (λ e. inl (omega (arith, e, long, low)))
-    (λ e. inr (length-drop n samples ∙ omega (arith, e)))
+    ⊎_elim (λ e. inl (omega (arith, e, long, low))) (λ e. inr (length-drop n samples ∙ omega (arith, e)))
     (lesser (length samples) (32768 - phase) n is) in
     let rest : despread (phase + length before) after ≡ zip_with turned after pilot_signs =
     rest_from_start after (phase + length before) (omega (arith, length-drop n samples, few)) ends
@@ -103,8 +92,7 @@ parted samples phase n low few is =
     ∙ ap (λ (ps : List Pair). ps ++ despread (phase + length before) after) first
     ∙ ap (λ (ps : List Pair). zip_with turned before (drop phase pilot_signs) ++ ps) rest in
     sym (ap sum_of whole ∙
-    sum_of-append (zip_with turned before (drop phase pilot_signs))
-    (zip_with turned after pilot_signs))
+    sum_of-append (zip_with turned before (drop phase pilot_signs)) (zip_with turned after pilot_signs))
 
 -- where nothing stands after the code's end, the part before it is all
 pub all_before : (samples : List Sample) (phase n : ℕ) → phase < 32768 → length samples ≤ 32768 →

@@ -6,8 +6,7 @@ use Rattle.pilot_search.proofs.Common.{better_of, worker_start, Best}
 use Rattle.pilot_search.proofs.BoundLemmas.{bounds}
 use Rattle.pilot_search.proofs.BestPhase.{best_phase-is}
 
-pub at_most_greatest : (samples : List Sample) (k : ℕ) → k < 32768 →
-    energy samples k ≤ greatest samples
+pub at_most_greatest : (samples : List Sample) (k : ℕ) → k < 32768 → energy samples k ≤ greatest samples
 at_most_greatest samples k lt = (best_phase-is samples).greatest k (omega arith) lt
 
 -- a phase whose bound is below a value of the word isn't the best
@@ -27,8 +26,7 @@ left_out samples phase limit has low = record {
 -- range has a greater energy, and at a tie the left one's phase is taken, which comes before any of
 -- the right.
 pub both_found : (samples : List Sample) (from middle to : ℕ) (left right : Option Best) →
-    from ≤ middle → middle ≤ to → to ≤ 32768
-    → IsFound samples from middle left → IsFound samples middle to right →
+    from ≤ middle → middle ≤ to → to ≤ 32768 → IsFound samples from middle left → IsFound samples middle to right →
     IsFound samples from to (better_of left right)
 both_found samples from middle to None None low high most l r = record {
   real = tt;
@@ -51,8 +49,7 @@ both_found samples from middle to (Some x) (Some y) low high most l r =
     -- Where the right energy is greater, no phase of the left range has the greatest of all. Where
     -- it isn't, a phase of the right range that has the greatest comes after the left one, whose
     -- energy is then as great.
-    go : (t : Bool) → nat_lt x.energy y.energy ≡ t →
-        IsFound samples from to (if t then Some y else Some x)
+    go : (t : Bool) → nat_lt x.energy y.energy ≡ t → IsFound samples from to (if t then Some y else Some x)
     go true less =
         let p = l.real in let q = r.real in
         let lt : x.energy < y.energy = grind (arith, nat_tests) in
@@ -88,16 +85,13 @@ best_found samples b h =
     }
 
 -- all phases have a best one
-pub is_some : (samples : List Sample) (found : Option Best) → IsFound samples 0 32768 found →
-    IsSome found
-is_some samples None h =
-    absurd (h.first (best_phase samples) (omega arith) (best_phase-is samples).below refl)
+pub is_some : (samples : List Sample) (found : Option Best) → IsFound samples 0 32768 found → IsSome found
+is_some samples None h = absurd (h.first (best_phase samples) (omega arith) (best_phase-is samples).below refl)
 is_some samples (Some b) h = refl
 
 pub start_up : (a b workers : ℕ) → 0 < workers → a ≤ b → worker_start a workers ≤ worker_start b workers
 start_up a b workers some le =
-    le-div (32768 * a / workers) (32768 * b) workers some
-    (let m = div-mul-le_self (32768 * a) workers in omega arith)
+    le-div (32768 * a / workers) (32768 * b) workers some (let m = div-mul-le_self (32768 * a) workers in omega arith)
 
 pub start_end : (workers : ℕ) → 0 < workers → worker_start workers workers ≡ 32768
 start_end workers some = mul-div_cancel 32768 some
@@ -110,8 +104,7 @@ start_none workers = let l = div-le_self 0 workers in omega arith
 
 -- the whole range
 pub whole : (samples : List Sample) (workers : ℕ) (found : Option Best) → 0 < workers →
-    IsFound samples (worker_start 0 workers) (worker_start (0 + workers) workers) found →
-    IsFound samples 0 32768 found
+    IsFound samples (worker_start 0 workers) (worker_start (0 + workers) workers) found → IsFound samples 0 32768 found
 whole samples workers found some h =
     let e : 0 + workers ≡ workers = omega arith in
     subst (λ (n : ℕ × ℕ). IsFound samples n.0 n.1 found)

@@ -10,17 +10,14 @@ use Rattle.pilot_search.proofs.LaneLemmas.{kept, kept_lanes, kept_products, lane
 sums_fit : (k : ℕ) (xs : List ℤ) → k ≤ 4096 → Each1 (λ x. unsigned_abs x ≤ 65536 * k) xs →
     Each1 (λ x. unsigned_abs x < 2 ^ 31) xs
 sums_fit k xs few h =
-    Each1-weaker (λ x. unsigned_abs x ≤ 65536 * k) (λ x. unsigned_abs x < 2 ^ 31)
-    (λ x le. omega (arith, le, few)) xs h
+    Each1-weaker (λ x. unsigned_abs x ≤ 65536 * k) (λ x. unsigned_abs x < 2 ^ 31) (λ x le. omega (arith, le, few)) xs h
 
-pub kept_sums : (k : ℕ) (xs : List ℤ) → k ≤ 4096 → Each1 (λ x. unsigned_abs x ≤ 65536 * k) xs →
-    kept xs ≡ xs
+pub kept_sums : (k : ℕ) (xs : List ℤ) → k ≤ 4096 → Each1 (λ x. unsigned_abs x ≤ 65536 * k) xs → kept xs ≡ xs
 kept_sums k xs few h = kept_lanes xs (sums_fit k xs few h)
 
 pub fit_kept : (k : ℕ) (xs : List ℤ) → k ≤ 4096 → Each1 (λ x. unsigned_abs x ≤ 65536 * k) xs →
     Each1 (λ x. unsigned_abs x < 2 ^ 31) (kept xs)
-fit_kept k xs few h =
-    subst (Each1 (λ x. unsigned_abs x < 2 ^ 31)) (sym (kept_sums k xs few h)) (sums_fit k xs few h)
+fit_kept k xs few h = subst (Each1 (λ x. unsigned_abs x < 2 ^ 31)) (sym (kept_sums k xs few h)) (sums_fit k xs few h)
 
 -- PRODUCTS
 pub products_kept : (samples : List Sample) (signs : List (ℤ × ℤ)) (first : ℕ)
@@ -35,8 +32,7 @@ products_kept samples signs first real imaginary p = record {
 
 -- products are sums of one group
 pub products_near : (samples : List Sample) (signs : List (ℤ × ℤ)) (first : ℕ)
-    (real imaginary : List ℤ) → AreProducts samples signs first real imaginary →
-    LanesAreNear 1 real imaginary
+    (real imaginary : List ℤ) → AreProducts samples signs first real imaginary → LanesAreNear 1 real imaginary
 products_near samples signs first real imaginary p = record {
   real_long = ap (λ (xs : List ℤ). length xs) p.real_parts;
   imaginary_long = ap (λ (xs : List ℤ). length xs) p.imaginary_parts;
@@ -50,8 +46,7 @@ pub kept_near : (samples : List Sample) (signs : List (ℤ × ℤ)) (first : ℕ
     (real imaginary : List ℤ) → AreProducts samples signs first real imaginary →
     LanesAreNear 1 (kept real) (kept imaginary)
 kept_near samples signs first real imaginary p =
-    products_near samples signs first (kept real) (kept imaginary)
-    (products_kept samples signs first real imaginary p)
+    products_near samples signs first (kept real) (kept imaginary) (products_kept samples signs first real imaginary p)
 
 -- ONE GROUP MORE
 -- sums and products of a group may be added
@@ -70,16 +65,13 @@ record AreMore (k : ℕ) (sums products after : List ℤ) : Type 0 where
   bound : Each1 (λ x. unsigned_abs x ≤ 65536 * (k + 1)) (kept after)
 
 are_more : (k : ℕ) (sums products after : List ℤ) → k < 4096 → length sums ≡ 8 →
-    length products ≡ 8 → Each1 (λ x. unsigned_abs x ≤ 65536 * k) sums →
-    Each1 (λ x. unsigned_abs x ≤ 65536) products →
+    length products ≡ 8 → Each1 (λ x. unsigned_abs x ≤ 65536 * k) sums → Each1 (λ x. unsigned_abs x ≤ 65536) products →
     after ≡ zip2 (λ a b. a +ℤ b) (kept sums) (kept products) → AreMore k sums products after
 are_more k sums products after few long long' h g e =
     let is : after ≡ zip2 (λ a b. a +ℤ b) sums products =
-    e ∙ (λ i. zip2 (λ a b. a +ℤ b) (kept_sums k sums (omega (arith, few)) h i)
-    (kept_products products g i)) in
+    e ∙ (λ i. zip2 (λ a b. a +ℤ b) (kept_sums k sums (omega (arith, few)) h i) (kept_products products g i)) in
     let near : Each1 (λ x. unsigned_abs x ≤ 65536 * (k + 1)) after =
-    subst (Each1 (λ x. unsigned_abs x ≤ 65536 * (k + 1))) (sym is)
-    (bounds_more k sums products h g) in
+    subst (Each1 (λ x. unsigned_abs x ≤ 65536 * (k + 1))) (sym is) (bounds_more k sums products h g) in
     let same : kept after ≡ after = kept_sums (k + 1) after (omega (arith, few)) near in
     record {
       is = same ∙ is;
@@ -93,8 +85,7 @@ are_more k sums products after few long long' h g e =
 -- the lanes still add up to the whole one.
 pub sums_more : (samples : List Sample) (signs : List (ℤ × ℤ)) (k : ℕ)
     (real imaginary more_real more_imaginary real' imaginary' : List ℤ) → k < 4096 →
-    8 * k + 8 ≤ length samples → 8 * k + 8 ≤ length signs →
-    AreSums samples signs k real imaginary →
+    8 * k + 8 ≤ length samples → 8 * k + 8 ≤ length signs → AreSums samples signs k real imaginary →
     AreProducts samples signs (8 * k) more_real more_imaginary →
     real' ≡ zip2 (λ a b. a +ℤ b) (kept real) (kept more_real) →
     imaginary' ≡ zip2 (λ a b. a +ℤ b) (kept imaginary) (kept more_imaginary) →
@@ -109,12 +100,7 @@ sums_more samples signs k real imaginary more_real more_imaginary real' imaginar
     more.imaginary_long near.imaginary_bound more.imaginary_bound is' in
     let rest = correlation_with (drop (8 * (k + 1)) samples) (drop (8 * (k + 1)) signs) in
     record {
-      near = record {
-        real_long = r.long;
-        imaginary_long = j.long;
-        real_bound = r.bound;
-        imaginary_bound = j.bound;
-      };
+      near = record { real_long = r.long; imaginary_long = j.long; real_bound = r.bound; imaginary_bound = j.bound };
       whole = ap (λ (ys : List ℤ × List ℤ). plus (record { i = total ys.0; q = total ys.1 }) rest)
           (λ i. (r.is i, j.is i))
           ∙ lanes_more samples signs k real imaginary more_real more_imaginary le ge
@@ -124,8 +110,7 @@ sums_more samples signs k real imaginary more_real more_imaginary real' imaginar
 
 -- THE LOOP
 pub sums_kept : (samples : List Sample) (signs : List (ℤ × ℤ)) (k : ℕ) (real imaginary : List ℤ) →
-    k ≤ 4096 → AreSums samples signs k real imaginary →
-    AreSums samples signs k (kept real) (kept imaginary)
+    k ≤ 4096 → AreSums samples signs k real imaginary → AreSums samples signs k (kept real) (kept imaginary)
 sums_kept samples signs k real imaginary few all =
     subst (λ (z : List ℤ × List ℤ). AreSums samples signs k z.0 z.1)
     (λ i. (
@@ -147,8 +132,7 @@ is_total k xs sum few long h e =
     let all : unsigned_abs (total xs) ≤ 65536 * k * 8 =
     subst (λ (m : ℕ). unsigned_abs (total xs) ≤ 65536 * k * m) long (total_bound (65536 * k) xs h)
     in
-    let mine : unsigned_abs sum ≤ 65536 * k * 8 =
-    subst (λ (z : ℤ). unsigned_abs z ≤ 65536 * k * 8) (sym is) all in
+    let mine : unsigned_abs sum ≤ 65536 * k * 8 = subst (λ (z : ℤ). unsigned_abs z ≤ 65536 * k * 8) (sym is) all in
     let same : to_z w64 (of_z w64 sum) ≡ sum =
     to_z-of_z w64 sum (fits_signed_from_abs w64 sum (omega (arith, mine, few))) in
     record {
@@ -160,8 +144,7 @@ is_total k xs sum few long h e =
 pub sums_left : (samples : List Sample) (signs : List (ℤ × ℤ)) (k n : ℕ) (real imaginary : List ℤ)
     (sum : Pair) → k ≡ n → AreSums samples signs k real imaginary →
     sum ≡ record { i = total real; q = total imaginary } →
-    plus sum (correlation_with (drop (8 * n) samples) (drop (8 * n) signs)) ≡
-    correlation_with samples signs
+    plus sum (correlation_with (drop (8 * n) samples) (drop (8 * n) signs)) ≡ correlation_with samples signs
 sums_left samples signs k n real imaginary sum here all is =
     let left = λ (m : ℕ). correlation_with (drop (8 * m) samples) (drop (8 * m) signs) in
     ap (plus sum) (ap left (sym here))

@@ -5,12 +5,10 @@ use Rattle.pilot_search.proofs.Common.{IsBestIn, near_place, near_phase_at, near
 use Rattle.pilot_search.proofs.Common.{Best, IsGreatestUnless, first_places-none, first_places-more}
 
 -- PLACES AND PHASES
-pub place_back : (best place : ℕ) → best < 32768 → place < 65 →
-    near_place best (near_phase_at best place) ≡ place
+pub place_back : (best place : ℕ) → best < 32768 → place < 65 → near_place best (near_phase_at best place) ≡ place
 place_back best place low lt = omega (arith, low, lt)
 
-phase_back : (best phase : ℕ) → best < 32768 → phase < 32768 →
-    near_phase_at best (near_place best phase) ≡ phase
+phase_back : (best phase : ℕ) → best < 32768 → phase < 32768 → near_phase_at best (near_place best phase) ≡ phase
 phase_back best phase low lt = omega (arith, low, lt)
 
 middle : (best : ℕ) → best < 32768 → near_phase_at best 32 ≡ best
@@ -44,8 +42,7 @@ free_of_two : (k a b : ℕ) → k ≢ a → k ≢ b → list_any (nat_eq k) (a �
 free_of_two k a b h g = grind (arith, nat_tests)
 
 -- two places have two phases
-two_phases : (best p q : ℕ) → best < 32768 → p < 65 → q < 65 → p ≢ q →
-    near_phase_at best p ≢ near_phase_at best q
+two_phases : (best p q : ℕ) → best < 32768 → p < 65 → q < 65 → p ≢ q → near_phase_at best p ≢ near_phase_at best q
 two_phases best p q low hp hq ne =
     λ same. ne (sym (place_back best p low hp) ∙ ap (near_place best) same ∙
     place_back best q low hq)
@@ -58,8 +55,7 @@ compared : (samples : List Sample) (best : ℕ) (round : List Best) (first secon
     best < 32768 → IsRound samples best 65 round →
     IsNext round first second 65 place → k < 32768 → near_place best k ≤ 64 →
     k ≢ near_phase_at best first → k ≢ near_phase_at best second →
-    32768 * energy samples k + near_phase_at best place ≤ 32768 * energy samples (near_phase_at best place) +
-    k
+    32768 * energy samples k + near_phase_at best place ≤ 32768 * energy samples (near_phase_at best place) + k
 compared samples best round first second place k low r next lt near not_first not_second =
     let back = phase_back best k low lt in
     let d : Best = measured_at samples best 0 in
@@ -74,8 +70,7 @@ compared samples best round first second place k low r next lt near not_first no
 
 -- so it is the greatest of the phases that aren't taken
 next_is : (samples : List Sample) (best : ℕ) (round : List Best) (first second place : ℕ)
-    (taken : List ℕ) → best < 32768 → IsRound samples best 65 round →
-    IsNext round first second 65 place →
+    (taken : List ℕ) → best < 32768 → IsRound samples best 65 round → IsNext round first second 65 place →
     ((k : ℕ) → list_any (nat_eq k) taken ≡ false →
     (k ≢ near_phase_at best first) × (k ≢ near_phase_at best second)) →
     list_any (nat_eq (near_phase_at best place)) taken ≡ false →
@@ -89,15 +84,13 @@ next_is samples best round first second place taken low r next others free =
       free = free;
       greatest = λ k lt open_k. ⊎_elim
           (λ near. let o = others k open_k in
-          let c = compared samples best round first second place k low r next lt
-          (omega (arith, near)) o.0 o.1 in
+          let c = compared samples best round first second place k low r next lt (omega (arith, near)) o.0 o.1 in
           rw (own, value_near samples best k (omega (arith, near))) (omega (arith, ints, c, lt)))
           (λ far. rw (own, value_far samples best k (omega (arith, far))) (omega (arith, ints)))
           (cases_lt (near_place best k) 65);
       first = λ k less open_k. let lt : k < 32768 = omega (arith, less) in ⊎_elim
           (λ near. let o = others k open_k in
-          let c = compared samples best round first second place k low r next lt
-          (omega (arith, near)) o.0 o.1 in
+          let c = compared samples best round first second place k low r next lt (omega (arith, near)) o.0 o.1 in
           rw (own, value_near samples best k (omega (arith, near))) (omega (arith, ints, c, less)))
           (λ far. rw (own, value_far samples best k (omega (arith, far))) (omega (arith, ints)))
           (cases_lt (near_place best k) 65);
@@ -129,14 +122,12 @@ one_place : (samples : List Sample) (best most : ℕ) → IsBestIn samples 0 327
     first_places 1 (near_value samples best) 32768 ≡ best ∷ []
 one_place samples best most is =
     first_places-more 0 (near_value samples best) 32768 best []
-    (first_places-none (near_value samples best) 32768) (omega arith)
-    (best_is samples best most is)
+    (first_places-none (near_value samples best) 32768) (omega arith) (best_is samples best most is)
 
 -- The two best places near the best phase are that phase and the second one of its round: the
 -- second lies at another phase, and no phase of the round that is free comes before it.
 two_places : (samples : List Sample) (best most : ℕ) (round : List Best) (second : ℕ) →
-    IsBestIn samples 0 32768 best most → IsRound samples best 65 round →
-    IsNext round 32 32 65 second →
+    IsBestIn samples 0 32768 best most → IsRound samples best 65 round → IsNext round 32 32 65 second →
     first_places 2 (near_value samples best) 32768 ≡ best ∷ near_phase_at best second ∷ []
 two_places samples best most round second is r next =
     let low : best < 32768 = is.below in
@@ -154,8 +145,7 @@ two_places samples best most round second is r next =
 -- before it.
 three_places : (samples : List Sample) (best most : ℕ) (round : List Best) (second third : ℕ) →
     IsBestIn samples 0 32768 best most → IsRound samples best 65 round →
-    IsNext round 32 32 65 second → IsNext round 32 second 65 third →
-    first_places 3 (near_value samples best) 32768 ≡
+    IsNext round 32 32 65 second → IsNext round 32 second 65 third → first_places 3 (near_value samples best) 32768 ≡
     best ∷ near_phase_at best second ∷ near_phase_at best third ∷ []
 three_places samples best most round second third is r next last =
     let low : best < 32768 = is.below in
@@ -165,8 +155,7 @@ three_places samples best most round second third is r next last =
     let there : near_phase_at best third ≢ near_phase_at best second =
     two_phases best third second low last.below next.below last.not_second in
     first_places-more 2 (near_value samples best) 32768 (near_phase_at best third)
-    (best ∷ near_phase_at best second ∷ []) (two_places samples best most round second is r next)
-    (omega arith)
+    (best ∷ near_phase_at best second ∷ []) (two_places samples best most round second is r next) (omega arith)
     (next_is samples best round 32 second third (best ∷ near_phase_at best second ∷ []) low r last
     (λ k free. let ne = not_two k best (near_phase_at best second) free in (λ e. ne.0 (e ∙ mid), ne.1))
     (free_of_two (near_phase_at best third) best (near_phase_at best second) here there))
@@ -209,5 +198,4 @@ three_deltas samples best most round second third is r next last =
     ∷ []) (middle_delta best)
     ∙ ap (λ (z : ℤ). pos 0 ∷ z ∷ delta_at best (near_phase_at best third) ∷ [])
     (place_delta best second is.below next.below)
-    ∙ ap (λ (z : ℤ). pos 0 ∷ (pos second -ℤ pos 32) ∷ z ∷ [])
-    (place_delta best third is.below last.below)
+    ∙ ap (λ (z : ℤ). pos 0 ∷ (pos second -ℤ pos 32) ∷ z ∷ []) (place_delta best third is.below last.below)

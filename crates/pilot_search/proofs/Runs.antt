@@ -20,11 +20,9 @@ record IsSoundState (samples : List Sample) (s : State) : Type 0 where
   workers : All (IsSound samples) s.workers
   parts : Parts 0 32768 s.workers
 
-at_place : {X : Type 0} (P : X → Type 0) (xs : List X) (k : ℕ) (x : X) → slice_get xs k ≡ Some x →
-    All P xs → P x
+at_place : {X : Type 0} (P : X → Type 0) (xs : List X) (k : ℕ) (x : X) → slice_get xs k ≡ Some x → All P xs → P x
 at_place P xs k x at all =
-    subst P (get_or_from_slice_get xs k x x at)
-    (All-get_or P xs k x (slice_get_within xs k x at) all)
+    subst P (get_or_from_slice_get xs k x x at) (All-get_or P xs k x (slice_get_within xs k x at) all)
 
 -- Workers still part the numbers when one of them is replaced by another with the same range, by
 -- induction over those before it, since only their ranges count.
@@ -36,8 +34,7 @@ parts_set from to zero (x ∷ ws) w w' at a b parts =
     let e : w'.from ≡ x.from = a ∙ sym (ap (λ (v : Worker). v.from) same) in
     let f : w'.to ≡ x.to = b ∙ sym (ap (λ (v : Worker). v.to) same) in
     (e ∙ parts.0, omega arith, subst (λ (n : ℕ). Parts n to ws) (sym f) parts.2)
-parts_set from to (suc k) (x ∷ ws) w w' at a b parts =
-    (parts.0, parts.1, parts_set x.to to k ws w w' at a b parts.2)
+parts_set from to (suc k) (x ∷ ws) w w' at a b parts = (parts.0, parts.1, parts_set x.to to k ws w w' at a b parts.2)
 
 -- Each step of a worker keeps the state sound: an energy that is evaluated or published is that of
 -- a phase and no more than the greatest, an energy that is read was published before, and a phase
@@ -63,15 +60,10 @@ step_sound samples old (Evaluate k phase) new g h =
     })
 step_sound samples old (Publish k phase) new g h =
     let sound = at_place (IsSound samples) old.workers k g.0 g.1 h.workers in
-    let low : phase < 32768 =
-    All-contains (λ p. p < 32768) g.0.evaluated phase sound.evaluated g.2 in
+    let low : phase < 32768 = All-contains (λ p. p < 32768) g.0.evaluated phase sound.evaluated g.2 in
     let most = at_most_greatest samples phase low in
     let shared = h.shared in
-    subst (IsSoundState samples) (sym g.3) (record {
-      shared = omega arith;
-      workers = h.workers;
-      parts = h.parts;
-    })
+    subst (IsSoundState samples) (sym g.3) (record { shared = omega arith; workers = h.workers; parts = h.parts })
 step_sound samples old (Read k) new g h =
     let w = g.0 in
     let sound = at_place (IsSound samples) old.workers k w g.1 h.workers in
@@ -126,8 +118,7 @@ starts_sound : (samples : List Sample) (from : ℕ) (ws : List Worker) → Parts
     All (λ w. (w.evaluated ≡ []) × (w.skipped ≡ []) × (w.seen ≡ 0)) ws → All (IsSound samples) ws
 starts_sound samples from [] parts idle = All-nil (IsSound samples)
 starts_sound samples from (w ∷ ws) parts idle =
-    let mine =
-    All-head (λ (v : Worker). (v.evaluated ≡ []) × (v.skipped ≡ []) × (v.seen ≡ 0)) w ws idle in
+    let mine = All-head (λ (v : Worker). (v.evaluated ≡ []) × (v.skipped ≡ []) × (v.seen ≡ 0)) w ws idle in
     let up = parts_up w.to 32768 ws parts.2 in
     let seen = mine.2 in
     All-cons (IsSound samples) w ws (record {
@@ -145,8 +136,7 @@ whose : (from to phase : ℕ) (ws : List Worker) → Parts from to ws → from �
     (k : ℕ) × (w : Worker) × (slice_get ws k ≡ Some w) × (w.from ≤ phase) × (phase < w.to)
 whose from to phase [] parts low high = absurd (omega arith)
 whose from to phase (w ∷ ws) parts low high =
-    ⊎_elim
-    (λ (lt : phase < w.to). let a = parts.0 in (0, w, refl, omega arith, lt))
+    ⊎_elim (λ (lt : phase < w.to). let a = parts.0 in (0, w, refl, omega arith, lt))
     (λ (ge : w.to ≤ phase). let r = whose w.to to phase ws parts.2 ge high in
     (suc r.0, r.1, r.2, r.3, r.4))
     (split_order phase w.to)
@@ -172,11 +162,7 @@ finds_best samples start end steps begun run done =
     let sound = at_place (IsSound samples) end.workers r.0 r.1 r.2 last.workers in
     let mine = at_place IsDone end.workers r.0 r.1 r.2 done best r.3 r.4 in (
       r.1,
-      (
-        r.0,
-        slice_get_within end.workers r.0 r.1 r.2,
-        get_or_from_slice_get end.workers r.0 r.1 r.1 r.2,
-      ),
+      (r.0, slice_get_within end.workers r.0 r.1 r.2, get_or_from_slice_get end.workers r.0 r.1 r.1 r.2),
       ⊎_elim (λ (e : Contains r.1.evaluated best). e)
           (λ (s : Contains r.1.skipped best). let less = All-contains
           (λ p. energy samples p < greatest samples) r.1.skipped best sound.skipped s in
@@ -184,16 +170,14 @@ finds_best samples start end steps begun run done =
     )
 
 -- nothing that is evaluated comes before the best phase
-comes_first : (samples : List Sample) (phase : ℕ) → phase < 32768 →
-    ComesFirst samples (best_phase samples) phase
+comes_first : (samples : List Sample) (phase : ℕ) → phase < 32768 → ComesFirst samples (best_phase samples) phase
 comes_first samples phase low =
     let is = best_phase-is samples in
     ⊎_elim
     (λ (e : energy samples phase ≡ greatest samples). ⊎_elim
     (λ (lt : phase < best_phase samples). let less = is.first phase (omega arith) lt in
     absurd (omega (arith, less, e)))
-    (λ (ge : best_phase samples ≤ phase). inr (e, ge))
-    (cases_lt phase (best_phase samples)))
+    (λ (ge : best_phase samples ≤ phase). inr (e, ge)) (cases_lt phase (best_phase samples)))
     (⊎_elim (λ (lt : energy samples phase < greatest samples). inl lt)
     (λ (gt : greatest samples < energy samples phase). let most = is.greatest phase
     (omega arith) low in absurd (omega (arith, most, gt))))
@@ -203,11 +187,9 @@ pub best_first : (samples : List Sample) → BestComesFirst samples
 best_first samples start end steps begun run w phase has evaluated =
     let last = run_sound samples start steps end run (start_sound samples start begun) in
     let sound = All-contains (IsSound samples) end.workers w last.workers has in
-    comes_first samples phase
-    (All-contains (λ p. p < 32768) w.evaluated phase sound.evaluated evaluated)
+    comes_first samples phase (All-contains (λ p. p < 32768) w.evaluated phase sound.evaluated evaluated)
 
-put_get : {X : Type 0} (xs : List X) (k : ℕ) (x y : X) → slice_get xs k ≡ Some x →
-    slice_get (set xs k y) k ≡ Some y
+put_get : {X : Type 0} (xs : List X) (k : ℕ) (x y : X) → slice_get xs k ≡ Some x → slice_get (set xs k y) k ≡ Some y
 put_get [] k x y at = absurd (cc)
 put_get (z ∷ xs) zero x y at = refl
 put_get (z ∷ xs) (suc k) x y at = put_get xs k x y at

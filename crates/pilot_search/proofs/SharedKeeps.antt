@@ -23,16 +23,13 @@ not_fresh : {X : Type 0} (views : List View) (id : ℕ) (v : View) → get_elem?
     v.spent ≡ false → views ≡ fresh_view ∷ [] → X
 not_fresh views id v at held is =
     absurd (false≢true (sym held ∙
-    sym (ap (λ (u : View). u.spent)
-    (only_fresh id v (subst (λ (l : List View). get_elem? l id ≡ some v) is at)))))
+    sym (ap (λ (u : View). u.spent) (only_fresh id v (subst (λ (l : List View). get_elem? l id ≡ some v) is at)))))
 
 lie_set : (word new ceiling id : ℕ) (views : List View) (w : View) → word ≤ new → new ≤ ceiling →
-    AllLie word ceiling views → w.fresh ≡ false → Lies new ceiling w →
-    AllLie new ceiling (set views id w)
+    AllLie word ceiling views → w.fresh ≡ false → Lies new ceiling w → AllLie new ceiling (set views id w)
 lie_set word new ceiling id views w up low all old mine j u e =
     ⊎_elim
-    (λ (t : (j ≡ id) × (w ≡ u)). subst (λ (v : View). (v.fresh ≡ false) × Lies new ceiling v) t.1
-    (old, mine))
+    (λ (t : (j ≡ id) × (w ≡ u)). subst (λ (v : View). (v.fresh ≡ false) × Lies new ceiling v) t.1 (old, mine))
     (λ (t : (j ≢ id) × (get_elem? views j ≡ some u)). let o = all j u t.1 in
     (o.0, λ held. let l = o.1 held in (omega arith, omega arith, l.2)))
     (at_set views id j w u e)
@@ -55,8 +52,7 @@ pub moves : (slots id : ℕ) (me : Sat) (f : ℕ → ℕ) → me.0.spent ≡ fal
     → Allows IsSharedState slots id me 0 f (λ n m'. (me.0.floor ≤ n) × (n ≤ me.0.ceiling) ×
     (m' ≡ (holding (f n) me.0.ceiling, me.1)))
 moves slots id me f held up low s kept _ at _ =
-    ⊎_elim
-    (λ first. not_fresh s.views id me.0 at held first.0)
+    ⊎_elim (λ first. not_fresh s.views id me.0 at held first.0)
     (λ lie.
     let word : ℕ = get_or s.words 0 0 in
     let mine = (lie.1 id me.0 at).1 held in
@@ -90,8 +86,7 @@ begins slots id me ceiling is s kept _ at _ =
   where
     -- Once the ceiling is told, the word, which is 0, lies in every view as the rule asks: the
     -- first view is the only one, and it now holds from 0 up to the ceiling.
-    alone : (views : List View) → views ≡ fresh_view ∷ [] → get_or s.words 0 0 ≡ 0 →
-        get_elem? views id ≡ some me.0 →
+    alone : (views : List View) → views ≡ fresh_view ∷ [] → get_or s.words 0 0 ≡ 0 → get_elem? views id ≡ some me.0 →
         AllLie (get_or s.words 0 0) ceiling (set views id (holding 0 ceiling))
     alone views is zeroed at j u e =
         let at_first = subst (λ (l : List View). get_elem? l id ≡ some me.0) is at in
@@ -106,15 +101,13 @@ begins slots id me ceiling is s kept _ at _ =
 
 pub splits : (id : ℕ) (v : View) → v.spent ≡ false → Splits IsSharedState id v v v
 splits id v held s kept at =
-    ⊎_elim
-    (λ first. not_fresh s.views id v at held first.0)
+    ⊎_elim (λ first. not_fresh s.views id v at held first.0)
     (λ lie. (
       kept.0,
       inr (
         lie.0,
         λ j u e. ⊎_elim
-            (λ was. lie.1 j u
-            (subst (λ (l : List View). get_elem? l j ≡ some u) (set_again s.views id v at) was))
+            (λ was. lie.1 j u (subst (λ (l : List View). get_elem? l j ≡ some u) (set_again s.views id v at) was))
             (λ (same : v ≡ u). subst (λ (x : View). (x.fresh ≡ false) ×
             Lies (get_or s.words 0 0) lie.0 x) same (lie.1 id v at))
             (at_snoc (set s.views id v) v u j e),
@@ -128,8 +121,7 @@ splits id v held s kept at =
 pub joins : (id other : ℕ) (v w : View) → v.spent ≡ false → w.spent ≡ false →
     Joins IsSharedState id v other w (joined_views v w) spent
 joins id other v w held held' s kept at apart there =
-    ⊎_elim
-    (λ first. not_fresh s.views id v at held first.0)
+    ⊎_elim (λ first. not_fresh s.views id v at held first.0)
     (λ lie.
     let word : ℕ = get_or s.words 0 0 in
     let mine = (lie.1 id v at).1 held in

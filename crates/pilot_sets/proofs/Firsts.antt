@@ -5,8 +5,7 @@ use Rattle.pilot_sets.proofs.Common.{left_at}
 use Rattle.std.proofs.lemmas.Option.{get_or_from_slice_get, slice_get_within}
 
 -- an element of numbers that are all below another
-pub element_below : (xs : List ℕ) (most k x : ℕ) → All (λ n. n < most) xs →
-    slice_get xs k ≡ Some x → x < most
+pub element_below : (xs : List ℕ) (most k x : ℕ) → All (λ n. n < most) xs → slice_get xs k ≡ Some x → x < most
 element_below xs most k x all at =
     subst (λ n. n < most) (get_or_from_slice_get xs k x x at)
     (All-get_or (λ n. n < most) xs k x (slice_get_within xs k x at) all)
@@ -20,20 +19,17 @@ last_or_first false true = refl
 last_or_first false false = refl
 
 pub has_push : (seen : List ℕ) (x y : ℕ) → has (x ∷ seen) y ≡ has (seen ++ x ∷ []) y
-has_push seen x y =
-    last_or_first (nat_eq y x) (has seen y) ∙ sym (list_any-append (nat_eq y) seen (x ∷ []))
+has_push seen x y = last_or_first (nat_eq y x) (has seen y) ∙ sym (list_any-append (nat_eq y) seen (x ∷ []))
 
 -- THE FIRST THAT IS REPEATED
-first_repeated_same : (s t xs : List ℕ) → ((y : ℕ) → has s y ≡ has t y) →
-    first_repeated s xs ≡ first_repeated t xs
+first_repeated_same : (s t xs : List ℕ) → ((y : ℕ) → has s y ≡ has t y) → first_repeated s xs ≡ first_repeated t xs
 first_repeated_same s t [] h = refl
 first_repeated_same s t (x ∷ xs) h =
     let rest : first_repeated (x ∷ s) xs ≡ first_repeated (x ∷ t) xs =
     first_repeated_same (x ∷ s) (x ∷ t) xs (λ y. ap (λ b. nat_eq y x || b) (h y)) in
     rw (h x, rest) refl
 
-repeated_yes : (seen : List ℕ) (x : ℕ) (xs : List ℕ) → has seen x ≡ true →
-    first_repeated seen (x ∷ xs) ≡ Some x
+repeated_yes : (seen : List ℕ) (x : ℕ) (xs : List ℕ) → has seen x ≡ true → first_repeated seen (x ∷ xs) ≡ Some x
 repeated_yes seen x xs hit = rw hit refl
 
 repeated_no : (seen : List ℕ) (x : ℕ) (xs : List ℕ) → has seen x ≡ false →
@@ -41,8 +37,7 @@ repeated_no : (seen : List ℕ) (x : ℕ) (xs : List ℕ) → has seen x ≡ fal
 repeated_no seen x xs miss = rw miss refl
 
 pub repeated_here : (xs seen : List ℕ) (i x : ℕ) → i < length xs → slice_get xs i ≡ Some x →
-    first_repeated [] xs ≡ first_repeated seen (drop i xs) → has seen x ≡ true →
-    Some x ≡ first_repeated [] xs
+    first_repeated [] xs ≡ first_repeated seen (drop i xs) → has seen x ≡ true → Some x ≡ first_repeated [] xs
 repeated_here xs seen i x h e before hit =
     sym (
     before
@@ -68,8 +63,7 @@ firsts_same s t (x ∷ xs) h =
     firsts_same (x ∷ s) (x ∷ t) xs (λ y. ap (λ b. nat_eq y x || b) (h y)) in
     rw (h x, here, rest) refl
 
-firsts_hit : (seen : List ℕ) (x : ℕ) (xs : List ℕ) → has seen x ≡ true →
-    firsts seen (x ∷ xs) ≡ firsts seen xs
+firsts_hit : (seen : List ℕ) (x : ℕ) (xs : List ℕ) → has seen x ≡ true → firsts seen (x ∷ xs) ≡ firsts seen xs
 firsts_hit seen x xs hit = rw hit refl
 
 firsts_miss : (seen : List ℕ) (x : ℕ) (xs : List ℕ) → has seen x ≡ false →
@@ -91,6 +85,5 @@ firsts_new xs seen i x h e before miss =
     before
     ∙ ap (λ ys. seen ++ firsts seen ys) (left_at xs i x h e)
     ∙ ap (λ ys. seen ++ ys) (firsts_miss seen x (drop (i + 1) xs) miss)
-    ∙ ap (λ ys. seen ++ x ∷ ys)
-    (firsts_same (x ∷ seen) (seen ++ x ∷ []) (drop (i + 1) xs) (λ y. has_push seen x y))
+    ∙ ap (λ ys. seen ++ x ∷ ys) (firsts_same (x ∷ seen) (seen ++ x ∷ []) (drop (i + 1) xs) (λ y. has_push seen x y))
     ∙ sym (append_assoc seen (x ∷ []) (firsts (seen ++ x ∷ []) (drop (i + 1) xs)))

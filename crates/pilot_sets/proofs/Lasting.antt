@@ -20,8 +20,7 @@ directed_orderly first d s lawful h =
     directed_is IsOrderly first d s
     (λ e. waiting_orderly (accepted_of first d) s.sets (accepted_active_set first d lawful e) h) h
 
-orderly_after : (call : Call) (s : Standing) → IsLawfulCall call → IsOrderly s.sets →
-    IsOrderly (after_call call s).sets
+orderly_after : (call : Call) (s : Standing) → IsLawfulCall call → IsOrderly s.sets → IsOrderly (after_call call s).sets
 orderly_after (Parameters t) s lawful h = thresholds_orderly t s.sets h
 orderly_after (Neighbors heard) s lawful h = neighbors_orderly heard s.sets lawful h
 orderly_after (Direct first d) s lawful h = directed_orderly first d s lawful h
@@ -42,8 +41,7 @@ record AreFew (s : PilotSets) : Type 0 where
   neighbors : length s.neighbors ≤ 20
   waiting : IsFewIfAny s.waiting
 
-length-filter_le : {X : Type 0} (test : X → Bool) (xs : List X) →
-    length (filter test xs) ≤ length xs
+length-filter_le : {X : Type 0} (test : X → Bool) (xs : List X) → length (filter test xs) ≤ length xs
 length-filter_le test [] = omega arith
 length-filter_le {X} test (x ∷ xs) = go (test x) (length-filter_le test xs)
   where
@@ -61,16 +59,14 @@ length-named (p ∷ ps) [] rs = omega arith
 length-named (p ∷ ps) (c ∷ cs) [] = omega arith
 length-named (p ∷ ps) (c ∷ cs) (r ∷ rs) = omega (arith, length-named ps cs rs)
 
-left_few : (time : ℕ) (a : ActivePilot) (s : PilotSets) → length s.candidates ≤ 10 →
-    length s.neighbors ≤ 20 →
+left_few : (time : ℕ) (a : ActivePilot) (s : PilotSets) → length s.candidates ≤ 10 → length s.neighbors ≤ 20 →
     (length (left time a s).candidates ≤ 10) × (length (left time a s).neighbors ≤ 20)
 left_few time a s few some =
     left_is (λ (t : PilotSets). (length t.candidates ≤ 10) × (length t.neighbors ≤ 20)) time a s
     (λ free. (omega (arith, free, length-append s.candidates (fresh a.pilot ∷ [])), some))
     (λ free. (few, omega (arith, free, length-append s.neighbors (a.pilot ∷ [])))) (few, some)
 
-all_left_few : (time : ℕ) (xs : List ActivePilot) (s : PilotSets) → length s.candidates ≤ 10 →
-    length s.neighbors ≤ 20 →
+all_left_few : (time : ℕ) (xs : List ActivePilot) (s : PilotSets) → length s.candidates ≤ 10 → length s.neighbors ≤ 20 →
     (length (all_left time xs s).candidates ≤ 10) × (length (all_left time xs s).neighbors ≤ 20)
 all_left_few time [] s few some = (few, some)
 all_left_few time (a ∷ xs) s few some =
@@ -89,22 +85,16 @@ handed_off_few time direction s h few = record {
     others : (length (handed_off time direction s).candidates ≤ 10)
         × (length (handed_off time direction s).neighbors ≤ 20)
     others =
-        all_left_few time (actives_without (pilots_named direction.named) s.active)
-        (cleared direction s)
+        all_left_few time (actives_without (pilots_named direction.named) s.active) (cleared direction s)
         (omega (
           arith,
           h.candidates,
           length-filter_le (λ (c : CandidatePilot). lacks (pilots_named direction.named) c.pilot)
               s.candidates,
         ))
-        (omega (
-          arith,
-          h.neighbors,
-          length-filter_le (lacks (pilots_named direction.named)) s.neighbors,
-        ))
+        (omega (arith, h.neighbors, length-filter_le (lacks (pilots_named direction.named)) s.neighbors))
 
-directed_few : (first : ℕ) (d : DirectionFields) (s : Standing) → AreFew s.sets →
-    AreFew (directed first d s).sets
+directed_few : (first : ℕ) (d : DirectionFields) (s : Standing) → AreFew s.sets → AreFew (directed first d s).sets
 directed_few first d s h =
     directed_is AreFew first d s
     (λ e. record {
@@ -128,11 +118,7 @@ dropped_few energy power time s few =
 measured_few : (energy : ℕ → ℕ) (power time : ℕ) (began : List ℕ) (s : PilotSets) → AreFew s →
     AreFew (measured energy power time began s)
 measured_few energy power time began s h = record {
-  active = omega (
-    arith,
-    h.active,
-    length-map s.active (active_timed energy s.thresholds.t_drop power time),
-  );
+  active = omega (arith, h.active, length-map s.active (active_timed energy s.thresholds.t_drop power time));
   candidates =
       let d : PilotSets = dropped energy power time s in
       let up : List ℕ = moving_up energy power time began s in
@@ -190,8 +176,7 @@ all_apart (call ∷ calls) s lawful h few =
     all_apart calls (after_call call s) (All-tail IsLawfulCall call calls lawful)
     (orderly_after call s (All-head IsLawfulCall call calls lawful) h) (few_after call s few)
 
-pub sets_stay_apart : (pilot row : ℕ) (calls : List Call) → pilot < 512 → row < 64 →
-    All IsLawfulCall calls →
+pub sets_stay_apart : (pilot row : ℕ) (calls : List Call) → pilot < 512 → row < 64 → All IsLawfulCall calls →
     AreApart (after_all calls (new_standing pilot row)).sets
 sets_stay_apart pilot row calls offset on_row lawful =
     all_apart calls (new_standing pilot row) lawful (new_orderly pilot row offset on_row) (record {
@@ -215,8 +200,7 @@ not_before time direction s e other =
     else s) (ne_eqb direction.time time (λ same. other (sym same)))
 
 waits_after : (call : Call) (direction : Accepted) (s : Standing) →
-    s.sets.waiting ≡ Some direction → LeavesWaiting direction call →
-    (after_call call s).sets.waiting ≡ Some direction
+    s.sets.waiting ≡ Some direction → LeavesWaiting direction call → (after_call call s).sets.waiting ≡ Some direction
 waits_after (Parameters t) direction s e leaves = e
 waits_after (Neighbors heard) direction s e leaves = e
 waits_after (Direct first d) direction s e leaves =

@@ -38,8 +38,7 @@ pilots-filter {X} pilot_in t (x ∷ xs) = go (t (pilot_in x)) (pilots-filter pil
     kept : List X
     kept = filter (λ y. t (pilot_in y)) xs
 
-    go : (b : Bool) → map pilot_in kept ≡ filter t (map pilot_in xs) →
-        map pilot_in (cond b (x ∷ kept) kept)
+    go : (b : Bool) → map pilot_in kept ≡ filter t (map pilot_in xs) → map pilot_in (cond b (x ∷ kept) kept)
         ≡ cond b (pilot_in x ∷ filter t (map pilot_in xs)) (filter t (map pilot_in xs))
     go true ih = ap (λ l. pilot_in x ∷ l) ih
     go false ih = ih
@@ -101,22 +100,15 @@ new_orderly pilot row offset on_row = record {
 }
 
 -- BETWEEN MOMENTS
-pub thresholds_orderly : (t : Thresholds) (s : PilotSets) → IsOrderly s →
-    IsOrderly (thresholds_heard t s)
-thresholds_orderly t s h =
-    record { some = h.some; once = h.once; rows = h.rows; waiting = h.waiting }
+pub thresholds_orderly : (t : Thresholds) (s : PilotSets) → IsOrderly s → IsOrderly (thresholds_heard t s)
+thresholds_orderly t s h = record { some = h.some; once = h.once; rows = h.rows; waiting = h.waiting }
 
-heard_within : (p : ℕ) (heard : List ℕ) → All (λ x. x < 512) heard →
-    times_listed p (firsts [] heard) ≤ places_for p
+heard_within : (p : ℕ) (heard : List ℕ) → All (λ x. x < 512) heard → times_listed p (firsts [] heard) ≤ places_for p
 heard_within p heard offsets = go (nat_lt p 512) refl
   where
     go : (b : Bool) → nat_lt p 512 ≡ b → times_listed p (firsts [] heard) ≤ cond b 1 0
     go true e = firsts_once p [] heard
-    go false e = omega (
-      arith,
-      firsts_within p [] heard,
-      times-offsets p heard offsets (ltb-false p 512 e),
-    )
+    go false e = omega (arith, firsts_within p [] heard, times-offsets p heard offsets (ltb-false p 512 e))
 
 neighbors_once : (p : ℕ) (heard : List ℕ) (s : PilotSets) → All (λ x. x < 512) heard →
     times_in p s ≤ places_for p → times_in p (neighbors_heard heard s) ≤ places_for p
@@ -126,14 +118,8 @@ neighbors_once p heard s offsets once = go (has (timed_pilots s) p) refl
         ≤ times_listed p (without (timed_pilots s) (firsts [] heard))
     cut = times-take p 20 (without (timed_pilots s) (firsts [] heard))
 
-    go : (b : Bool) → has (timed_pilots s) p ≡ b →
-        times_in p (neighbors_heard heard s) ≤ places_for p
-    go true e = omega (
-      arith,
-      cut,
-      once,
-      times-left_out p (lacks (timed_pilots s)) (firsts [] heard) (ap not e),
-    )
+    go : (b : Bool) → has (timed_pilots s) p ≡ b → times_in p (neighbors_heard heard s) ≤ places_for p
+    go true e = omega (arith, cut, once, times-left_out p (lacks (timed_pilots s)) (firsts [] heard) (ap not e))
     go false e = omega (
       arith,
       cut,
@@ -154,8 +140,7 @@ neighbors_orderly heard s offsets h = record {
 
 pub waiting_orderly : (direction : Accepted) (s : PilotSets) → IsActiveSet direction.named →
     IsOrderly s → IsOrderly (record s { waiting = Some direction })
-waiting_orderly direction s named h =
-    record { some = h.some; once = h.once; rows = h.rows; waiting = named }
+waiting_orderly direction s named h = record { some = h.some; once = h.once; rows = h.rows; waiting = named }
 
 -- THE PILOTS OF A DIRECTION
 pilots-named : (ps cs rs : List ℕ) → length cs ≡ length ps → length rs ≡ length ps →
@@ -206,8 +191,7 @@ pilots-after old subchannel (n ∷ named) =
 pub length-after : (old : List ActivePilot) (subchannel : ℕ) (named : List NamedPilot) →
     length (actives_after old subchannel named) ≡ length named
 length-after old subchannel [] = refl
-length-after old subchannel (n ∷ named) =
-    omega (arith, length-after old (next_subchannel subchannel named) named)
+length-after old subchannel (n ∷ named) = omega (arith, length-after old (next_subchannel subchannel named) named)
 
 left_le : (p time : ℕ) (a : ActivePilot) (s : PilotSets) →
     lower p (left time a s) ≤ lower p s + cond (nat_eq p a.pilot) 1 0
@@ -218,24 +202,19 @@ left_le p time a s =
       ap (times_listed p) (pilots-append s.candidates (fresh a.pilot ∷ [])),
       times-append p (candidate_pilots s) (a.pilot ∷ []),
     ))
-    (λ free. omega (arith, times-append p s.neighbors (a.pilot ∷ [])))
-    (omega arith)
+    (λ free. omega (arith, times-append p s.neighbors (a.pilot ∷ []))) (omega arith)
 
 left-waiting : (time : ℕ) (a : ActivePilot) (s : PilotSets) → (left time a s).waiting ≡ s.waiting
-left-waiting time a s =
-    left_is (λ (t : PilotSets). t.waiting ≡ s.waiting) time a s (λ free. refl) (λ free. refl) refl
+left-waiting time a s = left_is (λ (t : PilotSets). t.waiting ≡ s.waiting) time a s (λ free. refl) (λ free. refl) refl
 
 all_left_le : (p time : ℕ) (xs : List ActivePilot) (s : PilotSets) →
     lower p (all_left time xs s) ≤ lower p s + times_listed p (pilots_of_actives xs)
 all_left_le p time [] s = omega arith
-all_left_le p time (a ∷ xs) s =
-    omega (arith, all_left_le p time xs (left time a s), left_le p time a s)
+all_left_le p time (a ∷ xs) s = omega (arith, all_left_le p time xs (left time a s), left_le p time a s)
 
-all_left-waiting : (time : ℕ) (xs : List ActivePilot) (s : PilotSets) →
-    (all_left time xs s).waiting ≡ s.waiting
+all_left-waiting : (time : ℕ) (xs : List ActivePilot) (s : PilotSets) → (all_left time xs s).waiting ≡ s.waiting
 all_left-waiting time [] s = refl
-all_left-waiting time (a ∷ xs) s =
-    all_left-waiting time xs (left time a s) ∙ left-waiting time a s
+all_left-waiting time (a ∷ xs) s = all_left-waiting time xs (left time a s) ∙ left-waiting time a s
 
 handed_off_once : (p time : ℕ) (direction : Accepted) (s : PilotSets) →
     times_in p s ≤ places_for p → IsOnceEach (pilots_named direction.named) →
@@ -259,8 +238,7 @@ handed_off_once p time direction s once each = go (has (pilots_named direction.n
         ap (times_listed p)
         (pilots-filter (λ (a : ActivePilot). a.pilot) (lacks (pilots_named direction.named)) s.active)
 
-    total : times_in p (handed_off time direction s)
-        ≤ times_listed p (pilots_named direction.named)
+    total : times_in p (handed_off time direction s) ≤ times_listed p (pilots_named direction.named)
         + (times_listed p (filter (lacks (pilots_named direction.named)) (candidate_pilots s))
         + times_listed p (filter (lacks (pilots_named direction.named)) s.neighbors)
         + times_listed p (filter (lacks (pilots_named direction.named)) (active_pilots s)))
@@ -273,8 +251,7 @@ handed_off_once p time direction s once each = go (has (pilots_named direction.n
           (cleared direction s),
     )
 
-    go : (b : Bool) → has (pilots_named direction.named) p ≡ b →
-        times_in p (handed_off time direction s) ≤ places_for p
+    go : (b : Bool) → has (pilots_named direction.named) p ≡ b → times_in p (handed_off time direction s) ≤ places_for p
     go true e = omega (
       arith,
       total,
@@ -296,8 +273,7 @@ handed_off_once p time direction s once each = go (has (pilots_named direction.n
 pub handed_off-waiting : (time : ℕ) (direction : Accepted) (s : PilotSets) →
     (handed_off time direction s).waiting ≡ None
 handed_off-waiting time direction s =
-    all_left-waiting time (actives_without (pilots_named direction.named) s.active)
-    (cleared direction s)
+    all_left-waiting time (actives_without (pilots_named direction.named) s.active) (cleared direction s)
 
 pub handed_off_orderly : (time : ℕ) (direction : Accepted) (s : PilotSets) → IsOrderly s →
     IsActiveSet direction.named → IsOrderly (handed_off time direction s)
@@ -332,18 +308,13 @@ risen_le p up s h = go (has up p) refl
 
     go : (b : Bool) → has up p ≡ b → lower p (risen up s) ≤ lower p s
     go true e = omega (arith, above, h, times-left_out p (lacks up) s.neighbors (ap not e))
-    go false e =
-        omega (arith, above, times-missing p up e, times-filter p (lacks up) s.neighbors)
+    go false e = omega (arith, above, times-missing p up e, times-filter p (lacks up) s.neighbors)
 
 rising_le : (p : ℕ) (energy : ℕ → ℕ) (power : ℕ) (began : List ℕ) (s : PilotSets) →
     times_listed p (rising energy power began s) ≤ times_listed p s.neighbors
 rising_le p energy power began s =
     let test : ℕ → Bool = rises energy s.thresholds.t_add power began in
-    omega (
-      arith,
-      times-take p (10 - length s.candidates) (filter test s.neighbors),
-      times-filter p test s.neighbors,
-    )
+    omega (arith, times-take p (10 - length s.candidates) (filter test s.neighbors), times-filter p test s.neighbors)
 
 timed_same : (p : ℕ) (energy : ℕ → ℕ) (power time : ℕ) (s : PilotSets) →
     times_in p (timed energy power time s) ≡ times_in p s
@@ -372,11 +343,7 @@ measured_le p energy power time began s =
 pub measured_orderly : (energy : ℕ → ℕ) (power time : ℕ) (began : List ℕ) (s : PilotSets) →
     IsOrderly s → IsOrderly (measured energy power time began s)
 measured_orderly energy power time began s h = record {
-  some = omega (
-    arith,
-    h.some,
-    length-map s.active (active_timed energy s.thresholds.t_drop power time),
-  );
+  some = omega (arith, h.some, length-map s.active (active_timed energy s.thresholds.t_drop power time));
   once = λ p. omega (arith, h.once p, measured_le p energy power time began s);
   rows = timed_rows energy s.thresholds.t_drop power time s.active h.rows;
   waiting = h.waiting;

@@ -16,5 +16,4 @@ small_ratio k h = go (nat_le (ratio k) 1000000) refl
 
     go : (b : Bool) → nat_le (ratio k) 1000000 ≡ b → ratio k ≤ 1000000
     go true e = leb-true (ratio k) 1000000 e
-    go false e =
-        absurd (not_both (sym are_small ∙ list_all_at (λ r. nat_le r 1000000) ratios k 0 h e))
+    go false e = absurd (not_both (sym are_small ∙ list_all_at (λ r. nat_le r 1000000) ratios k 0 h e))

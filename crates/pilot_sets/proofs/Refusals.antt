@@ -6,8 +6,7 @@ use Rattle.pilot_sets.proofs.Common.{unknown_or_twice, Unknown}
 pub some_none : {X : Type 0} {x : X} → Some x ≡ None → ⊥
 some_none e = cc
 
-pub too_many : (pns rows : List ℕ) (n : ℕ) → n ≡ length pns → 6 < n →
-    Some (TooMany n) ≡ direction_fault_of pns rows
+pub too_many : (pns rows : List ℕ) (n : ℕ) → n ≡ length pns → 6 < n → Some (TooMany n) ≡ direction_fault_of pns rows
 too_many pns rows n is many =
     let more : nat_lt 6 (length pns) ≡ true = lt-ltb 6 (length pns) (omega (arith, is, many)) in
     rw (more, is) refl
@@ -30,24 +29,20 @@ pub accepted_few : (pns rows : List ℕ) → direction_fault_of pns rows ≡ Non
 accepted_few pns rows none = go (nat_lt 6 (length pns)) refl
   where
     go : (b : Bool) → nat_lt 6 (length pns) ≡ b → length pns ≤ 6
-    go true e =
-        absurd (some_none (too_many pns rows (length pns) refl (ltb-true 6 (length pns) e) ∙ none))
+    go true e = absurd (some_none (too_many pns rows (length pns) refl (ltb-true 6 (length pns) e) ∙ none))
     go false e = ltb-false 6 (length pns) e
 
-not_repeated : (unknown repeated : Option ℕ) → unknown_or_twice unknown repeated ≡ None →
-    repeated ≡ None
+not_repeated : (unknown repeated : Option ℕ) → unknown_or_twice unknown repeated ≡ None → repeated ≡ None
 not_repeated (Some row) repeated e = absurd (some_none e)
 not_repeated None None e = refl
 not_repeated None (Some pilot) e = absurd (some_none e)
 
-not_unknown : (unknown repeated : Option ℕ) → unknown_or_twice unknown repeated ≡ None →
-    unknown ≡ None
+not_unknown : (unknown repeated : Option ℕ) → unknown_or_twice unknown repeated ≡ None → unknown ≡ None
 not_unknown (Some row) repeated e = absurd (some_none e)
 not_unknown None repeated e = refl
 
 -- whose rows traffic channels may have
-pub accepted_known : (pns rows : List ℕ) → direction_fault_of pns rows ≡ None →
-    find is_unknown_row rows ≡ None
+pub accepted_known : (pns rows : List ℕ) → direction_fault_of pns rows ≡ None → find is_unknown_row rows ≡ None
 accepted_known pns rows none =
     not_unknown (find is_unknown_row rows) (first_repeated [] pns)
     (sym (few pns rows (accepted_few pns rows none)) ∙ none)

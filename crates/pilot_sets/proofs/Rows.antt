@@ -40,8 +40,7 @@ named_rows (p ∷ ps) (c ∷ cs) (r ∷ rs) h = go (is_unknown_row r) refl h (na
         (known_row r e) (rest h)
 
 -- the subchannels of a new active set are below its length
-next_fits : (subchannel room : ℕ) (named : List NamedPilot) →
-    subchannel + 1 + length named ≤ room →
+next_fits : (subchannel room : ℕ) (named : List NamedPilot) → subchannel + 1 + length named ≤ room →
     next_subchannel subchannel named + length named ≤ room
 next_fits subchannel room [] h = omega arith
 next_fits subchannel room (n ∷ named) h = go n.combined
@@ -55,8 +54,7 @@ pub rows_after : (old : List ActivePilot) (subchannel : ℕ) (named : List Named
     AreOnRows (actives_after old subchannel named)
 rows_after old subchannel [] h fits = All-nil OnRow
 rows_after old subchannel (n ∷ named) h fits =
-    All-cons OnRow (active_of old subchannel n)
-    (actives_after old (next_subchannel subchannel named) named)
+    All-cons OnRow (active_of old subchannel n) (actives_after old (next_subchannel subchannel named) named)
     (All-head Named n named h, omega (arith, fits))
     (rows_after old (next_subchannel subchannel named) named (All-tail Named n named h)
     (next_fits subchannel 6 named (omega (arith, fits))))
@@ -69,8 +67,7 @@ timed_rows energy k power time (a ∷ xs) h =
     (All-head OnRow a xs h) (timed_rows energy k power time xs (All-tail OnRow a xs h))
 
 -- as they are shown
-pub shown_rows : (xs : List ActivePilot) → AreOnRows xs →
-    All (λ (a : Active). a.row < 64) (map shown_active xs)
+pub shown_rows : (xs : List ActivePilot) → AreOnRows xs → All (λ (a : Active). a.row < 64) (map shown_active xs)
 shown_rows [] h = All-nil (λ (a : Active). a.row < 64)
 shown_rows (a ∷ xs) h =
     All-cons (λ (a : Active). a.row < 64) (shown_active a) (map shown_active xs)

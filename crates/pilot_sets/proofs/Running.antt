@@ -10,8 +10,7 @@ use Rattle.pilot_sets.proofs.Refusals.{some_none}
 use Rattle.pilot_sets.proofs.Steps.{left_is, due_is, directed_is}
 
 -- LISTS OF TIMERS
-among-append : (x : ℕ × Option ℕ) (xs ys : List (ℕ × Option ℕ)) → IsAmong x (xs ++ ys) →
-    IsAmong x xs ⊎ IsAmong x ys
+among-append : (x : ℕ × Option ℕ) (xs ys : List (ℕ × Option ℕ)) → IsAmong x (xs ++ ys) → IsAmong x xs ⊎ IsAmong x ys
 among-append x [] ys h = inr h
 among-append x (y ∷ xs) ys (inl e) = inl (inl e)
 among-append x (y ∷ xs) ys (inr h) = go (among-append x xs ys h)
@@ -25,8 +24,7 @@ among_left x [] ys h = elim h [ ]
 among_left x (y ∷ xs) ys (inl e) = inl e
 among_left x (y ∷ xs) ys (inr h) = inr (among_left x xs ys h)
 
-among_right : (x : ℕ × Option ℕ) (xs ys : List (ℕ × Option ℕ)) → IsAmong x ys →
-    IsAmong x (xs ++ ys)
+among_right : (x : ℕ × Option ℕ) (xs ys : List (ℕ × Option ℕ)) → IsAmong x ys → IsAmong x (xs ++ ys)
 among_right x [] ys h = h
 among_right x (y ∷ xs) ys h = inr (among_right x xs ys h)
 
@@ -35,8 +33,7 @@ or_now : {A B : Type 0} {start time : ℕ} → (A → B) → A ⊎ (start ≡ ti
 or_now before (inl a) = inl (before a)
 or_now before (inr now) = inr now
 
-candidates-append : (x : ℕ × Option ℕ) (xs ys : List CandidatePilot) →
-    IsAmong x (candidate_timers (xs ++ ys)) →
+candidates-append : (x : ℕ × Option ℕ) (xs ys : List CandidatePilot) → IsAmong x (candidate_timers (xs ++ ys)) →
     IsAmong x (candidate_timers xs) ⊎ IsAmong x (candidate_timers ys)
 candidates-append x xs ys h =
     among-append x (candidate_timers xs) (candidate_timers ys)
@@ -47,8 +44,7 @@ candidates-filter : (x : ℕ × Option ℕ) (test : CandidatePilot → Bool) (xs
 candidates-filter x test [] h = elim h [ ]
 candidates-filter x test (c ∷ xs) h = go (test c) (candidates-filter x test xs) h
   where
-    go : (b : Bool) →
-        (IsAmong x (candidate_timers (filter test xs)) → IsAmong x (candidate_timers xs)) →
+    go : (b : Bool) → (IsAmong x (candidate_timers (filter test xs)) → IsAmong x (candidate_timers xs)) →
         IsAmong x (candidate_timers (cond b (c ∷ filter test xs) (filter test xs))) →
         (x ≡ (c.pilot, c.timer)) ⊎ IsAmong x (candidate_timers xs)
     go true rest (inl e) = inl e
@@ -56,8 +52,7 @@ candidates-filter x test (c ∷ xs) h = go (test c) (candidates-filter x test xs
     go false rest h = inr (rest h)
 
 -- a new candidate's timer doesn't run
-none_fresh : (pilot start : ℕ) (xs : List ℕ) →
-    IsAmong (pilot, Some start) (candidate_timers (map fresh xs)) → ⊥
+none_fresh : (pilot start : ℕ) (xs : List ℕ) → IsAmong (pilot, Some start) (candidate_timers (map fresh xs)) → ⊥
 none_fresh pilot start [] h = elim h [ ]
 none_fresh pilot start (x ∷ xs) (inl e) = some_none (ap (λ t. t.1) e)
 none_fresh pilot start (x ∷ xs) (inr h) = none_fresh pilot start xs h
@@ -81,14 +76,12 @@ timer_among pilot start (a ∷ old) e =
     go false other rest e = inr (rest e)
 
 -- a pilot of the new active set has the timer that it had
-after_among : (pilot start : ℕ) (old : List ActivePilot) (subchannel : ℕ)
-    (named : List NamedPilot) →
+after_among : (pilot start : ℕ) (old : List ActivePilot) (subchannel : ℕ) (named : List NamedPilot) →
     IsAmong (pilot, Some start) (active_timers (actives_after old subchannel named)) →
     IsAmong (pilot, Some start) (active_timers old)
 after_among pilot start old subchannel [] h = elim h [ ]
 after_among pilot start old subchannel (n ∷ named) (inl e) =
-    timer_among pilot start old
-    (ap (timer_of old) (ap (λ t. t.0) e) ∙ sym (ap (λ t. t.1) e))
+    timer_among pilot start old (ap (timer_of old) (ap (λ t. t.0) e) ∙ sym (ap (λ t. t.1) e))
 after_among pilot start old subchannel (n ∷ named) (inr h) =
     after_among pilot start old (next_subchannel subchannel named) named h
 
@@ -118,8 +111,7 @@ others_of time direction s = all_left time (leaving_of direction s) (cleared dir
 handed_off_runs : (pilot start time : ℕ) (direction : Accepted) (s : PilotSets) →
     RunsSince pilot start (handed_off time direction s) → RunsSince pilot start s
 handed_off_runs pilot start time direction s h =
-    go (among-append (pilot, Some start)
-    (active_timers (actives_after s.active 0 direction.named))
+    go (among-append (pilot, Some start) (active_timers (actives_after s.active 0 direction.named))
     (candidate_timers (others_of time direction s).candidates) h)
   where
     go : IsAmong (pilot, Some start) (active_timers (actives_after s.active 0 direction.named))
@@ -139,8 +131,7 @@ due_runs : (pilot start time : ℕ) (s : Standing) →
     RunsSince pilot start (due_for s.sets.waiting time s).sets → RunsSince pilot start s.sets
 due_runs pilot start time s =
     due_is (λ (t : PilotSets). RunsSince pilot start t → RunsSince pilot start s.sets)
-    s.sets.waiting time s (λ direction is. handed_off_runs pilot start time direction s.sets)
-    (λ h. h)
+    s.sets.waiting time s (λ direction is. handed_off_runs pilot start time direction s.sets) (λ h. h)
 
 -- A MOMENT
 -- a timer that runs after a moment ran before, or started at it
@@ -154,8 +145,7 @@ one_started : (strong : Bool) (time start pilot p : ℕ) (timer : Option ℕ) �
     ◌≡◌ {A = ℕ × Option ℕ} (pilot, Some start) (p, timer_after strong time timer) →
     (◌≡◌ {A = ℕ × Option ℕ} (pilot, Some start) (p, timer)) ⊎ (start ≡ time)
 one_started strong time start pilot p timer e =
-    or_now
-    (λ same. ap (λ q. (q, Some start)) (ap (λ t. t.0) e) ∙ ap (λ t. (p, t)) (sym same))
+    or_now (λ same. ap (λ q. (q, Some start)) (ap (λ t. t.0) e) ∙ ap (λ t. (p, t)) (sym same))
     (timer_started strong time start timer (sym (ap (λ t. t.1) e)))
 
 -- so that of a list of pilots with timers
@@ -186,8 +176,7 @@ candidates_measured energy power time pilot start s h =
     or_now (among_right (pilot, Some start) (active_timers s.active) (candidate_timers s.candidates))
     (started (λ (c : CandidatePilot). (c.pilot, c.timer)) (candidate_timed energy k power time) pilot start time
     (λ c. one_started (is_strong k power (energy c.pilot)) time start pilot c.pilot c.timer) s.candidates
-    (candidates-filter (pilot, Some start) (stays s.thresholds time)
-    (timed energy power time s).candidates h))
+    (candidates-filter (pilot, Some start) (stays s.thresholds time) (timed energy power time s).candidates h))
 
 measured_runs : (energy : ℕ → ℕ) (power time : ℕ) (began : List ℕ) (pilot start : ℕ)
     (s : PilotSets) → RunsSince pilot start (measured energy power time began s) →
@@ -196,17 +185,14 @@ measured_runs energy power time began pilot start s h =
     parted (among-append (pilot, Some start) (active_timers (timed energy power time s).active)
     (candidate_timers (measured energy power time began s).candidates) h)
   where
-    joined : IsAmong (pilot, Some start)
-        (candidate_timers (dropped energy power time s).candidates)
-        ⊎ IsAmong (pilot, Some start)
-        (candidate_timers (map fresh (moving_up energy power time began s))) →
+    joined : IsAmong (pilot, Some start) (candidate_timers (dropped energy power time s).candidates)
+        ⊎ IsAmong (pilot, Some start) (candidate_timers (map fresh (moving_up energy power time began s))) →
         RunsSince pilot start s ⊎ (start ≡ time)
     joined (inl h) = candidates_measured energy power time pilot start s h
     joined (inr h) = absurd (none_fresh pilot start (moving_up energy power time began s) h)
 
     parted : IsAmong (pilot, Some start) (active_timers (timed energy power time s).active)
-        ⊎ IsAmong (pilot, Some start)
-        (candidate_timers (measured energy power time began s).candidates) →
+        ⊎ IsAmong (pilot, Some start) (candidate_timers (measured energy power time began s).candidates) →
         RunsSince pilot start s ⊎ (start ≡ time)
     parted (inl h) = actives_measured energy power time pilot start s h
     parted (inr h) = joined (
@@ -228,8 +214,7 @@ keeps (Step strengths power time) pilot start s h =
     measured_runs (energy_in strengths) power time (began_in s).neighbors pilot start s.sets h
 
 -- THE SETS OF A TIMER
-timer_has : {X : Type 0} (pilot_in : X → ℕ) (timer_in : X → Option ℕ) (pilot : ℕ)
-    (timer : Option ℕ) (xs : List X) →
+timer_has : {X : Type 0} (pilot_in : X → ℕ) (timer_in : X → Option ℕ) (pilot : ℕ) (timer : Option ℕ) (xs : List X) →
     IsAmong (pilot, timer) (map (λ x. (pilot_in x, timer_in x)) xs) → has (map pilot_in xs) pilot ≡ true
 timer_has pilot_in timer_in pilot timer [] h = elim h [ ]
 timer_has pilot_in timer_in pilot timer (x ∷ xs) (inl e) =
@@ -242,12 +227,10 @@ timer_has pilot_in timer_in pilot timer (x ∷ xs) (inr h) =
     or_true true = refl
     or_true false = refl
 
-pub only : (pilot start : ℕ) (s : PilotSets) → RunsSince pilot start s →
-    has (timed_pilots s) pilot ≡ true
+pub only : (pilot start : ℕ) (s : PilotSets) → RunsSince pilot start s → has (timed_pilots s) pilot ≡ true
 only pilot start s h =
     list_any-append (nat_eq pilot) (active_pilots s) (candidate_pilots s)
-    ∙ go (among-append (pilot, Some start) (active_timers s.active)
-    (candidate_timers s.candidates) h)
+    ∙ go (among-append (pilot, Some start) (active_timers s.active) (candidate_timers s.candidates) h)
   where
     go : IsAmong (pilot, Some start) (active_timers s.active)
         ⊎ IsAmong (pilot, Some start) (candidate_timers s.candidates) →
@@ -259,7 +242,6 @@ only pilot start s h =
         right (has (active_pilots s) pilot)
         (timer_has (λ (c : CandidatePilot). c.pilot) (λ c. c.timer) pilot (Some start) s.candidates h)
       where
-        right : (b : Bool) → has (candidate_pilots s) pilot ≡ true →
-            (b || has (candidate_pilots s) pilot) ≡ true
+        right : (b : Bool) → has (candidate_pilots s) pilot ≡ true → (b || has (candidate_pilots s) pilot) ≡ true
         right true e = refl
         right false e = e

@@ -7,8 +7,7 @@ use Rattle.pilot_sets.proofs.Common.{began_in, due_for}
 -- a pilot that leaves the active set becomes a candidate or a neighbor, or is in no set
 pub left_is : (P : PilotSets → Type 0) (time : ℕ) (a : ActivePilot) (s : PilotSets) →
     (length s.candidates < 10 → P (record s { candidates = s.candidates ++ fresh a.pilot ∷ [] })) →
-    (length s.neighbors < 20 → P (record s { neighbors = s.neighbors ++ a.pilot ∷ [] })) →
-    P s → P (left time a s)
+    (length s.neighbors < 20 → P (record s { neighbors = s.neighbors ++ a.pilot ∷ [] })) → P s → P (left time a s)
 left_is P time a s candidate neighbor none =
     go (nat_lt (length s.candidates) 10) (not (is_expired s.thresholds time a.timer))
     (nat_lt (length s.neighbors) 20) refl refl

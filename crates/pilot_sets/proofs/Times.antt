@@ -19,8 +19,7 @@ times-filter p test [] = omega arith
 times-filter p test (x ∷ xs) = go (test x) (times-filter p test xs)
   where
     go : (b : Bool) → times_listed p (filter test xs) ≤ times_listed p xs →
-        times_listed p (cond b (x ∷ filter test xs) (filter test xs))
-        ≤ cond (nat_eq p x) 1 0 + times_listed p xs
+        times_listed p (cond b (x ∷ filter test xs) (filter test xs)) ≤ cond (nat_eq p x) 1 0 + times_listed p xs
     go true ih = omega (arith, ih)
     go false ih = omega (arith, ih)
 
@@ -35,8 +34,7 @@ times-missing p (x ∷ xs) h = go (nat_eq p x) h (times-missing p xs)
     go false e ih = omega (arith, ih e)
 
 -- what a test leaves out stands 0 times in what it leaves
-pub times-left_out : (p : ℕ) (test : ℕ → Bool) (xs : List ℕ) → test p ≡ false →
-    times_listed p (filter test xs) ≡ 0
+pub times-left_out : (p : ℕ) (test : ℕ → Bool) (xs : List ℕ) → test p ≡ false → times_listed p (filter test xs) ≡ 0
 times-left_out p test [] h = refl
 times-left_out p test (x ∷ xs) h = go (test x) refl (times-left_out p test xs h)
   where
@@ -105,8 +103,7 @@ times-offsets p (x ∷ xs) h above =
     go (nat_eq p x) refl (times-offsets p xs (All-tail (λ y. y < 512) x xs h) above)
   where
     go : (b : Bool) → nat_eq p x ≡ b → times_listed p xs ≡ 0 → cond b 1 0 + times_listed p xs ≡ 0
-    go true e ih =
-        absurd (omega (arith, eqb-true p x e, All-head (λ y. y < 512) x xs h, above))
+    go true e ih = absurd (omega (arith, eqb-true p x e, All-head (λ y. y < 512) x xs h, above))
     go false e ih = omega (arith, ih)
 
 pub once_at_most : (p : ℕ) → places_for p ≤ 1
@@ -128,8 +125,7 @@ once_each xs once offsets p = go (nat_lt p 512) refl
 pub offsets_of : (xs : List ℕ) → ((p : ℕ) → times_listed p xs ≤ places_for p) → All (λ x. x < 512) xs
 offsets_of [] h = All-nil (λ y. y < 512)
 offsets_of (x ∷ xs) h =
-    All-cons (λ y. y < 512) x xs (below (nat_lt x 512) refl)
-    (offsets_of xs (λ p. omega (arith, h p)))
+    All-cons (λ y. y < 512) x xs (below (nat_lt x 512) refl) (offsets_of xs (λ p. omega (arith, h p)))
   where
     here : 1 ≤ times_listed x (x ∷ xs)
     here = rw (eq-eqb x x refl) (omega arith)

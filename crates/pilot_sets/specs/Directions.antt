@@ -22,8 +22,7 @@ is_unknown_row row = row == 0 || row == 32 || nat_lt 63 row
 -- the first of the pilots that stands there a second time
 abbrev pub first_repeated : List ℕ → List ℕ → Option ℕ
 first_repeated seen [] = None
-first_repeated seen (p ∷ pilots) =
-    if has seen p then Some p else first_repeated (p ∷ seen) pilots
+first_repeated seen (p ∷ pilots) = if has seen p then Some p else first_repeated (p ∷ seen) pilots
 
 abbrev pub twice : Option ℕ → Option DirectionFault
 twice None = None

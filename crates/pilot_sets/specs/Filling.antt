@@ -8,8 +8,7 @@ use Rattle.pilot_sets.specs.declared.few.Few.TheInside.{Inside}
 
 pub length-filled : {X : Type 0} (filler : X) (room : ℕ) (places : List X) (count : ℕ) →
     IsFilled filler room places count → length (take count places) ≡ count
-length-filled filler room places count h =
-    omega (arith, length-take count places, h.long, h.within)
+length-filled filler room places count h = omega (arith, length-take count places, h.long, h.within)
 
 pub places-held : {X : Type 0} (filler : X) (room : ℕ) (places : List X) (count : ℕ) →
     IsFilled filler room places count → filled filler room (take count places) ≡ places

@@ -16,5 +16,4 @@ without others pilots = filter (lacks others) pilots
 -- the first of equal pilots
 abbrev pub firsts : List ℕ → List ℕ → List ℕ
 firsts seen [] = []
-firsts seen (p ∷ pilots) =
-    if has seen p then firsts seen pilots else p ∷ firsts (p ∷ seen) pilots
+firsts seen (p ∷ pilots) = if has seen p then firsts seen pilots else p ∷ firsts (p ∷ seen) pilots

@@ -145,16 +145,14 @@ change_of (Parameters t) s = []
 change_of (Neighbors heard) s = []
 change_of (Direct first d) s = []
 change_of (Due time) s = []
-change_of (Step strengths power time) s =
-    shown_change (change_at strengths power time s) ∷ []
+change_of (Step strengths power time) s = shown_change (change_at strengths power time s) ∷ []
 
 abbrev changes : List Call → Standing → List (Bool × Bool)
 changes [] s = []
 changes (call ∷ calls) s = change_of call s ++ changes calls (after_call call s)
 
 abbrev Story : Type 0
-Story =
-    List (ℕ × ℕ × ℕ) × List ℕ × List ℕ × List (ℕ × ℕ) × List (Bool × Bool)
+Story = List (ℕ × ℕ × ℕ) × List ℕ × List ℕ × List (ℕ × ℕ) × List (Bool × Bool)
 
 abbrev left_by : Standing → List (Bool × Bool) → Story
 left_by s seen = (
@@ -172,13 +170,7 @@ story calls = left_by (after_all calls (new_standing 7 10)) (changes calls (new_
 heard : story
     (Neighbors (9 ∷ 7 ∷ 9 ∷ 8 ∷ 300 ∷ 8 ∷ [])
     ∷ [])
-    ≡ (
-      (7, 10, 0) ∷ [],
-      [],
-      9 ∷ 8 ∷ 300 ∷ [],
-      [],
-      [],
-    )
+    ≡ ((7, 10, 0) ∷ [], [], 9 ∷ 8 ∷ 300 ∷ [], [], [])
 unfolding story strength thresholds direction searching leg
 heard = refl
 
@@ -188,13 +180,7 @@ rises : story
     ∷ Neighbors (8 ∷ 9 ∷ [])
     ∷ Step (strength 7 1024 ∷ strength 8 1024 ∷ strength 9 1023 ∷ []) 1 1
     ∷ [])
-    ≡ (
-      (7, 10, 0) ∷ [],
-      8 ∷ [],
-      9 ∷ [],
-      [],
-      (true, true) ∷ [],
-    )
+    ≡ ((7, 10, 0) ∷ [], 8 ∷ [], 9 ∷ [], [], (true, true) ∷ [])
 unfolding story strength thresholds direction searching leg
 rises = refl
 
@@ -281,13 +267,7 @@ above : story
     ∷ Step (strength 7 2000 ∷ strength 8 2000 ∷ []) 1 2
     ∷ Step (strength 7 2000 ∷ strength 8 2001 ∷ []) 1 3
     ∷ [])
-    ≡ (
-      (7, 10, 0) ∷ [],
-      8 ∷ [],
-      [],
-      [],
-      (true, true) ∷ (false, false) ∷ (false, true) ∷ [],
-    )
+    ≡ ((7, 10, 0) ∷ [], 8 ∷ [], [], [], (true, true) ∷ (false, false) ∷ (false, true) ∷ [])
 unfolding story strength thresholds direction searching leg
 above = refl
 
@@ -316,13 +296,7 @@ changes_rows : story
     ∷ Due 6
     ∷ Step (strength 7 0 ∷ []) 0 6
     ∷ [])
-    ≡ (
-      (7, 20, 0) ∷ [],
-      [],
-      [],
-      (7, 6) ∷ [],
-      (true, false) ∷ [],
-    )
+    ≡ ((7, 20, 0) ∷ [], [], [], (7, 6) ∷ [], (true, false) ∷ [])
 unfolding story strength thresholds direction searching leg
 changes_rows = refl
 
@@ -336,13 +310,7 @@ leaves : story
     ∷ Due 2
     ∷ Step (strength 8 1024 ∷ strength 7 1024 ∷ []) 1 2
     ∷ [])
-    ≡ (
-      (8, 11, 0) ∷ [],
-      7 ∷ [],
-      [],
-      [],
-      (false, false) ∷ (true, false) ∷ [],
-    )
+    ≡ ((8, 11, 0) ∷ [], 7 ∷ [], [], [], (false, false) ∷ (true, false) ∷ [])
 unfolding story strength thresholds direction searching leg
 leaves = refl
 
@@ -356,13 +324,7 @@ leaves_late : story
     ∷ Due 3
     ∷ Step (strength 8 1024 ∷ strength 7 0 ∷ []) 1 3
     ∷ [])
-    ≡ (
-      (8, 11, 0) ∷ [],
-      [],
-      7 ∷ [],
-      [],
-      (false, false) ∷ (false, false) ∷ (true, false) ∷ [],
-    )
+    ≡ ((8, 11, 0) ∷ [], [], 7 ∷ [], [], (false, false) ∷ (false, false) ∷ (true, false) ∷ [])
 unfolding story strength thresholds direction searching leg
 leaves_late = refl
 
@@ -413,13 +375,7 @@ action_time : story
     ∷ Due 1009
     ∷ Step (strength 8 0 ∷ strength 7 0 ∷ []) 0 1009
     ∷ [])
-    ≡ (
-      (8, 20, 0) ∷ [],
-      7 ∷ [],
-      [],
-      (8, 1009) ∷ (7, 1009) ∷ [],
-      (false, false) ∷ (true, false) ∷ [],
-    )
+    ≡ ((8, 20, 0) ∷ [], 7 ∷ [], [], (8, 1009) ∷ (7, 1009) ∷ [], (false, false) ∷ (true, false) ∷ [])
 unfolding story strength thresholds direction searching leg
 action_time = refl
 
@@ -432,13 +388,7 @@ replaced : story
     ∷ Due 20
     ∷ Step (strength 9 0 ∷ strength 7 0 ∷ []) 0 20
     ∷ [])
-    ≡ (
-      (9, 21, 0) ∷ [],
-      7 ∷ [],
-      [],
-      (9, 13) ∷ (7, 13) ∷ [],
-      (true, false) ∷ (false, false) ∷ [],
-    )
+    ≡ ((9, 21, 0) ∷ [], 7 ∷ [], [], (9, 13) ∷ (7, 13) ∷ [], (true, false) ∷ (false, false) ∷ [])
 unfolding story strength thresholds direction searching leg
 replaced = refl
 
@@ -449,12 +399,6 @@ refused_waits : story
     ∷ Due 11
     ∷ Step (strength 8 0 ∷ strength 7 0 ∷ []) 0 11
     ∷ [])
-    ≡ (
-      (8, 20, 0) ∷ [],
-      7 ∷ [],
-      [],
-      (8, 11) ∷ (7, 11) ∷ [],
-      (true, false) ∷ [],
-    )
+    ≡ ((8, 20, 0) ∷ [], 7 ∷ [], [], (8, 11) ∷ (7, 11) ∷ [], (true, false) ∷ [])
 unfolding story strength thresholds direction searching leg
 refused_waits = refl

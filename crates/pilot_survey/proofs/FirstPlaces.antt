@@ -20,20 +20,16 @@ pub record IsOrdering (e : ℕ → ℕ) (n : ℕ) (ps : List ℕ) : Type 0 where
 
 -- a number doesn't come before itself
 leads_apart : (e : ℕ → ℕ) (p q : ℕ) → Leads e p q → p ≡ q → ⊥
-leads_apart e p q h same = ⊎_elim
-    (λ less. let eq = ap e same in absurd (omega (arith, less, eq)))
+leads_apart e p q h same = ⊎_elim (λ less. let eq = ap e same in absurd (omega (arith, less, eq)))
     (λ both. let lt = both.1 in absurd (omega (arith, lt, same)))
     h
 
 leads_most : (e : ℕ → ℕ) (p q : ℕ) → Leads e p q → pos (e q) ≤ℤ pos (e p)
-leads_most e p q h = ⊎_elim
-    (λ less. omega (arith, ints, less))
-    (λ both. let eq = both.0 in omega (arith, ints, eq))
+leads_most e p q h = ⊎_elim (λ less. omega (arith, ints, less)) (λ both. let eq = both.0 in omega (arith, ints, eq))
     h
 
 leads_first : (e : ℕ → ℕ) (p q : ℕ) → Leads e p q → q < p → pos (e q) <ℤ pos (e p)
-leads_first e p q h under = ⊎_elim
-    (λ less. omega (arith, ints, less))
+leads_first e p q h under = ⊎_elim (λ less. omega (arith, ints, less))
     (λ both. let lt = both.1 in absurd (omega (arith, lt, under)))
     h
 
@@ -44,8 +40,7 @@ next_free e n ps k is lt =
     let room : k ≤ length ps = let l = is.long in omega (arith, l, lt) in
     list_any_none (nat_eq (get_or ps k 0)) (take k ps) (λ i d under.
     let low : i < k = let l = length-take-le k ps room in omega (arith, l, under) in
-    let own : get_or ps k d ≡ get_or ps k 0 =
-    get_or_default ps k d 0 (let l = is.long in omega (arith, l, lt)) in
+    let own : get_or ps k d ≡ get_or ps k 0 = get_or_default ps k d 0 (let l = is.long in omega (arith, l, lt)) in
     ne_eqb (get_or ps k 0) (get_or (take k ps) i d)
     (λ same. leads_apart e (get_or ps i d) (get_or ps k d) (is.order i k d low lt)
     (sym (same ∙ get_or-take k ps i d low) ∙ sym own)))
@@ -55,29 +50,24 @@ free_after : (ps : List ℕ) (k q i : ℕ) → k ≤ length ps → i < length ps
     list_any (nat_eq q) (take k ps) ≡ false → i < k → ⊥
 free_after ps k q i room lt here free low =
     let taken : list_any (nat_eq q) (take k ps) ≡ true =
-    list_any_at (nat_eq q) (take k ps) i q
-    (let l = length-take-le k ps room in omega (arith, l, low))
+    list_any_at (nat_eq q) (take k ps) i q (let l = length-take-le k ps room in omega (arith, l, low))
     (eq-eqb q (get_or (take k ps) i q) (sym (get_or-take k ps i q low ∙ here))) in
     free_taken (list_any (nat_eq q) (take k ps)) free taken
 
 -- it is the place's own number, or the place's number comes before it
 own_or_after : (e : ℕ → ℕ) (n : ℕ) (ps : List ℕ) (k q : ℕ) → IsOrdering e n ps → k < n → q < n →
-    list_any (nat_eq q) (take k ps) ≡ false →
-    (get_or ps k 0 ≡ q) ⊎ Leads e (get_or ps k 0) q
+    list_any (nat_eq q) (take k ps) ≡ false → (get_or ps k 0 ≡ q) ⊎ Leads e (get_or ps k 0) q
 own_or_after e n ps k q is lt below free =
     let at = is.each q below in
     let i : ℕ = at.0 in
     let l = is.long in
     let in' : i < n = let h = at.1 in omega (arith, l, h) in
     let own : get_or ps k q ≡ get_or ps k 0 = get_or_default ps k q 0 (omega (arith, l, lt)) in
-    ⊎_elim
-    (λ same. inl (sym own ∙ ap (λ (j : ℕ). get_or ps j q) (sym same) ∙ at.2))
-    (⊎_elim
-    (λ low. absurd (free_after ps k q i (omega (arith, l, lt)) at.1 at.2 free low))
+    ⊎_elim (λ same. inl (sym own ∙ ap (λ (j : ℕ). get_or ps j q) (sym same) ∙ at.2))
+    (⊎_elim (λ low. absurd (free_after ps k q i (omega (arith, l, lt)) at.1 at.2 free low))
     (λ high.
     let leads = is.order k i q high in' in
-    inr (subst (λ (p : ℕ). Leads e p q) own
-    (subst (λ (r : ℕ). Leads e (get_or ps k q) r) at.2 leads))))
+    inr (subst (λ (p : ℕ). Leads e p q) own (subst (λ (r : ℕ). Leads e (get_or ps k q) r) at.2 leads))))
     (cases_order i k)
 
 next_greatest : (e : ℕ → ℕ) (n : ℕ) (ps : List ℕ) (k : ℕ) → IsOrdering e n ps → k < n →
@@ -85,12 +75,10 @@ next_greatest : (e : ℕ → ℕ) (n : ℕ) (ps : List ℕ) (k : ℕ) → IsOrde
 next_greatest e n ps k is lt = record {
   below = is.below k 0 lt;
   free = next_free e n ps k is lt;
-  greatest = λ q under free. ⊎_elim
-      (λ same. let eq = ap e same in omega (arith, ints, eq))
+  greatest = λ q under free. ⊎_elim (λ same. let eq = ap e same in omega (arith, ints, eq))
       (λ leads. leads_most e (get_or ps k 0) q leads)
       (own_or_after e n ps k q is lt under free);
-  first = λ q under free. ⊎_elim
-      (λ same. absurd (omega (arith, same, under)))
+  first = λ q under free. ⊎_elim (λ same. absurd (omega (arith, same, under)))
       (λ leads. leads_first e (get_or ps k 0) q leads under)
       (own_or_after e n ps k q is lt (let b = is.below k 0 lt in omega (arith, b, under)) free);
 }
@@ -110,8 +98,7 @@ first_taken e n ps (suc k) is le =
     more ∙ sym (rw add-one at (take_more ps k 0 (omega (arith, l, lt))))
 
 -- so the ordered list is the list of first places
-pub ordering_only : (e : ℕ → ℕ) (n : ℕ) (ps : List ℕ) → IsOrdering e n ps →
-    first_places n (λ (p : ℕ). pos (e p)) n ≡ ps
+pub ordering_only : (e : ℕ → ℕ) (n : ℕ) (ps : List ℕ) → IsOrdering e n ps → first_places n (λ (p : ℕ). pos (e p)) n ≡ ps
 ordering_only e n ps is =
     let l = is.long in
     first_taken e n ps n is (omega arith) ∙ take_all n ps (omega (arith, l))

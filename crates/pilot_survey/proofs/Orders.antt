@@ -12,8 +12,7 @@ use Rattle.pilot_survey.proofs.Ranked.{pilot_of, named}
 use Rattle.pilot_survey.proofs.Strength.{surveyed_pilot}
 
 -- what a sort by energy, the greatest first, and then by pilot says of neighbours
-pub neighbours : (e e' p p' : ℕ) →
-    is_lt (ordering_then (nat_cmp e e') (nat_cmp p' p)) ≡ false →
+pub neighbours : (e e' p p' : ℕ) → is_lt (ordering_then (nat_cmp e e') (nat_cmp p' p)) ≡ false →
     (e' < e) ⊎ ((e ≡ e') × (p ≤ p'))
 neighbours e e' p p' h = grind (arith, nat_tests)
 
@@ -25,12 +24,10 @@ NotAfter x y = (y.energy < x.energy) ⊎ ((x.energy ≡ y.energy) × (x.pilot �
 -- ones, and in each of the four cases one of the two comparisons decides, or both do together.
 pub chained : (x y z : Rank) → NotAfter x y → NotAfter y z → NotAfter x z
 chained x y z h g = ⊎_elim
-    (λ less. ⊎_elim
-    (λ lesser. inl (omega (arith, less, lesser)))
+    (λ less. ⊎_elim (λ lesser. inl (omega (arith, less, lesser)))
     (λ both. let eq = both.0 in inl (omega (arith, less, eq)))
     g)
-    (λ own. let same = own.0 in let low = own.1 in ⊎_elim
-    (λ lesser. inl (omega (arith, same, lesser)))
+    (λ own. let same = own.0 in let low = own.1 in ⊎_elim (λ lesser. inl (omega (arith, same, lesser)))
     (λ both. let eq = both.0 in let up = both.1 in
     inr (omega (arith, same, eq), omega (arith, low, up)))
     g)
@@ -80,8 +77,7 @@ pilots_differ samples base width =
     let low = pilot_by_number samples base width i d (omega (arith, long, all, less, lt)) in
     let high = pilot_by_number samples base width j d (omega (arith, long, all, lt)) in
     ne_eqb (get_or (map pilot_of (by_number samples base width)) i d)
-    (get_or (map pilot_of (by_number samples base width)) j d)
-    (λ same. absurd (omega (arith, low, high, less, same))))
+    (get_or (map pilot_of (by_number samples base width)) j d) (λ same. absurd (omega (arith, low, high, less, same))))
 
 -- and in each other order too
 still_differ : (samples : List Sample) (base width : ℕ) (ranks : List Rank) →
@@ -93,26 +89,22 @@ still_differ samples base width ranks moved i j d less lt =
     (map pilot_of ranks) (IsPermutation-map pilot_of (by_number samples base width) ranks moved)
     (pilots_differ samples base width) in
     let long = length-map ranks pilot_of in
-    let differ = apart_from_distinct nat_eq (map pilot_of ranks) i j d.pilot distinct less
-    (omega (arith, long, lt)) in
+    let differ = apart_from_distinct nat_eq (map pilot_of ranks) i j d.pilot distinct less (omega (arith, long, lt)) in
     let low = get_or-map pilot_of ranks i d d.pilot (omega (arith, less, lt)) in
     let high = get_or-map pilot_of ranks j d d.pilot lt in
     λ same. eqb-false (get_or (map pilot_of ranks) i d.pilot) (get_or (map pilot_of ranks) j d.pilot)
     differ (low ∙ same ∙ sym high)
 
 strictly : (x y : Rank) → NotAfter x y → x.pilot ≢ y.pilot → ComesBefore x y
-strictly x y h differ = ⊎_elim (λ less. inl less)
-    (λ both. let le = both.1 in inr (both.0, omega (arith, le, differ)))
+strictly x y h differ = ⊎_elim (λ less. inl less) (λ both. let le = both.1 in inr (both.0, omega (arith, le, differ)))
     h
 
 -- a list that has all ranks by number, in another order, and is in order
 pub sorted_ranking : (samples : List Sample) (base width : ℕ) (ranks : List Rank) →
-    IsPermutation (by_number samples base width) ranks → AreInOrder ranks →
-    IsRanking samples base width ranks
+    IsPermutation (by_number samples base width) ranks → AreInOrder ranks → IsRanking samples base width ranks
 sorted_ranking samples base width ranks moved up =
     let all = length-map-range_with_len (surveyed samples base width) 0 512 in
-    let long : length ranks ≡ 512 =
-    length_permutation (by_number samples base width) ranks moved ∙ all in
+    let long : length ranks ≡ 512 = length_permutation (by_number samples base width) ranks moved ∙ all in
     let P : Rank → Type 0 = λ r. (r.pilot < 512) × (r ≡ surveyed samples base width r.pilot) in
     record {
       long = long;

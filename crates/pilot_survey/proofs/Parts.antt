@@ -6,8 +6,7 @@ use Rattle.std.proofs.Math.Nat.{div-le_self, mul-div_cancel}
 
 -- a list is the one that a function makes, by its entries
 pub filled : {X : Type 0} (f : ℕ → X) (first n : ℕ) (xs : List X) → length xs ≡ n →
-    ((k : ℕ) (d : X) → k < n → get_or xs k d ≡ f (first + k)) →
-    xs ≡ map f (range_with_len first n)
+    ((k : ℕ) (d : X) → k < n → get_or xs k d ≡ f (first + k)) → xs ≡ map f (range_with_len first n)
 filled f first n xs long each =
     same_lists xs (map f (range_with_len first n)) (long ∙ sym (length-map-range_with_len f first n))
     (λ k d lt.
@@ -16,8 +15,7 @@ filled f first n xs long each =
 
 -- two lists of neighbouring numbers
 pub joined : {X : Type 0} (f : ℕ → X) (first m n middle : ℕ) → first + m ≡ middle →
-    map f (range_with_len first m) ++ map f (range_with_len middle n) ≡
-    map f (range_with_len first (m + n))
+    map f (range_with_len first m) ++ map f (range_with_len middle n) ≡ map f (range_with_len first (m + n))
 joined f first zero n middle e =
     let same : middle ≡ first = omega (arith, e) in
     let none : 0 + n ≡ n = omega arith in
@@ -42,8 +40,7 @@ start_none workers = let l = div-le_self 0 workers in omega arith
 
 -- what all workers wrote, in the room for it
 pub all_written : {X : Type 0} (f : ℕ → X) (workers n room : ℕ) (ranks others : List X) →
-    0 < workers → n ≡ 512 → room ≡ 512 →
-    ranks ≡ map f (range_with_len (survey_start 0 workers) n) →
+    0 < workers → n ≡ 512 → room ≡ 512 → ranks ≡ map f (range_with_len (survey_start 0 workers) n) →
     take room (ranks ++ others) ≡ map f (range_with_len 0 512)
 all_written f workers n room ranks others some long all is =
     let whole : ranks ≡ map f (range_with_len 0 512) =

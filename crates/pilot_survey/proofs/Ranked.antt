@@ -21,14 +21,12 @@ pilots_lead : (samples : List Sample) (base width : ℕ) (x y : Rank) →
 pilots_lead samples base width x y own other h =
     let ex : x.energy ≡ energy_of samples base width x.pilot = ap (λ (r : Rank). r.energy) own in
     let ey : y.energy ≡ energy_of samples base width y.pilot = ap (λ (r : Rank). r.energy) other in
-    ⊎_elim
-    (λ less. inl (omega (arith, ex, ey, less)))
+    ⊎_elim (λ less. inl (omega (arith, ex, ey, less)))
     (λ both. let eq = both.0 in inr (omega (arith, ex, ey, eq), both.1))
     h
 
 -- the pilots of a ranking, in order
-pilots_ordered : (samples : List Sample) (base width : ℕ) (ranks : List Rank) →
-    IsRanking samples base width ranks →
+pilots_ordered : (samples : List Sample) (base width : ℕ) (ranks : List Rank) → IsRanking samples base width ranks →
     IsOrdering (energy_of samples base width) 512 (map pilot_of ranks)
 pilots_ordered samples base width ranks is =
     let long = is.long in
@@ -62,8 +60,7 @@ pilots_ordered samples base width ranks is =
     }
 
 -- its ranks are those of its pilots
-ranks_of_pilots : (samples : List Sample) (base width : ℕ) (ranks : List Rank) →
-    IsRanking samples base width ranks →
+ranks_of_pilots : (samples : List Sample) (base width : ℕ) (ranks : List Rank) → IsRanking samples base width ranks →
     ranks ≡ map (surveyed samples base width) (map pilot_of ranks)
 ranks_of_pilots samples base width ranks is =
     let l = length-map ranks pilot_of in

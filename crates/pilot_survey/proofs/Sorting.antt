@@ -12,8 +12,7 @@ use Rattle.pilot_survey.proofs.Ranked.{ranking_only}
 abbrev is_late : Rank → Rank → Bool
 is_late x y = is_lt (ordering_then (nat_cmp x.energy y.energy) (nat_cmp y.pilot x.pilot))
 
-turned : (e e' p p' : ℕ) → is_lt (ordering_then (nat_cmp e e') (nat_cmp p' p)) ≡ true →
-    (e < e') ⊎ ((e' ≡ e) × (p' ≤ p))
+turned : (e e' p p' : ℕ) → is_lt (ordering_then (nat_cmp e e') (nat_cmp p' p)) ≡ true → (e < e') ⊎ ((e' ≡ e) × (p' ≤ p))
 turned e e' p p' h = grind (arith, nat_tests)
 
 inserted : Rank → List Rank → List Rank
@@ -29,28 +28,23 @@ Rises : List Rank → Type 0
 Rises [] = ⊤
 Rises (x ∷ xs) = All (NotAfter x) xs × Rises xs
 
-either : (P : List Rank → Type 0) (t : Bool) (xs ys : List Rank) → P xs → P ys →
-    P (if t then xs else ys)
+either : (P : List Rank → Type 0) (t : Bool) (xs ys : List Rank) → P xs → P ys → P (if t then xs else ys)
 either P true xs ys one other = one
 either P false xs ys one other = other
 
-inserted-all : (P : Rank → Type 0) (x : Rank) (ys : List Rank) → P x → All P ys →
-    All P (inserted x ys)
+inserted-all : (P : Rank → Type 0) (x : Rank) (ys : List Rank) → P x → All P ys → All P (inserted x ys)
 unfolding inserted
 inserted-all P x [] own all = All-cons P x [] own (All-nil P)
 inserted-all P x (y ∷ ys) own all =
     either (All P) (is_late x y) (y ∷ inserted x ys) (x ∷ y ∷ ys)
-    (All-cons P y (inserted x ys) (All-head P y ys all)
-    (inserted-all P x ys own (All-tail P y ys all)))
+    (All-cons P y (inserted x ys) (All-head P y ys all) (inserted-all P x ys own (All-tail P y ys all)))
     (All-cons P x (y ∷ ys) own all)
 
 -- the place of a rank among two
 placed : (x y : Rank) (ys zs : List Rank) (t : Bool) → is_late x y ≡ t → Rises (y ∷ ys) →
-    (NotAfter y x → All (NotAfter y) zs) →
-    Rises zs → Rises (if t then y ∷ zs else x ∷ y ∷ ys)
+    (NotAfter y x → All (NotAfter y) zs) → Rises zs → Rises (if t then y ∷ zs else x ∷ y ∷ ys)
 unfolding Rises
-placed x y ys zs true e up following rest =
-    (following (turned x.energy y.energy x.pilot y.pilot e), rest)
+placed x y ys zs true e up following rest = (following (turned x.energy y.energy x.pilot y.pilot e), rest)
 placed x y ys zs false e up following rest =
     let own : NotAfter x y = neighbours x.energy y.energy x.pilot y.pilot e in (
       All-cons (NotAfter x) y ys own
@@ -93,15 +87,11 @@ unfolding sorted
 sorted-permutation [] = IsPermutation-refl []
 sorted-permutation (x ∷ xs) =
     IsPermutation-trans (x ∷ xs) (x ∷ sorted xs) (inserted x (sorted xs))
-    (IsPermutation-cons x xs (sorted xs) (sorted-permutation xs))
-    (inserted-permutation x (sorted xs))
+    (IsPermutation-cons x xs (sorted xs) (sorted-permutation xs)) (inserted-permutation x (sorted xs))
 
-pub ranking_is : (samples : List Sample) (base width : ℕ) →
-    IsRanking samples base width (ranking samples base width)
+pub ranking_is : (samples : List Sample) (base width : ℕ) → IsRanking samples base width (ranking samples base width)
 ranking_is samples base width =
     let ranks : List Rank = sorted (by_number samples base width) in
-    let is = sorted_ranking samples base width ranks
-    (sorted-permutation (by_number samples base width))
+    let is = sorted_ranking samples base width ranks (sorted-permutation (by_number samples base width))
     (rises_in_order ranks (sorted-rises (by_number samples base width))) in
-    subst (λ (rs : List Rank). IsRanking samples base width rs)
-    (ranking_only samples base width ranks is) is
+    subst (λ (rs : List Rank). IsRanking samples base width rs) (ranking_only samples base width ranks is) is

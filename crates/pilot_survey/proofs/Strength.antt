@@ -12,8 +12,7 @@ ranked samples base width pilot best = record {
 }
 
 strongest_is : (samples : List Sample) (base width pilot best : ℕ) →
-    IsFirstGreatest (λ (k : ℕ). pos (energy samples (survey_phase base width pilot k)))
-    (2 * width + 1) best →
+    IsFirstGreatest (λ (k : ℕ). pos (energy samples (survey_phase base width pilot k))) (2 * width + 1) best →
     best ≡ strongest samples base width pilot
 unfolding strongest
 strongest_is samples base width pilot best is =
@@ -21,16 +20,13 @@ strongest_is samples base width pilot best is =
 
 pub surveyed_is : (samples : List Sample) (base width pilot best most : ℕ) (delta : ℤ) →
     most ≡ energy samples (survey_phase base width pilot best) → delta ≡ pos best -ℤ pos width →
-    IsFirstGreatest (λ (k : ℕ). pos (energy samples (survey_phase base width pilot k)))
-    (2 * width + 1) best →
+    IsFirstGreatest (λ (k : ℕ). pos (energy samples (survey_phase base width pilot k))) (2 * width + 1) best →
     record { pilot = pilot; delta = delta; energy = most } ≡ surveyed samples base width pilot
 unfolding surveyed
 surveyed_is samples base width pilot best most delta high away is =
-    rw (high, away) (ap (ranked samples base width pilot)
-    (strongest_is samples base width pilot best is))
+    rw (high, away) (ap (ranked samples base width pilot) (strongest_is samples base width pilot best is))
 
 -- it is the pilot's own
-pub surveyed_pilot : (samples : List Sample) (base width pilot : ℕ) →
-    (surveyed samples base width pilot).pilot ≡ pilot
+pub surveyed_pilot : (samples : List Sample) (base width pilot : ℕ) → (surveyed samples base width pilot).pilot ≡ pilot
 unfolding surveyed
 surveyed_pilot samples base width pilot = refl

@@ -13,8 +13,7 @@ pub record AreRead {M : Type 0} (kind : Kind) (form : CheckForm) (Is : M → Typ
   pub spells : (m : M) → spelled m ≡ capsule kind form (body m)
   pub fills : (m : M) → Is m → FillsCapsule kind (body m)
   pub again : (m : M) → Is m → of_body (body m) ≡ Some m
-  pub there : (bits : List Bool) (m : M) → FillsCapsule kind bits → of_body bits ≡ Some m →
-      Is m × (bits ≡ body m)
+  pub there : (bits : List Bool) (m : M) → FillsCapsule kind bits → of_body bits ≡ Some m → Is m × (bits ≡ body m)
   pub capsule_again : (m : M) → Is m → of_capsule (spelled m) ≡ Some m
   pub capsule_there : (bits : List Bool) (m : M) → of_capsule bits ≡ Some m → Is m × (bits ≡ spelled m)
 
@@ -59,8 +58,7 @@ if_spelled-again {M} kind form body of_body cut m is read =
     ∙ ap (if_spelled spelled c) read ∙ rw same refl
 
 pub if_spelled-there : {M : Type 0} (spelled : M → List Bool) (bits : List Bool) (m : M)
-    (read : Option M) → if_spelled spelled bits read ≡ Some m →
-    (read ≡ Some m) × (bits ≡ spelled m)
+    (read : Option M) → if_spelled spelled bits read ≡ Some m → (read ≡ Some m) × (bits ≡ spelled m)
 if_spelled-there spelled bits m None e = absurd (cc)
 if_spelled-there spelled bits m (Some n) e =
     elim (cases_Bool (are_same (spelled n) bits)) [
@@ -176,8 +174,7 @@ tells_by_body bits inside read result are found e is = rw is (told_of_body bits 
 
 -- it was a capsule
 pub whole_checked : (kind : Kind) (form : CheckForm) (bits inside : List Bool) →
-    FillsCapsule kind inside × (bits ≡ capsule kind form inside) →
-    IsWhole bits × IsChecked kind form bits
+    FillsCapsule kind inside × (bits ≡ capsule kind form inside) → IsWhole bits × IsChecked kind form bits
 whole_checked kind form bits inside found = (
   subst IsWhole (sym found.1) (whole-capsule kind form inside found.0),
   subst (IsChecked kind form) (sym found.1) (checked-capsule kind form inside),
@@ -187,8 +184,7 @@ whole_checked kind form bits inside found = (
 pub bad_body_told : {M : Type 0} {Is : M → Type 0} {spelled : M → List Bool} {of_capsule : List Bool → Option M}
     (kind : Kind) (form : CheckForm) (bits inside : List Bool) (read : Option M) (result : Result M MessageFault) →
     FillsCapsule kind inside × (bits ≡ capsule kind form inside) → result ≡ ok_or read BadBody →
-    Tells Is spelled of_capsule bits result →
-    (result ≡ Err BadBody)
+    Tells Is spelled of_capsule bits result → (result ≡ Err BadBody)
     ↔ (IsWhole bits × IsChecked kind form bits × ((m : M) → Is m → ¬ (bits ≡ spelled m)))
 bad_body_told kind form bits inside None result found fault tells =
     let whole = whole_checked kind form bits inside found in

@@ -21,8 +21,7 @@ degree_positive M30 = omega arith
 
 pub length-sent_check : (kind : Kind) (form : CheckForm) (bits : List Bool) →
     length (sent_check kind form bits) ≡ (generator_of kind).degree
-length-sent_check kind Plain bits =
-    length-check_bits (generator_of kind) bits (degree_positive kind)
+length-sent_check kind Plain bits = length-check_bits (generator_of kind) bits (degree_positive kind)
 length-sent_check kind Complemented bits =
     length-inverted (check_bits (generator_of kind) bits) ∙
     length-check_bits (generator_of kind) bits (degree_positive kind)

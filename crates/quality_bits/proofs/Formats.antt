@@ -8,8 +8,7 @@ use Rattle.quality_bits.proofs.Ends.{length-quality_indicator}
 -- code symbols that are repeated so often, over the repeats as they were read
 pub symbols_over_repeats : (count repeats from total : ℕ) → from ≡ repeats → 1 ≤ repeats →
     count * repeats ≡ total → total / from ≡ count
-symbols_over_repeats count repeats from total same some fills =
-    rw same (div-eq_of_eq-mul_left some (sym fills))
+symbols_over_repeats count repeats from total same some fills = rw same (div-eq_of_eq-mul_left some (sym fills))
 
 pub bits_least : {R : Type 0} (format : FrameFormat R) → 8 ≤ bits_in format
 bits_least format = omega arith

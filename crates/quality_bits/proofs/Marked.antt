@@ -5,13 +5,11 @@ use Rattle.std.proofs.Common.{slice_get}
 use Rattle.quality_bits.specs.Pieces.{Piece, piece, under_way, capsule_ending, CapsuleStandsFor}
 use Rattle.quality_bits.proofs.Streams.{under_way-more, ending-more}
 
-marked_starts : (bits : List Bool) (mark : Bool) → slice_get bits 0 ≡ Some mark →
-    (piece bits).starts ≡ mark
+marked_starts : (bits : List Bool) (mark : Bool) → slice_get bits 0 ≡ Some mark → (piece bits).starts ≡ mark
 marked_starts [] mark read = absurd (cc)
 marked_starts (b ∷ bits) mark read = cc
 
-marked_body : (bits : List Bool) (mark : Bool) → slice_get bits 0 ≡ Some mark →
-    (piece bits).body ≡ drop 1 bits
+marked_body : (bits : List Bool) (mark : Bool) → slice_get bits 0 ≡ Some mark → (piece bits).body ≡ drop 1 bits
 marked_body [] mark read = absurd (cc)
 marked_body (b ∷ bits) mark read = refl
 
@@ -20,8 +18,7 @@ pieces_more : (pieces : List (List Bool)) (bits : List Bool) →
 pieces_more [] bits = refl
 pieces_more (p ∷ pieces) bits = ap (λ (ps : List Piece). piece p ∷ ps) (pieces_more pieces bits)
 
-pub marked_goes_on : (pieces : List (List Bool)) (bits : List Bool) (mark : Bool)
-    (old capsule : Option (List Bool)) →
+pub marked_goes_on : (pieces : List (List Bool)) (bits : List Bool) (mark : Bool) (old capsule : Option (List Bool)) →
     slice_get bits 0 ≡ Some mark → CapsuleStandsFor old pieces → capsule ≡ cond mark (Some []) old →
     continued capsule (drop 1 bits) ≡ under_way (map piece (pieces ++ bits ∷ []))
 marked_goes_on pieces bits mark old capsule read stood is =
@@ -33,8 +30,7 @@ marked_goes_on pieces bits mark old capsule read stood is =
     (marked_starts bits mark read)
     ∙ ap (continued (cond mark (Some []) (under_way before))) (marked_body bits mark read))
 
-pub marked_gives : (pieces : List (List Bool)) (bits : List Bool) (mark : Bool)
-    (old capsule : Option (List Bool)) →
+pub marked_gives : (pieces : List (List Bool)) (bits : List Bool) (mark : Bool) (old capsule : Option (List Bool)) →
     slice_get bits 0 ≡ Some mark → CapsuleStandsFor old pieces → capsule ≡ cond mark (Some []) old →
     completed capsule (drop 1 bits) ≡ capsule_ending (map piece (pieces ++ bits ∷ []))
 marked_gives pieces bits mark old capsule read stood is =

@@ -10,8 +10,7 @@ pub stated_bounds : (bits : List Bool) → is_stated bits ≡ true →
     (8 ≤ length bits) × (40 ≤ stated_bits bits) × (stated_bits bits ≤ 1184)
 unfolding is_stated
 stated_bounds bits h =
-    let a = and_parts (nat_le 8 (length bits) && nat_le 40 (stated_bits bits))
-    (nat_le (stated_bits bits) 1184) h in
+    let a = and_parts (nat_le 8 (length bits) && nat_le 40 (stated_bits bits)) (nat_le (stated_bits bits) 1184) h in
     let b = and_parts (nat_le 8 (length bits)) (nat_le 40 (stated_bits bits)) a.0 in (
       leb-true 8 (length bits) b.0,
       leb-true 40 (stated_bits bits) b.1,
@@ -48,13 +47,11 @@ pub awaits_few : (bits : List Bool) → length bits < 8 → awaits_more bits ≡
 unfolding awaits_more
 awaits_few bits h = let e = lt-leb 8 (length bits) h in rw e refl
 
-pub awaits_unlawful : (bits : List Bool) → 8 ≤ length bits → is_stated bits ≡ false →
-    awaits_more bits ≡ false
+pub awaits_unlawful : (bits : List Bool) → 8 ≤ length bits → is_stated bits ≡ false → awaits_more bits ≡ false
 unfolding awaits_more
 awaits_unlawful bits h f = let e = le-leb 8 (length bits) h in rw (f, e) refl
 
-pub awaits_over : (bits : List Bool) → 8 ≤ length bits → stated_bits bits ≤ length bits →
-    awaits_more bits ≡ false
+pub awaits_over : (bits : List Bool) → 8 ≤ length bits → stated_bits bits ≤ length bits → awaits_more bits ≡ false
 unfolding awaits_more
 awaits_over bits h l = let e = le-leb 8 (length bits) h in
     let f = and_right (is_stated bits) (nat_lt (length bits) (stated_bits bits))
@@ -66,8 +63,7 @@ unfolding awaits_more
 awaits_stated bits t = let b = stated_bounds bits t in let e = le-leb 8 (length bits) b.0 in
     rw (t, e) refl
 
-pub awaits_unstated : (bits : List Bool) → is_stated bits ≡ false →
-    awaits_more bits ≡ nat_lt (length bits) 8
+pub awaits_unstated : (bits : List Bool) → is_stated bits ≡ false → awaits_more bits ≡ nat_lt (length bits) 8
 awaits_unstated bits f =
     elim (cases_lt (length bits) 8) [
       | inl few ↦ awaits_few bits few ∙ sym (lt-ltb (length bits) 8 few)
@@ -108,12 +104,10 @@ awaits_short bits h =
     ]
 
 -- MORE BITS
-pub stated-more : (bits more : List Bool) → 8 ≤ length bits →
-    stated_bits (bits ++ more) ≡ stated_bits bits
+pub stated-more : (bits more : List Bool) → 8 ≤ length bits → stated_bits (bits ++ more) ≡ stated_bits bits
 stated-more bits more h = let e = take-append-le 8 bits more h in rw e refl
 
-pub is_stated-more : (bits more : List Bool) → 8 ≤ length bits →
-    is_stated (bits ++ more) ≡ is_stated bits
+pub is_stated-more : (bits more : List Bool) → 8 ≤ length bits → is_stated (bits ++ more) ≡ is_stated bits
 unfolding is_stated
 is_stated-more bits more h =
     let e = stated-more bits more h in
@@ -122,22 +116,19 @@ is_stated-more bits more h =
     rw (e, a, b) refl
 
 -- nothing changes once no more bits are awaited
-pub over-awaits : (bits more : List Bool) → awaits_more bits ≡ false →
-    awaits_more (bits ++ more) ≡ false
+pub over-awaits : (bits more : List Bool) → awaits_more bits ≡ false → awaits_more (bits ++ more) ≡ false
 over-awaits bits more h =
     let w = awaits_not bits h in
     let long : 8 ≤ length (bits ++ more) = omega (arith, length-append bits more, w.0) in
     elim w.1 [
       | inl unlawful ↦ awaits_unlawful (bits ++ more) long (is_stated-more bits more w.0 ∙ unlawful)
       | inr over ↦
-          awaits_over (bits ++ more) long
-          (omega (arith, length-append bits more, stated-more bits more w.0))
+          awaits_over (bits ++ more) long (omega (arith, length-append bits more, stated-more bits more w.0))
     ]
 
 -- Once bits await no more, further bits don't change the capsule at their front: they state a
 -- length, and either it is not lawful or the whole capsule is there already.
-pub over-front : (bits more : List Bool) → awaits_more bits ≡ false →
-    front_capsule (bits ++ more) ≡ front_capsule bits
+pub over-front : (bits more : List Bool) → awaits_more bits ≡ false → front_capsule (bits ++ more) ≡ front_capsule bits
 over-front bits more h =
     let w = awaits_not bits h in
     let same = stated-more bits more w.0 in
@@ -145,8 +136,7 @@ over-front bits more h =
     elim (cases_Bool (is_stated bits)) [
       | inr f ↦ front-none (bits ++ more) (lawful ∙ f) ∙ sym (front-none bits f)
       | inl t ↦
-          let over : stated_bits bits ≤ length bits =
-          elim w.1 [ inl f ↦ absurd (cc) | inr l ↦ l ] in
+          let over : stated_bits bits ≤ length bits = elim w.1 [ inl f ↦ absurd (cc) | inr l ↦ l ] in
           front-whole (bits ++ more) (lawful ∙ t) (omega (arith, length-append bits more)) ∙
           ap Some (ap (λ n. take n (bits ++ more)) same ∙
           take-append-le (stated_bits bits) bits more over) ∙ sym (front-whole bits t over)
@@ -170,8 +160,7 @@ unfolding still_open
 still_open-over bits h = rw h refl
 
 -- MORE BITS IN TWO PARTS
-pub continued-append : (s : Option (List Bool)) (a b : List Bool) →
-    continued (continued s a) b ≡ continued s (a ++ b)
+pub continued-append : (s : Option (List Bool)) (a b : List Bool) → continued (continued s a) b ≡ continued s (a ++ b)
 continued-append None a b = refl
 continued-append (Some bits) a b =
     let grouped = append_assoc bits a b in
@@ -201,26 +190,21 @@ completed-append (Some bits) a b =
 
 pub stated_is : (read bits : List Bool) (octets : ℕ) → read ≡ bits → octets ≡ number (take 8 read) →
     8 * octets ≡ stated_bits bits
-stated_is read bits octets same is =
-    ap (λ (n : ℕ). 8 * n) (is ∙ ap (λ (r : List Bool). number (take 8 r)) same)
+stated_is read bits octets same is = ap (λ (n : ℕ). 8 * n) (is ∙ ap (λ (r : List Bool). number (take 8 r)) same)
 
 -- before any bits
-pub continued_none : (s : Option (List Bool)) → IfSome s (λ bits. awaits_more bits ≡ true) →
-    s ≡ continued s []
+pub continued_none : (s : Option (List Bool)) → IfSome s (λ bits. awaits_more bits ≡ true) → s ≡ continued s []
 continued_none None h = refl
 continued_none (Some bits) h = sym (ap still_open (append-nil bits) ∙ still_open-awaits bits h)
 
-pub completed_none : (s : Option (List Bool)) → IfSome s (λ bits. awaits_more bits ≡ true) →
-    None ≡ completed s []
+pub completed_none : (s : Option (List Bool)) → IfSome s (λ bits. awaits_more bits ≡ true) → None ≡ completed s []
 completed_none None h = refl
 completed_none (Some bits) h = sym (ap front_capsule (append-nil bits) ∙ awaits-front bits h)
 
 -- one more bit of a list, from a place on
-pub taken_more_from : (bits : List Bool) (from i : ℕ) (bit : Bool) → from ≤ i →
-    slice_get bits i ≡ Some bit →
+pub taken_more_from : (bits : List Bool) (from i : ℕ) (bit : Bool) → from ≤ i → slice_get bits i ≡ Some bit →
     take (i + 1 - from) (drop from bits) ≡ take (i - from) (drop from bits) ++ bit ∷ []
 taken_more_from bits from i bit h read =
     let there : from + (i - from) ≡ i = omega (arith, h) in
     let next : i + 1 - from ≡ i - from + 1 = omega (arith, h) in
-    rw next (taken_more (drop from bits) (i - from) bit
-    (slice_get-drop from bits (i - from) bit (rw there read)))
+    rw next (taken_more (drop from bits) (i - from) bit (slice_get-drop from bits (i - from) bit (rw there read)))

@@ -7,8 +7,7 @@ use Rattle.chip_core.specs.Polynomial.{plus_at_front, divided, remainder}
 -- one bit into the register
 abbrev pub pushed : List Bool → List Bool → Bool → List Bool
 pushed below [] bit = []
-pushed below (lead ∷ rest) bit =
-    cond (xor bit lead) (add (rest ++ false ∷ []) below) (rest ++ false ∷ [])
+pushed below (lead ∷ rest) bit = cond (xor bit lead) (add (rest ++ false ∷ []) below) (rest ++ false ∷ [])
 
 abbrev pub pushed_all : List Bool → List Bool → List Bool → List Bool
 pushed_all below register [] = register
@@ -19,12 +18,10 @@ following : (xs rest : List Bool) → length rest < length xs →
     plus_at_front xs (rest ++ false ∷ []) ≡ plus_at_front xs rest
 following [] rest h = absurd (omega (arith, h))
 following (x ∷ xs) [] h = ap (λ b. b ∷ xs) (xor_false x)
-following (x ∷ xs) (r ∷ rest) h =
-    ap (λ (ys : List Bool). xor x r ∷ ys) (following xs rest (omega (arith, h)))
+following (x ∷ xs) (r ∷ rest) h = ap (λ (ys : List Bool). xor x r ∷ ys) (following xs rest (omega (arith, h)))
 
 -- two sums at the front are one
-twice : (xs a b : List Bool) → length a ≡ length b →
-    plus_at_front (plus_at_front xs a) b ≡ plus_at_front xs (add a b)
+twice : (xs a b : List Bool) → length a ≡ length b → plus_at_front (plus_at_front xs a) b ≡ plus_at_front xs (add a b)
 twice [] [] [] h = refl
 twice [] (a ∷ as') (b ∷ bs) h = refl
 twice xs [] (b ∷ bs) h = absurd (omega (arith, h))
@@ -40,15 +37,13 @@ length_picked : (below back : List Bool) (b : Bool) → length back ≡ length b
 length_picked below back true h = length_add back below h ∙ h
 length_picked below back false h = h
 
-zeros_part : (register : List Bool) → plus_at_front (replicate (length register) false) register ≡
-    register
+zeros_part : (register : List Bool) → plus_at_front (replicate (length register) false) register ≡ register
 zeros_part [] = refl
 zeros_part (r ∷ register) = ap (λ (ys : List Bool). r ∷ ys) (zeros_part register)
 
 -- one coefficient is divided away
 one_lead : (below xs rest : List Bool) (x : Bool) → length (rest ++ false ∷ []) ≡ length below →
-    length rest < length xs →
-    cond x (plus_at_front (plus_at_front xs rest) below) (plus_at_front xs rest) ≡
+    length rest < length xs → cond x (plus_at_front (plus_at_front xs rest) below) (plus_at_front xs rest) ≡
     plus_at_front xs (cond x (add (rest ++ false ∷ []) below) (rest ++ false ∷ []))
 one_lead below xs rest true long room =
     ap (λ (ys : List Bool). plus_at_front ys below) (sym (following xs rest room)) ∙
@@ -56,8 +51,7 @@ one_lead below xs rest true long room =
 one_lead below xs rest false long room = sym (following xs rest room)
 
 -- long division of the bits and zeros after them, with the register added at the front
-pub divided_pushed : (below bits register : List Bool) → 0 < length below →
-    length register ≡ length below →
+pub divided_pushed : (below bits register : List Bool) → 0 < length below → length register ≡ length below →
     divided (length bits) below (plus_at_front (bits ++ replicate (length below) false) register) ≡
     pushed_all below register bits
 divided_pushed below [] register some h = rw (← h) (zeros_part register)
@@ -69,8 +63,7 @@ divided_pushed below (bit ∷ bits) (lead ∷ rest) some h =
     omega (arith, h) in
     let room : length rest < length (bits ++ zeros) =
     omega (arith, h, length-append bits zeros, length-replicate (length below) false) in
-    ap (divided (length bits) below)
-    (one_lead below (bits ++ zeros) rest (xor bit lead) back_long room)
+    ap (divided (length bits) below) (one_lead below (bits ++ zeros) rest (xor bit lead) back_long room)
     ∙ divided_pushed below bits (cond (xor bit lead) (add back below) back) some
     (length_picked below back (xor bit lead) back_long)
 
@@ -81,10 +74,8 @@ length_front (x ∷ xs) [] = refl
 length_front (x ∷ xs) (y ∷ ys) = ap suc (length_front xs ys)
 
 -- the check is what the register holds after all bits
-pub remainder_pushed : (below bits register : List Bool) → 0 < length below →
-    length register ≡ length below →
-    remainder below (plus_at_front (bits ++ replicate (length below) false) register) ≡
-    pushed_all below register bits
+pub remainder_pushed : (below bits register : List Bool) → 0 < length below → length register ≡ length below →
+    remainder below (plus_at_front (bits ++ replicate (length below) false) register) ≡ pushed_all below register bits
 remainder_pushed below bits register some h =
     let xs = bits ++ replicate (length below) false in
     let count : length (plus_at_front xs register) - length below ≡ length bits =
@@ -107,12 +98,10 @@ pub length_pushed_all : (below register bits : List Bool) → length register �
     0 < length below → length (pushed_all below register bits) ≡ length below
 length_pushed_all below register [] h some = h
 length_pushed_all below register (bit ∷ bits) h some =
-    length_pushed_all below (pushed below register bit) bits
-    (length_pushed below register bit h some) some
+    length_pushed_all below (pushed below register bit) bits (length_pushed below register bit h some) some
 
 -- one bit more at the end
 pub pushed_all-push : (below register bits : List Bool) (bit : Bool) →
     pushed_all below register (bits ++ bit ∷ []) ≡ pushed below (pushed_all below register bits) bit
 pushed_all-push below register [] bit = refl
-pushed_all-push below register (b ∷ bits) bit =
-    pushed_all-push below (pushed below register b) bits bit
+pushed_all-push below register (b ∷ bits) bit = pushed_all-push below (pushed below register b) bits bit

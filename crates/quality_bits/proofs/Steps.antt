@@ -14,8 +14,7 @@ use Rattle.quality_bits.proofs.Digits.{binary-rest, binary-number, number-ones}
 -- one bit into the register's number
 abbrev pub next : ℕ → ℕ → ℕ → Bool → ℕ
 next degree below value bit =
-    cond (xor bit (bit_of value (degree - 1))) (bit_xor (2 * value % 2 ^ degree) below)
-    (2 * value % 2 ^ degree)
+    cond (xor bit (bit_of value (degree - 1))) (bit_xor (2 * value % 2 ^ degree) below) (2 * value % 2 ^ degree)
 
 pushed_cases : (w v below : ℕ) (lead : Bool) →
     cond lead (add (binary w v ++ false ∷ []) (binary (suc w) below)) (binary w v ++ false ∷ [])
@@ -28,8 +27,7 @@ pushed_cases w v below false = sym (binary-rest (suc w) (2 * v) ∙ binary-doubl
 
 -- the coefficients of the number that the register holds next
 pub binary-next : (degree below value : ℕ) (bit : Bool) → 0 < degree →
-    pushed (binary degree below) (binary degree value) bit ≡
-    binary degree (next degree below value bit)
+    pushed (binary degree below) (binary degree value) bit ≡ binary degree (next degree below value bit)
 binary-next zero below value bit some = absurd (omega (arith, some))
 binary-next (suc w) below value bit some =
     let place : suc w - 1 ≡ w = omega arith in
@@ -40,12 +38,10 @@ next_cases_lt : (degree below shifted : ℕ) (lead : Bool) → below < 2 ^ degre
 next_cases_lt degree below shifted true h k = xor_lt degree shifted below k h
 next_cases_lt degree below shifted false h k = k
 
-pub next_lt : (degree below value : ℕ) (bit : Bool) → below < 2 ^ degree →
-    next degree below value bit < 2 ^ degree
+pub next_lt : (degree below value : ℕ) (bit : Bool) → below < 2 ^ degree → next degree below value bit < 2 ^ degree
 next_lt degree below value bit h =
     let some : 0 < 2 ^ degree = pow_pos degree in
-    next_cases_lt degree below (2 * value % 2 ^ degree) (xor bit (bit_of value (degree - 1))) h
-    (omega (arith, some))
+    next_cases_lt degree below (2 * value % 2 ^ degree) (xor bit (bit_of value (degree - 1))) h (omega (arith, some))
 
 pub length-below_of : (g : Generator) → length (below_of g) ≡ g.degree
 length-below_of g = length-map-places _ g.degree
@@ -61,8 +57,7 @@ check_bits_pushed g bits some =
     ∙ remainder_pushed (below_of g) bits (replicate g.degree true) (omega (arith, some, long))
     (length-replicate g.degree true ∙ sym long)
 
-pub length-check_bits : (g : Generator) (bits : List Bool) → 0 < g.degree →
-    length (check_bits g bits) ≡ g.degree
+pub length-check_bits : (g : Generator) (bits : List Bool) → 0 < g.degree → length (check_bits g bits) ≡ g.degree
 length-check_bits g bits some =
     ap length (check_bits_pushed g bits some) ∙
     length_pushed_all (below_of g) (replicate g.degree true) bits
@@ -104,8 +99,7 @@ next_then degree below value x bit most fits test is =
 
 pub next_else : (degree below value x : ℕ) (bit : Bool) → degree ≤ 30 → value < 2 ^ degree →
     not (beq (code_lead degree value) bit) ≡ false →
-    x ≡ bit_and (value * 2 % 4294967296) (1 * 2 ^ degree % 4294967296 - 1) →
-    x ≡ next degree below value bit
+    x ≡ bit_and (value * 2 % 4294967296) (1 * 2 ^ degree % 4294967296 - 1) → x ≡ next degree below value bit
 next_else degree below value x bit most fits test is =
     is ∙ shifted_is degree value most fits
     ∙ ap (λ (b : Bool). cond b (bit_xor (2 * value % 2 ^ degree) below) (2 * value % 2 ^ degree))
@@ -113,8 +107,7 @@ next_else degree below value x bit most fits test is =
 
 -- the digits of the number that a list of k bits spells
 digits_of : (k n : ℕ) (bs : List Bool) → n ≡ number bs → length bs ≡ k → binary k n ≡ bs
-digits_of k n bs is long =
-    ap (binary k) is ∙ ap (λ (w : ℕ). binary w (number bs)) (sym long) ∙ binary-number bs
+digits_of k n bs is long = ap (binary k) is ∙ ap (λ (w : ℕ). binary w (number bs)) (sym long) ∙ binary-number bs
 
 -- the check of one bit more
 pub check_more : (g : Generator) (value : ℕ) (bits : List Bool) (bit : Bool) → 0 < g.degree →
@@ -135,8 +128,7 @@ check_more g value bits bit some is =
     ∙ sym (pushed_all-push below ones bits bit)
     ∙ sym (check_bits_pushed g (bits ++ bit ∷ []) some) in
     let small : number below < 2 ^ k = rw long at (number_lt below) in
-    sym (number-binary k (next k (number below) value bit)
-    (next_lt k (number below) value bit small)) ∙ ap number moved
+    sym (number-binary k (next k (number below) value bit) (next_lt k (number below) value bit small)) ∙ ap number moved
 
 -- the check of no bits is all ones
 pub check_none : (g : Generator) → 0 < g.degree → number (check_bits g []) + 1 ≡ 2 ^ g.degree

@@ -23,8 +23,7 @@ extended [] p = []
 extended (q ∷ message) p = (q ∷ message) ++ p ∷ []
 
 extended_from : (b : Bool) (q p : Piece) (pieces later : List Piece) →
-    cond (nat_lt 0 (length (extended later p))) (extended later p)
-    (cond b (q ∷ (pieces ++ p ∷ [])) [])
+    cond (nat_lt 0 (length (extended later p))) (extended later p) (cond b (q ∷ (pieces ++ p ∷ [])) [])
     ≡ extended (cond (nat_lt 0 (length later)) later (cond b (q ∷ pieces) [])) p
 extended_from true q p pieces [] = refl
 extended_from false q p pieces [] = refl
@@ -37,17 +36,14 @@ pub from_last_start_more : (pieces : List Piece) (p : Piece) → p.starts ≡ fa
     from_last_start (pieces ++ p ∷ []) ≡ extended (from_last_start pieces) p
 from_last_start_more [] p h = rw h refl
 from_last_start_more (q ∷ pieces) p h =
-    rw (from_last_start_more pieces p h)
-    (extended_from q.starts q p pieces (from_last_start pieces))
+    rw (from_last_start_more pieces p h) (extended_from q.starts q p pieces (from_last_start pieces))
 
-pub bodies-more : (message : List Piece) (p : Piece) →
-    bodies (message ++ p ∷ []) ≡ bodies message ++ p.body
+pub bodies-more : (message : List Piece) (p : Piece) → bodies (message ++ p ∷ []) ≡ bodies message ++ p.body
 bodies-more message p = rw (flat_map-append, append-nil) refl
 
 but_last-more : (message : List Piece) (p : Piece) → but_last (message ++ p ∷ []) ≡ message
 but_last-more message p =
-    let e : length (message ++ p ∷ []) - 1 ≡ length message =
-    omega (arith, length-append message (p ∷ [])) in
+    let e : length (message ++ p ∷ []) - 1 ≡ length message = omega (arith, length-append message (p ∷ [])) in
     rw e (take_at message (p ∷ []) (length message) refl)
 
 -- the choice that the definition makes
@@ -74,8 +70,7 @@ chosen_awaiting before more h =
           rw e (sym (front-none (before ++ more) f))
     ]
 
-chosen_over : (before more : List Bool) → awaits_more before ≡ false →
-    chosen before (before ++ more) ≡ None
+chosen_over : (before more : List Bool) → awaits_more before ≡ false → chosen before (before ++ more) ≡ None
 chosen_over before more h =
     let w = awaits_not before h in
     let same = stated-more before more w.0 in
@@ -122,8 +117,7 @@ ending-start pieces p h =
 -- open after it; otherwise the piece belongs to that message, which stays open while its bits await
 -- more, and no further bits open it again.
 under_way-on : (pieces : List Piece) (p : Piece) (message : List Piece) → p.starts ≡ false →
-    from_last_start pieces ≡ message →
-    under_way (pieces ++ p ∷ []) ≡ continued (under_way pieces) p.body
+    from_last_start pieces ≡ message → under_way (pieces ++ p ∷ []) ≡ continued (under_way pieces) p.body
 unfolding under_way
 under_way-on pieces p [] h e =
     let all : from_last_start (pieces ++ p ∷ []) ≡ [] = from_last_start_more pieces p h ∙
@@ -140,8 +134,7 @@ under_way-on pieces p (q ∷ message) h e =
     elim (cases_Bool (awaits_more (bodies (q ∷ message)))) [
       | inl t ↦ let o = still_open-awaits (bodies (q ∷ message)) t in rw o refl
       | inr f ↦ let o = still_open-over (bodies (q ∷ message)) f in
-          rw o (still_open-over (bodies (q ∷ message) ++ p.body)
-          (over-awaits (bodies (q ∷ message)) p.body f))
+          rw o (still_open-over (bodies (q ∷ message) ++ p.body) (over-awaits (bodies (q ∷ message)) p.body f))
     ] in
     rw (all, e, some, was, b) now
 
@@ -149,8 +142,7 @@ under_way-on pieces p (q ∷ message) h e =
 -- none; otherwise the piece belongs to that message, and a capsule ends in it if the bits before
 -- awaited more and those with it have a whole one.
 ending-on : (pieces : List Piece) (p : Piece) (message : List Piece) → p.starts ≡ false →
-    from_last_start pieces ≡ message →
-    capsule_ending (pieces ++ p ∷ []) ≡ completed (under_way pieces) p.body
+    from_last_start pieces ≡ message → capsule_ending (pieces ++ p ∷ []) ≡ completed (under_way pieces) p.body
 unfolding under_way capsule_ending
 ending-on pieces p [] h e =
     let all : from_last_start (pieces ++ p ∷ []) ≡ [] = from_last_start_more pieces p h ∙

@@ -13,8 +13,7 @@ parts_fill R2400 = refl
 parts_fill R1200 = refl
 
 -- a frame's bits, as often as its rate repeats them, are as many as at the highest rate
-pub codeword_fills : (rate : Rate) (information : List Bool) →
-    length information ≡ information_of rate →
+pub codeword_fills : (rate : Rate) (information : List Bool) → length information ≡ information_of rate →
     length (traffic_codeword rate information) * repeats_of rate ≡ 192
 codeword_fills rate information long =
     ap (λ (n : ℕ). n * repeats_of rate) (length-format_codeword (format_of rate) information long)

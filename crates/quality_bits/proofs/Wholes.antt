@@ -16,14 +16,9 @@ degree_most Q12 = omega arith
 degree_most M16 = omega arith
 degree_most M30 = omega arith
 
-pub length-front : (kind : Kind) (body : List Bool) →
-    length (capsule_front kind body) ≡ 8 + length body
+pub length-front : (kind : Kind) (body : List Bool) → length (capsule_front kind body) ≡ 8 + length body
 length-front kind body =
-    omega (
-      arith,
-      length-append (binary 8 (octets kind body)) body,
-      length-binary 8 (octets kind body),
-    )
+    omega (arith, length-append (binary 8 (octets kind body)) body, length-binary 8 (octets kind body))
 
 pub length-capsule : (kind : Kind) (form : CheckForm) (body : List Bool) →
     length (capsule kind form body) ≡ 8 + length body + (generator_of kind).degree
@@ -64,8 +59,7 @@ whole-capsule kind form body fills =
       all = omega (arith, long, stated, fills.whole);
     }
 
-pub checked-capsule : (kind : Kind) (form : CheckForm) (body : List Bool) →
-    IsChecked kind form (capsule kind form body)
+pub checked-capsule : (kind : Kind) (form : CheckForm) (body : List Bool) → IsChecked kind form (capsule kind form body)
 unfolding capsule
 checked-capsule kind form body = checked-sent kind form (capsule_front kind body)
 
@@ -75,20 +69,14 @@ inner kind bits = take (length bits - 8 - (generator_of kind).degree) (drop 8 bi
 
 -- A capsule's inner bits are its body: the front is the number of octets in 8 bits and the body,
 -- the check comes after it, and what the length leaves without both is as long as the body.
-pub inner-capsule : (kind : Kind) (form : CheckForm) (body : List Bool) →
-    inner kind (capsule kind form body) ≡ body
+pub inner-capsule : (kind : Kind) (form : CheckForm) (body : List Bool) → inner kind (capsule kind form body) ≡ body
 unfolding capsule
 inner-capsule kind form body =
     let front = capsule_front kind body in
     let count = binary 8 (octets kind body) in
     let check = sent_check kind form front in
     let long : length (front ++ check) - 8 - (generator_of kind).degree ≡ length body =
-    omega (
-      arith,
-      length-append front check,
-      length-front kind body,
-      length-sent_check kind form front,
-    ) in
+    omega (arith, length-append front check, length-front kind body, length-sent_check kind form front) in
     let following : drop 8 (front ++ check) ≡ body ++ check =
     ap (drop 8) (append_assoc count body check) ∙
     drop_at count (body ++ check) 8 (length-binary 8 (octets kind body)) in
@@ -99,8 +87,7 @@ eighth : (m n : ℕ) → m ≡ 8 * n → m / 8 ≡ n
 eighth m n h = omega (arith, h)
 
 -- a list that is as long as it says and ends with its check is the capsule of its body
-pub found_capsule : (kind : Kind) (form : CheckForm) (bits : List Bool) → IsWhole bits →
-    IsChecked kind form bits →
+pub found_capsule : (kind : Kind) (form : CheckForm) (bits : List Bool) → IsWhole bits → IsChecked kind form bits →
     FillsCapsule kind (inner kind bits) × (bits ≡ capsule kind form (inner kind bits))
 unfolding capsule
 found_capsule kind form bits whole checked =
@@ -109,16 +96,13 @@ found_capsule kind form bits whole checked =
     let body = inner kind bits in
     let n = number (take 8 bits) in
     let room : length bits - 8 - d ≤ length (drop 8 bits) = omega (arith, length-drop 8 bits) in
-    let long : length body ≡ length bits - 8 - d =
-    length-take-le (length bits - 8 - d) (drop 8 bits) room in
-    let all : 8 + length body + d ≡ length bits =
-    omega (arith, long, most, whole.least, whole.all) in
+    let long : length body ≡ length bits - 8 - d = length-take-le (length bits - 8 - d) (drop 8 bits) room in
+    let all : 8 + length body + d ≡ length bits = omega (arith, long, most, whole.least, whole.all) in
     let count : octets kind body ≡ n = eighth (8 + length body + d) n (all ∙ whole.all) in
     let eight : binary 8 (octets kind body) ≡ take 8 bits =
     ap (binary 8) count ∙ ap (λ (w : ℕ). binary w n) (sym (length-take-le 8 bits whole.told)) ∙
     binary-number (take 8 bits) in
-    let parts : 8 + (length bits - 8 - d) ≡ body_length kind bits =
-    omega (arith, most, whole.least, whole.all) in
+    let parts : 8 + (length bits - 8 - d) ≡ body_length kind bits = omega (arith, most, whole.least, whole.all) in
     let front : capsule_front kind body ≡ take (body_length kind bits) bits =
     ap (λ (r : List Bool). r ++ body) eight ∙ sym (take-add 8 (length bits - 8 - d) bits) ∙
     ap (λ (m : ℕ). take m bits) parts in

@@ -27,8 +27,7 @@ soft_bound-most Data = omega arith
 -- One soft value more is added to its entry: that entry held what was there before and now holds
 -- the finger's value on top, the entries before it are done already, and those after it are as they
 -- were.
-pub IsAdded-more : (ring : Held) (finger : Finger) (form : Form) (start done : ℕ) (old new : List ℤ)
-    (value entry : ℤ) →
+pub IsAdded-more : (ring : Held) (finger : Finger) (form : Form) (start done : ℕ) (old new : List ℤ) (value entry : ℤ) →
     IsAdded ring finger form start done old new → done < length new →
     ((samples : List Sample) → HoldsLast ring samples →
     value ≡ soft samples finger form start done) →
@@ -57,13 +56,10 @@ IsAdded-more ring finger form start done old new value entry h room is small add
     }
 
 -- every entry has grown by one value at most
-pub IsAdded-within : (ring : Held) (finger : Finger) (form : Form) (start done bound : ℕ)
-    (old new : List ℤ) →
-    IsAdded ring finger form start done old new → AreWithin bound old →
-    AreWithin (bound + soft_bound form) new
+pub IsAdded-within : (ring : Held) (finger : Finger) (form : Form) (start done bound : ℕ) (old new : List ℤ) →
+    IsAdded ring finger form start done old new → AreWithin bound old → AreWithin (bound + soft_bound form) new
 IsAdded-within ring finger form start done bound old new h small = record {
-  within = λ j. ⊎_elim
-      (λ lt. let b = h.bound j lt in let s = small.within j in omega (arith, b, s))
+  within = λ j. ⊎_elim (λ lt. let b = h.bound j lt in let s = small.within j in omega (arith, b, s))
       (λ le. let e = ap (λ (z : ℤ). unsigned_abs z) (h.others j le) in
       let s = small.within j in omega (arith, e, s))
       (cases_lt j done);
@@ -74,8 +70,7 @@ total-push : (xs : List ℤ) (x : ℤ) → total (xs ++ x ∷ []) ≡ total xs +
 total-push [] x = omega (arith, ints)
 total-push (y ∷ xs) x = rw (total-push xs x) (omega (arith, ints))
 
-pub total_more : (f : Finger → ℤ) (xs : List Finger) (i : ℕ) (x : Finger) →
-    slice_get xs i ≡ Some x →
+pub total_more : (f : Finger → ℤ) (xs : List Finger) (i : ℕ) (x : Finger) → slice_get xs i ≡ Some x →
     total (map f (take (i + 1) xs)) ≡ total (map f (take i xs)) +ℤ f x
 total_more f xs i x got =
     let within : i < length xs = slice_get_within xs i x got in
@@ -92,30 +87,24 @@ pub record IsSummed (ring : Held) (fingers : List Finger) (form : Form) (start c
   pub within : AreWithin (count * soft_bound form) out
 
 pub IsSummed-more : (ring : Held) (fingers : List Finger) (form : Form) (start i : ℕ)
-    (finger : Finger) (old new : List ℤ) →
-    IsSummed ring fingers form start i old → slice_get fingers i ≡ Some finger →
-    IsAdded ring finger form start (symbols form) old new →
-    IsSummed ring fingers form start (i + 1) new
+    (finger : Finger) (old new : List ℤ) → IsSummed ring fingers form start i old → slice_get fingers i ≡ Some finger →
+    IsAdded ring finger form start (symbols form) old new → IsSummed ring fingers form start (i + 1) new
 IsSummed-more ring fingers form start i finger old new h got added = record {
   values = λ samples held j lt.
       added.values samples held j lt
       ∙ ap (λ (z : ℤ). z +ℤ soft samples finger form start j) (h.values samples held j lt)
       ∙ sym (total_more (λ f. soft samples f form start j) fingers i finger got);
-  within = let size : (i + 1) * soft_bound form ≡ i * soft_bound form + soft_bound form =
-      omega arith in
+  within = let size : (i + 1) * soft_bound form ≡ i * soft_bound form + soft_bound form = omega arith in
       rw size (IsAdded-within ring finger form start (symbols form) (i * soft_bound form) old new
       added h.within);
 }
 
 pub softs_are : (ring : Held) (fingers : List Finger) (form : Form) (start count : ℕ) (out : List ℤ)
-    (samples : List Sample) →
-    IsSummed ring fingers form start count out → length out ≡ symbols form →
-    HoldsLast ring samples → take count fingers ≡ fingers →
-    out ≡ softs samples fingers form start
+    (samples : List Sample) → IsSummed ring fingers form start count out → length out ≡ symbols form →
+    HoldsLast ring samples → take count fingers ≡ fingers → out ≡ softs samples fingers form start
 unfolding softs
 softs_are ring fingers form start count out samples h long held all =
-    map-places-all (λ j. total (map (λ f. soft samples f form start j) fingers)) out (symbols form)
-    (pos 0) long
+    map-places-all (λ j. total (map (λ f. soft samples f form start j) fingers)) out (symbols form) (pos 0) long
     (λ j lt. h.values samples held j lt ∙
     ap (λ (fs : List Finger). total (map (λ f. soft samples f form start j) fs)) all)
 
@@ -128,6 +117,5 @@ sum_within form count fingers out long all h =
     symbols form * (fingers * soft_bound form) = omega arith in
     let most =
     sum_by-le unsigned_abs (count * soft_bound form) out
-    (All-from_get_or (λ z. unsigned_abs z ≤ count * soft_bound form) out (pos 0)
-    (λ j lt. h.within j)) in
+    (All-from_get_or (λ z. unsigned_abs z ≤ count * soft_bound form) out (pos 0) (λ j lt. h.within j)) in
     rw (size, ← all, ← long) most

@@ -19,8 +19,7 @@ abbrev pub end_at : ℕ → ℕ → ℤ → ℕ
 end_at m u d = unsigned_abs ((pos u -ℤ d) +ℤ pos m)
 
 pub near_parts : (f : Finger) (fingers : List Finger) → all_near (f ∷ fingers) ≡ true →
-    (int_le (negsuc 127) f.delta ≡ true) × (int_le f.delta (pos 127) ≡ true)
-    × (all_near fingers ≡ true)
+    (int_le (negsuc 127) f.delta ≡ true) × (int_le f.delta (pos 127) ≡ true) × (all_near fingers ≡ true)
 near_parts f fingers h =
     let a = and_parts (is_near f.delta) (all_near fingers) h in
     let b = and_parts (int_le (negsuc 127) f.delta) (int_le f.delta (pos 127)) a.0 in
@@ -32,12 +31,10 @@ end_low u m d h = grind (arith, ints, nat_tests)
 end_high : (u m : ℕ) (d : ℤ) → nat_le (unsigned_abs d) 226 ≡ true → end_at m u d ≤ u + m + 226
 end_high u m d h = grind (arith, ints, nat_tests)
 
-end_on : (u m n : ℕ) (d : ℤ) → nat_le (unsigned_abs d) 226 ≡ true → 226 ≤ m →
-    end_at m (u + n) d ≡ end_at m u d + n
+end_on : (u m n : ℕ) (d : ℤ) → nat_le (unsigned_abs d) 226 ≡ true → 226 ≤ m → end_at m (u + n) d ≡ end_at m u d + n
 end_on u m n d h few = grind (arith, ints, nat_tests)
 
-begun_close : (u : ℕ) (d : ℤ) → nat_le (unsigned_abs d) 226 ≡ true → 226 ≤ u →
-    int_le d (pos u) ≡ true
+begun_close : (u : ℕ) (d : ℤ) → nat_le (unsigned_abs d) 226 ≡ true → 226 ≤ u → int_le d (pos u) ≡ true
 begun_close u d h l = grind (arith, ints, nat_tests)
 
 begun_is : (u : ℕ) (d : ℤ) → int_le d (pos u) ≡ true → d ≤ℤ pos u
@@ -47,8 +44,7 @@ place_low : (u : ℕ) (d : ℤ) → nat_le (unsigned_abs d) 226 ≡ true → int
     u ≤ unsigned_abs (pos u -ℤ d) + 226
 place_low u d h b = grind (arith, ints, nat_tests)
 
-place_end : (m u : ℕ) (d : ℤ) → int_le d (pos u) ≡ true →
-    unsigned_abs (pos u -ℤ d) + m ≡ end_at m u d
+place_end : (m u : ℕ) (d : ℤ) → int_le d (pos u) ≡ true → unsigned_abs (pos u -ℤ d) + m ≡ end_at m u d
 place_end m u d h = grind (arith, ints)
 
 -- ALL FINGERS
@@ -69,13 +65,11 @@ ends_low form u (f ∷ fingers) h =
     omega (arith, one)
 
 -- the frame that begins at a reference sample ends a frame later, within half the widest window
-pub close_ends : (u : ℕ) (fingers : List Finger) → AreClose fingers →
-    (u + 24576 ≤ frame_end fingers Data u + 226)
+pub close_ends : (u : ℕ) (fingers : List Finger) → AreClose fingers → (u + 24576 ≤ frame_end fingers Data u + 226)
     × (frame_end fingers Data u ≤ u + 24576 + 226)
 close_ends u fingers h = (ends_low Data u fingers h, ends_high Data u fingers h.close)
 
-later_more : (form : Form) (u n : ℕ) (f : Finger) (fingers : List Finger) →
-    all_close (f ∷ fingers) ≡ true →
+later_more : (form : Form) (u n : ℕ) (f : Finger) (fingers : List Finger) → all_close (f ∷ fingers) ≡ true →
     frame_end (f ∷ fingers) form (u + n) ≡ frame_end (f ∷ fingers) form u + n
 later_more form u n f [] h =
     let is = and_parts (is_close f) (all_close []) h in
@@ -96,8 +90,7 @@ later_by form u n [] h = absurd (omega (arith, h.some))
 later_by form u n (f ∷ fingers) h = later_more form u n f fingers h.close
 
 -- it doesn't begin before the file
-pub close_begun : (u : ℕ) (fingers : List Finger) → all_close fingers ≡ true → 226 ≤ u →
-    all_begun u fingers ≡ true
+pub close_begun : (u : ℕ) (fingers : List Finger) → all_close fingers ≡ true → 226 ≤ u → all_begun u fingers ≡ true
 close_begun u [] h l = refl
 close_begun u (f ∷ fingers) h l =
     let is = and_parts (is_close f) (all_close fingers) h in
@@ -107,8 +100,7 @@ close_begun u (f ∷ fingers) h l =
 -- the ring still has each finger's samples when the last finger's frame ends
 in_ring_at : (ring : Held) (form : Form) (u : ℕ) (fingers : List Finger) → ring.room ≡ 65536 →
     all_close fingers ≡ true → all_begun u fingers ≡ true →
-    frame_end fingers form u ≤ ring.taken → ring.taken ≤ u + frame_chips form + 226 →
-    All (IsInRing ring form u) fingers
+    frame_end fingers form u ≤ ring.taken → ring.taken ≤ u + frame_chips form + 226 → All (IsInRing ring form u) fingers
 in_ring_at ring form u [] room h b e most = λ k d less. absurd (omega (arith, less))
 in_ring_at ring form u (f ∷ fingers) room h b e most =
     let is = and_parts (is_close f) (all_close fingers) h in
@@ -118,15 +110,11 @@ in_ring_at ring form u (f ∷ fingers) room h b e most =
     let low = place_low u f.delta is.0 begun.0 in
     let one : IsInRing ring form u f = record {
       begun = begun_is u f.delta begun.0;
-      held = record {
-        kept = omega (arith, low, most, room, chips);
-        taken = omega (arith, place, e);
-      };
+      held = record { kept = omega (arith, low, most, room, chips); taken = omega (arith, place, e) };
     } in
     each one (in_ring_at ring form u fingers room is.1 begun.1 (omega (arith, e)) most)
   where
-    each : IsInRing ring form u f → All (IsInRing ring form u) fingers →
-        All (IsInRing ring form u) (f ∷ fingers)
+    each : IsInRing ring form u f → All (IsInRing ring form u) fingers → All (IsInRing ring form u) (f ∷ fingers)
     each one rest = λ k d less. at_place k d less
       where
         at_place : (k : ℕ) (d : Finger) → k < length (f ∷ fingers) →
@@ -138,8 +126,7 @@ pub begun_in_ring : (ring : Held) (form : Form) (u : ℕ) (fingers : List Finger
     all_close fingers ≡ true → AreBegun u fingers → ring.room ≡ 65536 →
     ring.taken ≡ frame_end fingers form u → All (IsInRing ring form u) fingers
 begun_in_ring ring form u fingers h begun room e =
-    in_ring_at ring form u fingers room h begun (omega (arith, e))
-    (omega (arith, e, ends_high form u fingers h))
+    in_ring_at ring form u fingers room h begun (omega (arith, e)) (omega (arith, e, ends_high form u fingers h))
 
 -- NEAR FINGERS ARE CLOSE
 pub near_one : (f : Finger) → is_near f.delta ≡ true → is_close f ≡ true

@@ -18,8 +18,7 @@ covered-append : (row : ℕ) (ps qs : List Pair) (k : ℕ) →
 covered-append row [] qs k = let place : k + 0 ≡ k = omega arith in rw place
 covered-append row (p ∷ ps) qs k =
     let place : suc k + length ps ≡ k + suc (length ps) = omega arith in
-    ap (λ (rest : List Pair). times (row_sign row k) p ∷ rest)
-    (rw (← place) (covered-append row ps qs (suc k)))
+    ap (λ (rest : List Pair). times (row_sign row k) p ∷ rest) (rw (← place) (covered-append row ps qs (suc k)))
 
 -- the sum with one sample more
 pub covered_sum-more : (row phase : ℕ) (xs : List Sample) (k : ℕ) (d : Sample) → k < length xs →
@@ -31,8 +30,7 @@ covered_sum-more row phase xs k d lt =
     let x = get_or xs k d in
     let before = take k xs in
     let long : length before ≡ k = length-take-le k xs (omega arith) in
-    let far : 0 + length (despread phase before) ≡ k =
-    omega (arith, length-despread phase before, long) in
+    let far : 0 + length (despread phase before) ≡ k = omega (arith, length-despread phase before, long) in
     let parts : despread phase (take (k + 1) xs) ≡
     despread phase before ++ despread (phase + k) (x ∷ []) =
     ap (despread phase) (take_more xs k d lt) ∙ despread-append before (x ∷ []) phase ∙
@@ -44,8 +42,7 @@ covered_sum-more row phase xs k d lt =
     ∙ ap (λ (n : ℕ). plus (sum_of (covered_from row 0 (despread phase before)))
     (sum_of (covered_from row n (despread (phase + k) (x ∷ []))))) far
     ∙ ap (plus (sum_of (covered_from row 0 (despread phase before))))
-    (plus-origin
-    (times (row_sign row k) (times (of_sample x) (conjugate (code_point (phase + k))))))
+    (plus-origin (times (row_sign row k) (times (of_sample x) (conjugate (code_point (phase + k))))))
 
 pub same_parts : (a b c d : ℤ) → a ≡ c → b ≡ d → ◌≡◌ {A = Pair} record {
   i = a;
@@ -54,8 +51,7 @@ pub same_parts : (a b c d : ℤ) → a ≡ c → b ≡ d → ◌≡◌ {A = Pair
 same_parts a b c d p q = cc
 
 -- the row's chip turns both chips of the code
-pub covered_is : (s : Sample) (a b w : Bool) →
-    times (of_sample s) (conjugate (point (not (beq a w), not (beq b w)))) ≡
+pub covered_is : (s : Sample) (a b w : Bool) → times (of_sample s) (conjugate (point (not (beq a w), not (beq b w)))) ≡
     times (record { i = sign w; q = pos 0 }) (times (of_sample s) (conjugate (point (a, b))))
 covered_is s true true true = same_parts _ _ _ _ (omega (arith, ints)) (omega (arith, ints))
 covered_is s true true false = same_parts _ _ _ _ (omega (arith, ints)) (omega (arith, ints))
@@ -67,11 +63,8 @@ covered_is s false false true = same_parts _ _ _ _ (omega (arith, ints)) (omega 
 covered_is s false false false = same_parts _ _ _ _ (omega (arith, ints)) (omega (arith, ints))
 
 -- one turn of the loop
-pub covered_step : (row phase place k : ℕ) (samples : List Sample) (sample : Sample)
-    (sum product : Pair) (i q : ℤ) →
-    place + k < length samples → get_or samples (place + k) sample ≡ sample →
-    product ≡
-    times (row_sign row k)
+pub covered_step : (row phase place k : ℕ) (samples : List Sample) (sample : Sample) (sum product : Pair) (i q : ℤ) →
+    place + k < length samples → get_or samples (place + k) sample ≡ sample → product ≡ times (row_sign row k)
     (times (of_sample sample) (conjugate (code_point (phase + place + k)))) →
     sum ≡ sum_of (covered_from row 0 (despread (phase + place) (take k (drop place samples)))) →
     i ≡ sum.i +ℤ product.i → q ≡ sum.q +ℤ product.q →
@@ -88,6 +81,5 @@ covered_step row phase place k samples sample sum product i q within got is befo
     same_parts _ _ _ _ ei eq
     ∙ ap (λ (p : Pair). plus sum p) is
     ∙ ap (λ (p : Pair). plus p
-    (times (row_sign row k)
-    (times (of_sample sample) (conjugate (code_point (phase + place + k)))))) before
+    (times (row_sign row k) (times (of_sample sample) (conjugate (code_point (phase + place + k)))))) before
     ∙ sym (rw read at more)

@@ -23,14 +23,12 @@ pub start_step : (form : Form) (first k : ℕ) →
 start_step Sync first k = omega arith
 start_step Data first k = omega arith
 
-start_early : (form : Form) (first k : ℕ) →
-    frame_chips form * (k + 1) ≤ first + frame_chips form * k + frame_chips form
+start_early : (form : Form) (first k : ℕ) → frame_chips form * (k + 1) ≤ first + frame_chips form * k + frame_chips form
 start_early Sync first k = omega arith
 start_early Data first k = omega arith
 
 -- ONE FINGER
-place_near : (m u : ℕ) (d : ℤ) → int_le (negsuc 127) d ≡ true → int_le d (pos 127) ≡ true →
-    end_at m u d ≤ u + m + 128
+place_near : (m u : ℕ) (d : ℤ) → int_le (negsuc 127) d ≡ true → int_le d (pos 127) ≡ true → end_at m u d ≤ u + m + 128
 place_near m u d h e = grind (arith, ints)
 
 end_test : (m u n : ℕ) (d : ℤ) → int_le d (pos u) ≡ true →
@@ -56,8 +54,7 @@ pub ends_step : (form : Form) (u : ℕ) (fingers : List Finger) → AreNear fing
     frame_end fingers form (u + frame_chips form) ≡ frame_end fingers form u + frame_chips form
 ends_step form u fingers h = later_by form u (frame_chips form) fingers (near_are_close fingers h)
 
-pub begun_on : (u m : ℕ) (fingers : List Finger) → all_begun u fingers ≡ true →
-    all_begun (u + m) fingers ≡ true
+pub begun_on : (u m : ℕ) (fingers : List Finger) → all_begun u fingers ≡ true → all_begun (u + m) fingers ≡ true
 begun_on u m [] h = refl
 begun_on u m (f ∷ fingers) h =
     let a = and_parts (int_le f.delta (pos u)) (all_begun u fingers) h in
@@ -67,17 +64,14 @@ begun_on u m (f ∷ fingers) h =
 -- the second frame begins in the file, and the first too where it does so on each finger
 pub begun_first : (form : Form) (first : ℕ) (fingers : List Finger) → AreClose fingers →
     all_begun (first + frame_chips form * 1) fingers ≡ true
-begun_first form first fingers h =
-    close_begun (first + frame_chips form * 1) fingers h.close (far form first 0)
+begun_first form first fingers h = close_begun (first + frame_chips form * 1) fingers h.close (far form first 0)
 
 -- the ring still has each finger's samples when the last finger's frame ends
 pub in_ring : (ring : Held) (form : Form) (u : ℕ) (fingers : List Finger) → AreNear fingers →
-    AreBegun u fingers → ring.room ≡ 65536 → ring.taken ≡ frame_end fingers form u →
-    All (IsInRing ring form u) fingers
+    AreBegun u fingers → ring.room ≡ 65536 → ring.taken ≡ frame_end fingers form u → All (IsInRing ring form u) fingers
 in_ring ring form u fingers h = begun_in_ring ring form u fingers (near_are_close fingers h).close
 
-within_one : (a b c d : Bool) (x : Bool) → (a ≡ true → b ≡ x) →
-    ((a && b) && (c && d)) ≡ ((a && c) && (x && d))
+within_one : (a b c d : Bool) (x : Bool) → (a ≡ true → b ≡ x) → ((a && b) && (c && d)) ≡ ((a && c) && (x && d))
 within_one true b true d x h = rw (h refl) refl
 within_one true true false d x h = refl
 within_one true false false d x h = refl
@@ -132,8 +126,7 @@ reference_early form u (f ∷ fingers) h =
     ]
 
 pub ends_bounds : (form : Form) (u : ℕ) (fingers : List Finger) → AreNear fingers →
-    (u + frame_chips form ≤ frame_end fingers form u)
-    × (frame_end fingers form u ≤ u + frame_chips form + 128)
+    (u + frame_chips form ≤ frame_end fingers form u) × (frame_end fingers form u ≤ u + frame_chips form + 128)
 ends_bounds form u fingers h =
     let both = and_parts (all_near fingers) (has_reference fingers) h in
     (reference_early form u fingers both.1, ends_near form u fingers both.0)

@@ -25,8 +25,7 @@ module _ {C : Type 0} {count low : ℕ} (s : StreamOf C) (t : IsTimed count s lo
   pub inside_from : (k : ℕ) → low ≤ k → stream_end s k ≤ count → is_in_file count s k ≡ true
   inside_from k l h =
       t.inside k
-      ∙ and_from (nat_le low k) (nat_le (stream_end s k) count) (le-leb low k l)
-      (le-leb (stream_end s k) count h)
+      ∙ and_from (nat_le low k) (nat_le (stream_end s k) count) (le-leb low k l) (le-leb (stream_end s k) count h)
 
   pub inside_to : (k : ℕ) → is_in_file count s k ≡ true → (low ≤ k) × (stream_end s k ≤ count)
   inside_to k h =
@@ -40,8 +39,7 @@ module _ {C : Type 0} {count low : ℕ} (s : StreamOf C) (t : IsTimed count s lo
       ∙ and_right (nat_le low k) (nat_le (stream_end s k) count) (lt-leb (stream_end s k) count h)
 
   pub outside_low : (k : ℕ) → k < low → is_in_file count s k ≡ false
-  outside_low k h =
-      t.inside k ∙ and_left (nat_le low k) (nat_le (stream_end s k) count) (lt-leb low k h)
+  outside_low k h = t.inside k ∙ and_left (nat_le low k) (nat_le (stream_end s k) count) (lt-leb low k h)
 
   -- where frames wait, and the frame after is in the file
   pub known_more : (k : ℕ) → s.waits ≡ true → low ≤ k → stream_end s (k + 1) ≤ count →
@@ -87,19 +85,11 @@ module _ {C : Type 0} {count low : ℕ} (s : StreamOf C) (t : IsTimed count s lo
       let i = inside_to k h in
       let step = t.step k in
       elim (known_parts k i.0) [
-        | inl e ↦ record {
-          low = rw e (omega arith);
-          high = rw e (omega (arith, step));
-          most = rw e (omega arith);
-        }
+        | inl e ↦ record { low = rw e (omega arith); high = rw e (omega (arith, step)); most = rw e (omega arith) }
         | inr parts ↦
             let e = parts.2 in
             let more = parts.1 in
-            record {
-              low = rw e (omega (arith, step));
-              high = rw e (omega arith);
-              most = rw e (omega arith);
-            }
+            record { low = rw e (omega (arith, step)); high = rw e (omega arith); most = rw e (omega arith) }
       ]
 
   -- an earlier frame is known no later

@@ -11,13 +11,11 @@ apart i j room less near same =
     let a = div-add-mod' i room in
     let b = div-add-mod' j room in
     elim (cases_lt (i / room) (j / room)) [
-      | inl below ↦ let m =
-          mul-le (i / room + 1) room (j / room) room (omega arith) (omega arith) in omega arith
+      | inl below ↦ let m = mul-le (i / room + 1) room (j / room) room (omega arith) (omega arith) in omega arith
       | inr over ↦ let m = mul-le (j / room) room (i / room) room over (omega arith) in omega arith
     ]
 
-pub held_more : {A : Type 0} (cells samples : List A) (x : A) (room : ℕ) → 1 ≤ room →
-    length cells ≡ room →
+pub held_more : {A : Type 0} (cells samples : List A) (x : A) (room : ℕ) → 1 ≤ room → length cells ≡ room →
     ((i : ℕ) (d : A) → i < length samples → length samples ≤ i + room →
     get_or cells (i % room) d ≡ get_or samples i d) →
     (i : ℕ) (d : A) → i < length samples + 1 → length samples + 1 ≤ i + room →
@@ -28,8 +26,7 @@ held_more cells samples x room some long held i d h near =
       | inl e ↦ rw (e, get_or-set_same cells (length samples % room) x d within)
           (sym (get_or_push samples x d (length samples) refl))
       | inr (inl less) ↦
-          let ne : i % room ≢ length samples % room =
-          λ same. apart i (length samples) room less (omega arith) same in
+          let ne : i % room ≢ length samples % room = λ same. apart i (length samples) room less (omega arith) same in
           rw (
             get_or-set_other cells (length samples % room) (i % room) x d ne,
             get_or_append_left samples (x ∷ []) d i less,
@@ -41,8 +38,7 @@ held_more cells samples x room some long held i d h near =
 pub HoldsLast-more : (cells samples : List Sample) (x : Sample) (room taken room' : ℕ) → 1 ≤ room →
     length cells ≡ room → room' ≡ room →
     HoldsLast (record { room = room; taken = taken; cells = cells }) samples →
-    HoldsLast (record { room = room'; taken = taken + 1; cells = set cells (taken % room) x })
-    (samples ++ x ∷ [])
+    HoldsLast (record { room = room'; taken = taken + 1; cells = set cells (taken % room) x }) (samples ++ x ∷ [])
 HoldsLast-more cells samples x room taken room' some long same h =
     let more = length-append samples (x ∷ []) in
     let t = h.taken in record {
@@ -98,8 +94,7 @@ pub run_is : (ring : Held) (samples run : List Sample) (place count cell : ℕ) 
     run ≡ take count (drop cell ring.cells) → run ≡ take count (drop place samples)
 run_is ring samples run place count cell taken kept h at room long is =
     ext_get_or none run (take count (drop place samples))
-    (long ∙ sym (length-take-le count (drop place samples)
-    (omega (arith, length-drop place samples, h.taken, taken))))
+    (long ∙ sym (length-take-le count (drop place samples) (omega (arith, length-drop place samples, h.taken, taken))))
     (λ i lt. each i (omega (arith, lt, long)))
   where
     none : Sample
@@ -110,8 +105,7 @@ run_is ring samples run place count cell taken kept h at room long is =
         let near : place % ring.room + i < ring.room = omega (arith, at, room, lt) in
         ap (λ (n : ℕ). n + i) at ∙ sym (mod-eq_of_lt near) ∙ mod-add-mod place ring.room i
 
-    each : (i : ℕ) → i < count →
-        get_or run i none ≡ get_or (take count (drop place samples)) i none
+    each : (i : ℕ) → i < count → get_or run i none ≡ get_or (take count (drop place samples)) i none
     each i lt =
         ap (λ (xs : List Sample). get_or xs i none) is
         ∙ get_or-take count (drop cell ring.cells) i none lt

@@ -38,8 +38,7 @@ unit_lanes signs first room u = (
 )
 
 -- LANES TIMES SIGNS
-product_most : (x s : ℤ) → unsigned_abs x ≤ 65536 → unsigned_abs s ≤ 1 →
-    unsigned_abs (x *ℤ s) ≤ 65536
+product_most : (x s : ℤ) → unsigned_abs x ≤ 65536 → unsigned_abs s ≤ 1 → unsigned_abs (x *ℤ s) ≤ 65536
 product_most x s h g =
     let most = mul-le (unsigned_abs x) (unsigned_abs s) 65536 1 h g in
     rw (unsigned_abs-mul x s) (omega (arith, most))
@@ -53,16 +52,14 @@ signed_lane x s h g =
     ∙ ap (λ (z : ℤ). int_wrap w32 (z *ℤ s)) (to_z-of_z w32 x fx)
     ∙ int_wrap_fits w32 (x *ℤ s) (in_lane (x *ℤ s) (product_most x s h g))
 
-pub signed_all : (xs ys : List ℤ) → Each1 (λ x. unsigned_abs x ≤ 65536) xs →
-    Each1 (λ y. unsigned_abs y ≤ 1) ys →
+pub signed_all : (xs ys : List ℤ) → Each1 (λ x. unsigned_abs x ≤ 65536) xs → Each1 (λ y. unsigned_abs y ≤ 1) ys →
     map (to_z w32) (zip2 (λ a b. a * b % 4294967296) (map (of_z w32) xs) (map (of_z w32) ys)) ≡
     zip2 (λ a b. a *ℤ b) xs ys
 signed_all [] ys h g = refl
 signed_all (x ∷ xs) [] h g = refl
 signed_all (x ∷ xs) (y ∷ ys) h g = λ i. signed_lane x y h.0 g.0 i ∷ signed_all xs ys h.1 g.1 i
 
-pub signed_near : (xs ys : List ℤ) → Each1 (λ x. unsigned_abs x ≤ 65536) xs →
-    Each1 (λ y. unsigned_abs y ≤ 1) ys →
+pub signed_near : (xs ys : List ℤ) → Each1 (λ x. unsigned_abs x ≤ 65536) xs → Each1 (λ y. unsigned_abs y ≤ 1) ys →
     Each1 (λ x. unsigned_abs x ≤ 65536) (zip2 (λ a b. a *ℤ b) xs ys)
 signed_near xs ys h g =
     Each1-zip2 (λ a b. a *ℤ b) (λ x. unsigned_abs x ≤ 65536) xs ys
@@ -72,45 +69,37 @@ signed_near xs ys h g =
 pub kept_units : (xs : List ℤ) → Each1 (λ x. unsigned_abs x ≤ 1) xs → kept xs ≡ xs
 kept_units xs h =
     kept_lanes xs
-    (Each1-weaker (λ x. unsigned_abs x ≤ 1) (λ x. unsigned_abs x < 2 ^ 31)
-    (λ x le. omega (arith, le)) xs h)
+    (Each1-weaker (λ x. unsigned_abs x ≤ 1) (λ x. unsigned_abs x < 2 ^ 31) (λ x le. omega (arith, le)) xs h)
 
-pub near_kept : (xs : List ℤ) → Each1 (λ x. unsigned_abs x ≤ 65536) xs →
-    Each1 (λ x. unsigned_abs x ≤ 65536) (kept xs)
+pub near_kept : (xs : List ℤ) → Each1 (λ x. unsigned_abs x ≤ 65536) xs → Each1 (λ x. unsigned_abs x ≤ 65536) (kept xs)
 near_kept xs h = subst (Each1 (λ x. unsigned_abs x ≤ 65536)) (sym (kept_products xs h)) h
 
 -- lanes of products times lanes of signs, all kept as bits
 pub signed_kept : (products lanes signs result : List ℤ) →
-    Each1 (λ x. unsigned_abs x ≤ 65536) products → lanes ≡ signs →
-    Each1 (λ x. unsigned_abs x ≤ 1) signs →
-    result ≡ zip2 (λ a b. a *ℤ b) (kept products) (kept lanes) →
-    kept result ≡ zip2 (λ a b. a *ℤ b) products signs
+    Each1 (λ x. unsigned_abs x ≤ 65536) products → lanes ≡ signs → Each1 (λ x. unsigned_abs x ≤ 1) signs →
+    result ≡ zip2 (λ a b. a *ℤ b) (kept products) (kept lanes) → kept result ≡ zip2 (λ a b. a *ℤ b) products signs
 signed_kept products lanes signs result h is u e =
     let f : kept products ≡ products = kept_products products h in
     let g : kept lanes ≡ signs = ap kept is ∙ kept_units signs u in
-    let whole : result ≡ zip2 (λ a b. a *ℤ b) products signs =
-    e ∙ (λ i. zip2 (λ a b. a *ℤ b) (f i) (g i)) in
+    let whole : result ≡ zip2 (λ a b. a *ℤ b) products signs = e ∙ (λ i. zip2 (λ a b. a *ℤ b) (f i) (g i)) in
     ap kept whole
     ∙ kept_products (zip2 (λ a b. a *ℤ b) products signs) (signed_near products signs h u)
 
 -- PRODUCTS WITH COVERED SIGNS
-covered_real : (s : Sample) (g : ℤ × ℤ) (w : ℤ) →
-    (turned s (turned_sign w g)).i ≡ (turned s g).i *ℤ w
+covered_real : (s : Sample) (g : ℤ × ℤ) (w : ℤ) → (turned s (turned_sign w g)).i ≡ (turned s g).i *ℤ w
 covered_real s g w =
     sym (real_part s.i s.q (g.0 *ℤ w) (g.1 *ℤ w))
     ∙ (λ i. sym (mul_assoc_ℤ s.i g.0 w) i +ℤ sym (mul_assoc_ℤ s.q g.1 w) i)
     ∙ sym (distrib_right (s.i *ℤ g.0) (s.q *ℤ g.1) w)
     ∙ ap (λ (z : ℤ). z *ℤ w) (real_part s.i s.q g.0 g.1)
 
-covered_imaginary : (s : Sample) (g : ℤ × ℤ) (w : ℤ) →
-    (turned s (turned_sign w g)).q ≡ (turned s g).q *ℤ w
+covered_imaginary : (s : Sample) (g : ℤ × ℤ) (w : ℤ) → (turned s (turned_sign w g)).q ≡ (turned s g).q *ℤ w
 covered_imaginary s g w =
     ap (λ (z : ℤ). (s.i *ℤ z) +ℤ (s.q *ℤ (g.0 *ℤ w))) (sym (neg_times g.1 w))
     ∙ (λ i. sym (mul_assoc_ℤ s.i (neg_ℤ g.1) w) i +ℤ sym (mul_assoc_ℤ s.q g.0 w) i)
     ∙ sym (distrib_right (s.i *ℤ neg_ℤ g.1) (s.q *ℤ g.0) w)
 
-pub length-covered : (row : List ℤ) (k : ℕ) (signs : List (ℤ × ℤ)) →
-    length (covered_signs row k signs) ≡ length signs
+pub length-covered : (row : List ℤ) (k : ℕ) (signs : List (ℤ × ℤ)) → length (covered_signs row k signs) ≡ length signs
 length-covered row k [] = refl
 length-covered row k (g ∷ signs) = ap suc (length-covered row (suc k) signs)
 
@@ -128,8 +117,7 @@ get_or-covered row k (suc t) (g ∷ signs) lt =
 
 -- the sign of a chip of the code, covered
 at_chip : (row : List ℤ) (signs : List (ℤ × ℤ)) (t chip : ℕ) → t < length signs → t % 64 ≡ chip →
-    get_or (covered_signs row 0 signs) t no_sign ≡
-    turned_sign (get_or row chip (pos 0)) (get_or signs t no_sign)
+    get_or (covered_signs row 0 signs) t no_sign ≡ turned_sign (get_or row chip (pos 0)) (get_or signs t no_sign)
 at_chip row signs t chip lt place =
     let here : (0 + t) % 64 ≡ chip = omega (arith, place) in
     get_or-covered row 0 t signs lt
@@ -145,8 +133,7 @@ part_at : (part : Pair → ℤ) → Turns part → (samples : List Sample) (sign
     part (product_at samples signs t) *ℤ get_or row chip (pos 0) ≡
     part (product_at samples (covered_signs row 0 signs) t)
 part_at part turns samples signs row t chip lt place =
-    sym (ap (λ (g : ℤ × ℤ). part (turned (get_or samples t no_sample) g))
-    (at_chip row signs t chip lt place)
+    sym (ap (λ (g : ℤ × ℤ). part (turned (get_or samples t no_sample) g)) (at_chip row signs t chip lt place)
     ∙ turns (get_or samples t no_sample) (get_or signs t no_sign) (get_or row chip (pos 0)))
 
 -- eight places of a row and of the samples
@@ -215,8 +202,7 @@ covered_one row k signs s g all =
     ∙ row_turn (walsh row (k % 64)) (turned s g)
 
 pub covered_all : (row k : ℕ) (row_signs : List ℤ) (samples : List Sample)
-    (signs : List (ℤ × ℤ)) → AreRowSigns row row_signs →
-    zip_with turned samples (covered_signs row_signs k signs) ≡
+    (signs : List (ℤ × ℤ)) → AreRowSigns row row_signs → zip_with turned samples (covered_signs row_signs k signs) ≡
     covered_from row k (zip_with turned samples signs)
 covered_all row k row_signs [] signs all = refl
 covered_all row k row_signs (s ∷ samples) [] all = refl

@@ -12,8 +12,7 @@ pub covered-pilot : (k : ℕ) (ps : List Pair) → covered_from 0 k ps ≡ ps
 covered-pilot k [] = refl
 covered-pilot k (p ∷ ps) = rw (walsh-pilot, one_times p, covered-pilot (suc k) ps)
 
-pub pilot_is : (samples : List Sample) (finger : Finger) (form : Form)
-    (start window place chips : ℕ) (sum : Pair) →
+pub pilot_is : (samples : List Sample) (finger : Finger) (form : Form) (start window place chips : ℕ) (sum : Pair) →
     chips ≡ window_chips form → place ≡ finger_place finger start + chips * window →
     sum ≡ sum_of (covered_from 0 0 (despread_at samples finger.phase place chips)) →
     sum ≡ pilot_sum samples finger form start window
@@ -22,19 +21,16 @@ pilot_is samples finger form start window place chips sum size at h =
     rw (at, size) at h ∙
     ap sum_of
     (covered-pilot 0
-    (despread_at samples finger.phase (finger_place finger start + window_chips form * window)
-    (window_chips form)))
+    (despread_at samples finger.phase (finger_place finger start + window_chips form * window) (window_chips form)))
 
-pub symbol_is : (samples : List Sample) (finger : Finger) (form : Form)
-    (start symbol place chips : ℕ) (sum : Pair) →
+pub symbol_is : (samples : List Sample) (finger : Finger) (form : Form) (start symbol place chips : ℕ) (sum : Pair) →
     chips ≡ symbol_chips form → place ≡ finger_place finger start + chips * symbol →
     sum ≡ sum_of (covered_from finger.row 0 (despread_at samples finger.phase place chips)) →
     sum ≡ symbol_sum samples finger form start symbol
 unfolding symbol_sum
 symbol_is samples finger form start symbol place chips sum size at h = rw (at, size) at h
 
-pub turned_part-is : (pilot symbol : Pair) →
-    (pilot.i *ℤ symbol.i) +ℤ (pilot.q *ℤ symbol.q) ≡ turned_part pilot symbol
+pub turned_part-is : (pilot symbol : Pair) → (pilot.i *ℤ symbol.i) +ℤ (pilot.q *ℤ symbol.q) ≡ turned_part pilot symbol
 turned_part-is pilot symbol = rw (neg_times pilot.q symbol.q) (omega (arith, ints))
 
 pub soft_is : (samples : List Sample) (finger : Finger) (form : Form) (start j : ℕ) →
@@ -53,14 +49,11 @@ symbol_most Sync = omega arith
 symbol_most Data = omega arith
 
 -- the sums' bounds bound the value
-pub soft_bounded : (form : Form) (a b c d : ℕ) → a ≤ 65536 * window_chips form →
-    b ≤ 65536 * symbol_chips form →
+pub soft_bounded : (form : Form) (a b c d : ℕ) → a ≤ 65536 * window_chips form → b ≤ 65536 * symbol_chips form →
     c ≤ 65536 * window_chips form → d ≤ 65536 * symbol_chips form → a * b + c * d ≤ soft_bound form
 soft_bounded Sync a b c d ha hb hc hd =
-    let m : a * b ≤ (65536 * 1024) * (65536 * 256) =
-    mul-le a b (65536 * 1024) (65536 * 256) ha hb in
-    let n : c * d ≤ (65536 * 1024) * (65536 * 256) =
-    mul-le c d (65536 * 1024) (65536 * 256) hc hd in
+    let m : a * b ≤ (65536 * 1024) * (65536 * 256) = mul-le a b (65536 * 1024) (65536 * 256) ha hb in
+    let n : c * d ≤ (65536 * 1024) * (65536 * 256) = mul-le c d (65536 * 1024) (65536 * 256) hc hd in
     omega (arith, m, n)
 soft_bounded Data a b c d ha hb hc hd =
     let m : a * b ≤ (65536 * 1536) * (65536 * 64) = mul-le a b (65536 * 1536) (65536 * 64) ha hb in
@@ -79,15 +72,11 @@ value_small form p s value hi hq near bound =
     omega (arith, bound, most)
 
 -- a product of two parts that fits
-pub product_is : (a b : ℤ) → FitsSigned w64 a → FitsSigned w64 b → unsigned_abs a ≤ 2 ^ 27 →
-    unsigned_abs b ≤ 2 ^ 24 →
+pub product_is : (a b : ℤ) → FitsSigned w64 a → FitsSigned w64 b → unsigned_abs a ≤ 2 ^ 27 → unsigned_abs b ≤ 2 ^ 24 →
     to_z w64 (of_z w64 (to_z w64 (of_z w64 a) *ℤ to_z w64 (of_z w64 b))) ≡ a *ℤ b
 product_is a b fa fb ha hb =
-    let fits : FitsSigned w64 (a *ℤ b) =
-    fits_signed_mul w64 a b (2 ^ 27) (2 ^ 24) ha hb (omega arith) in
+    let fits : FitsSigned w64 (a *ℤ b) = fits_signed_mul w64 a b (2 ^ 27) (2 ^ 24) ha hb (omega arith) in
     rw (to_z-of_z w64 a fa, to_z-of_z w64 b fb, to_z-of_z w64 (a *ℤ b) fits)
 
-pub product_most : (a b : ℤ) → unsigned_abs a ≤ 2 ^ 27 → unsigned_abs b ≤ 2 ^ 24 →
-    unsigned_abs (a *ℤ b) ≤ 2 ^ 51
-product_most a b ha hb =
-    rw (unsigned_abs-mul a b) (mul-le (unsigned_abs a) (unsigned_abs b) (2 ^ 27) (2 ^ 24) ha hb)
+pub product_most : (a b : ℤ) → unsigned_abs a ≤ 2 ^ 27 → unsigned_abs b ≤ 2 ^ 24 → unsigned_abs (a *ℤ b) ≤ 2 ^ 51
+product_most a b ha hb = rw (unsigned_abs-mul a b) (mul-le (unsigned_abs a) (unsigned_abs b) (2 ^ 27) (2 ^ 24) ha hb)

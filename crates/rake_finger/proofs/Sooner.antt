@@ -28,8 +28,7 @@ part_same one other place off count m fits same =
 
 -- symbols and their windows lie in the frame
 pub window_inside : (form : Form) (j : ℕ) → j < symbols form →
-    window_chips form * (symbol_chips form * j / window_chips form) + window_chips form
-    ≤ frame_chips form
+    window_chips form * (symbol_chips form * j / window_chips form) + window_chips form ≤ frame_chips form
 window_inside Sync j h = omega arith
 window_inside Data j h = omega arith
 
@@ -43,8 +42,7 @@ module _ (one other : List Sample) (f : Finger) (form : Form) (u : ℕ)
     (same : take (frame_chips form) (drop (finger_place f u) one)
     ≡ take (frame_chips form) (drop (finger_place f u) other)) where
   despread_same : (off count : ℕ) → off + count ≤ frame_chips form →
-      despread_at one f.phase (finger_place f u + off) count
-      ≡ despread_at other f.phase (finger_place f u + off) count
+      despread_at one f.phase (finger_place f u + off) count ≡ despread_at other f.phase (finger_place f u + off) count
   despread_same off count fits =
       ap (despread (f.phase + (finger_place f u + off)))
       (part_same one other (finger_place f u) off count (frame_chips form) fits same)
@@ -58,14 +56,12 @@ module _ (one other : List Sample) (f : Finger) (form : Form) (u : ℕ)
       symbol_sum one f form u j ≡ symbol_sum other f form u j
   unfolding symbol_sum
   symbol_same j fits =
-      ap (λ ps. sum_of (covered_from f.row 0 ps))
-      (despread_same (symbol_chips form * j) (symbol_chips form) fits)
+      ap (λ ps. sum_of (covered_from f.row 0 ps)) (despread_same (symbol_chips form * j) (symbol_chips form) fits)
 
   soft_same : (j : ℕ) → j < symbols form → soft one f form u j ≡ soft other f form u j
   unfolding soft
   soft_same j h =
-      let a =
-      pilot_same (symbol_chips form * j / window_chips form) (window_inside form j h) in
+      let a = pilot_same (symbol_chips form * j / window_chips form) (window_inside form j h) in
       let b = symbol_same j (symbol_inside form j h) in
       rw (a, b) refl
 
@@ -74,8 +70,7 @@ all_soft_same : (one other : List Sample) (fingers : List Finger) (form : Form) 
     map (λ f. soft one f form u j) fingers ≡ map (λ f. soft other f form u j) fingers
 all_soft_same one other [] form u j h same = refl
 all_soft_same one other (f ∷ fingers) form u j h same =
-    let here : soft one f form u j ≡ soft other f form u j =
-    soft_same one other f form u same.0 j h in
+    let here : soft one f form u j ≡ soft other f form u j = soft_same one other f form u same.0 j h in
     let rest = all_soft_same one other fingers form u j h same.1 in
     rw (here, rest) refl
 
@@ -111,8 +106,7 @@ all_fit count n (f ∷ fingers) form u within ends =
     let fits = int_le ((pos u -ℤ f.delta) +ℤ pos (frame_chips form)) (pos count) in
     let parts = and_parts (begun && fits) (is_within count fingers form u) within in
     let one = and_parts begun fits parts.0 in
-    All-cons (Fits n form u) f fingers
-    (place_fits u (frame_chips form) f.delta n one.0 (omega arith))
+    All-cons (Fits n form u) f fingers (place_fits u (frame_chips form) f.delta n one.0 (omega arith))
     (all_fit count n fingers form u parts.1 (omega arith))
 
 part_sooner : {A : Type 0} (xs ys : List A) (place count : ℕ) → place + count ≤ length xs →
@@ -132,7 +126,5 @@ agree_sooner xs ys (f ∷ fingers) form u fit = (
 )
 
 pub softs_sooner : (xs ys : List Sample) (fingers : List Finger) (form : Form) (u : ℕ) →
-    AllFit (length xs) form u fingers →
-    softs (xs ++ ys) fingers form u ≡ softs xs fingers form u
-softs_sooner xs ys fingers form u fit =
-    softs_same (xs ++ ys) xs fingers form u (agree_sooner xs ys fingers form u fit)
+    AllFit (length xs) form u fingers → softs (xs ++ ys) fingers form u ≡ softs xs fingers form u
+softs_sooner xs ys fingers form u fit = softs_same (xs ++ ys) xs fingers form u (agree_sooner xs ys fingers form u fit)

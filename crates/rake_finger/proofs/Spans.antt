@@ -28,8 +28,7 @@ module _ {C : Type 0} {count low : ℕ} (s : StreamOf C) (t : IsTimed count s lo
   span_first_low zero h = refl
   span_first_low (suc k) h = let e = times.outside_low s t k (omega arith) in rw e refl
 
-  pub span_first_more : (k : ℕ) → low < k → is_in_file count s k ≡ true →
-      span_first count s k + 1 ≡ k
+  pub span_first_more : (k : ℕ) → low < k → is_in_file count s k ≡ true → span_first count s k + 1 ≡ k
   span_first_more zero l h = absurd (omega arith)
   span_first_more (suc k) l h =
       let i = times.inside_to s t (suc k) h in
@@ -43,12 +42,10 @@ module _ {C : Type 0} {count low : ℕ} (s : StreamOf C) (t : IsTimed count s lo
       let e = times.inside_from s t (k + 1) (omega arith) h in
       rw e refl
 
-  pub span_frames_last : (k : ℕ) → count < stream_end s (k + 1) →
-      span_frames count s k ≡ k + 1 - span_first count s k
+  pub span_frames_last : (k : ℕ) → count < stream_end s (k + 1) → span_frames count s k ≡ k + 1 - span_first count s k
   span_frames_last k h = let e = times.outside_from s t (k + 1) h in rw e refl
 
-  span_first_between : (k : ℕ) → is_in_file count s k ≡ true →
-      (low ≤ span_first count s k) × (span_first count s k ≤ k)
+  span_first_between : (k : ℕ) → is_in_file count s k ≡ true → (low ≤ span_first count s k) × (span_first count s k ≤ k)
   span_first_between k h =
       let i = times.inside_to s t k h in
       elim (cases_order low k) [
@@ -102,8 +99,7 @@ module _ {C : Type 0} {count low : ℕ} (s : StreamOf C) (t : IsTimed count s lo
       let frames = span_frames count s k in
       let between = span_first_between k h in
       let most = times.known_between s t k h in
-      flat_map_ext_places (λ j. frame_softs (xs ++ ys) s (first + j))
-      (λ j. frame_softs xs s (first + j)) frames
+      flat_map_ext_places (λ j. frame_softs (xs ++ ys) s (first + j)) (λ j. frame_softs xs s (first + j)) frames
       (λ j below.
       let ends = span_ends k first frames j waits h refl refl between.1 (omega arith) in
       let low' : low ≤ first + j = omega arith in

@@ -11,21 +11,16 @@ use Rattle.pilot_search.proofs.BoundLemmas.{bounds, nothing_yet, despread_mod}
 
 -- PHASES
 
-pub energy_again : (samples : List Sample) (a b : ℕ) → a % 32768 ≡ b % 32768 →
-    energy samples a ≡ energy samples b
+pub energy_again : (samples : List Sample) (a b : ℕ) → a % 32768 ≡ b % 32768 → energy samples a ≡ energy samples b
 unfolding energy phase_correlation
-energy_again samples a b e =
-    ap (λ (ps : List Pair). norm (sum_of ps)) (despread_mod samples a b e)
+energy_again samples a b e = ap (λ (ps : List Pair). norm (sum_of ps)) (despread_mod samples a b e)
 
 -- THE STRONGEST
 pub strongest_one : (samples : List Sample) (lowest most : ℕ) → most ≡ energy samples lowest →
     IsStrongest samples lowest 1 0 most
 strongest_one samples lowest most is =
     let e : lowest + 0 ≡ lowest = omega arith in
-    record {
-      first = starts (λ i. pos (energy samples (lowest + i)));
-      measured = rw e is;
-    }
+    record { first = starts (λ i. pos (energy samples (lowest + i))); measured = rw e is }
 
 -- one phase more, of greater energy than those before
 pub strongest_takes : (samples : List Sample) (lowest count best most found : ℕ) →
@@ -51,8 +46,7 @@ strongest_keeps samples lowest count best most found h is less =
     }
 
 -- the first of the greatest, by another form of the values
-first_of_same : (f g : ℕ → ℤ) (n best : ℕ) → ((k : ℕ) → f k ≡ g k) → IsFirstGreatest f n best →
-    IsFirstGreatest g n best
+first_of_same : (f g : ℕ → ℤ) (n best : ℕ) → ((k : ℕ) → f k ≡ g k) → IsFirstGreatest f n best → IsFirstGreatest g n best
 first_of_same f g n best same h = record {
   below = h.below;
   greatest = λ k lt. rw (same k, same best) at (h.greatest k lt);
@@ -61,8 +55,7 @@ first_of_same f g n best same h = record {
 
 -- what is strongest of a window is its strength
 strongest_place : (samples : List Sample) (phase window lowest place most : ℕ) →
-    window ≤ 32768 → lowest ≡ phase + 32768 - window / 2 →
-    IsStrongest samples lowest (window + 1) place most →
+    window ≤ 32768 → lowest ≡ phase + 32768 - window / 2 → IsStrongest samples lowest (window + 1) place most →
     place ≡ first_greatest (λ i. pos (window_energy samples phase window i)) (window + 1)
 strongest_place samples phase window lowest place most few low h =
     let same : (k : ℕ) →
@@ -74,28 +67,23 @@ strongest_place samples phase window lowest place most few low h =
     (λ i. pos (window_energy samples phase window i)) (window + 1) place same h.first)
 
 pub strongest_energy : (samples : List Sample) (phase window lowest place most : ℕ) →
-    window ≤ 32768 → lowest ≡ phase + 32768 - window / 2 →
-    IsStrongest samples lowest (window + 1) place most →
+    window ≤ 32768 → lowest ≡ phase + 32768 - window / 2 → IsStrongest samples lowest (window + 1) place most →
     most ≡ (strength samples phase window).energy
 unfolding strength
 strongest_energy samples phase window lowest place most few low h =
     let e : lowest + place ≡ phase + 32768 + place - window / 2 = omega (arith, low, few) in
     h.measured ∙ ap (energy samples) e
-    ∙ ap (window_energy samples phase window)
-    (strongest_place samples phase window lowest place most few low h)
+    ∙ ap (window_energy samples phase window) (strongest_place samples phase window lowest place most few low h)
 
 pub strongest_delta : (samples : List Sample) (phase window lowest place most : ℕ) →
-    window ≤ 32768 → lowest ≡ phase + 32768 - window / 2 →
-    IsStrongest samples lowest (window + 1) place most →
+    window ≤ 32768 → lowest ≡ phase + 32768 - window / 2 → IsStrongest samples lowest (window + 1) place most →
     pos place -ℤ pos (window / 2) ≡ (strength samples phase window).delta
 unfolding strength
 strongest_delta samples phase window lowest place most few low h =
-    ap (λ (n : ℕ). pos n -ℤ pos (window / 2))
-    (strongest_place samples phase window lowest place most few low h)
+    ap (λ (n : ℕ). pos n -ℤ pos (window / 2)) (strongest_place samples phase window lowest place most few low h)
 
 -- BOUNDS
-magnitudes_most : (samples : List Sample) → All IsNarrow samples →
-    magnitudes samples ≤ 65536 * length samples
+magnitudes_most : (samples : List Sample) → All IsNarrow samples → magnitudes samples ≤ 65536 * length samples
 magnitudes_most [] h = omega arith
 magnitudes_most (s ∷ samples) h =
     let here : IsNarrow s = All-head IsNarrow s samples h in
@@ -134,11 +122,9 @@ strength_again samples a b window few e =
     let g = λ (i : ℕ). pos (window_energy samples b window i) in
     let place = first_greatest f (window + 1) in
     let same : (i : ℕ) → window_energy samples a window i ≡ window_energy samples b window i =
-    λ i. energy_again samples (a + 32768 + i - window / 2) (b + 32768 + i - window / 2)
-    (omega (arith, few, e)) in
+    λ i. energy_again samples (a + 32768 + i - window / 2) (b + 32768 + i - window / 2) (omega (arith, few, e)) in
     let first : place ≡ first_greatest g (window + 1) =
-    only g (window + 1) place (first_of_same f g (window + 1) place
-    (λ i. ap (λ (n : ℕ). pos n) (same i))
+    only g (window + 1) place (first_of_same f g (window + 1) place (λ i. ap (λ (n : ℕ). pos n) (same i))
     (first_greatest-is f (window + 1) (omega arith))) in
     ap (λ (n : ℕ). strength_of n (pos place -ℤ pos (window / 2))) (same place)
     ∙ ap (λ (n : ℕ). strength_of (window_energy samples b window n) (pos n -ℤ pos (window / 2)))

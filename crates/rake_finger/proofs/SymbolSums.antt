@@ -19,8 +19,7 @@ despread_run samples run ahead phase place chips first is run_at at room =
 pub plain_run : (samples run : List Sample) (ahead : List (ℤ × ℤ))
     (phase place chips first : ℕ) (sum : Pair) → sum ≡ correlation_with run ahead →
     ahead ≡ drop first pilot_signs → run ≡ take chips (drop place samples) →
-    first ≡ (phase + place) % 32768 → first + length run ≤ 32768 →
-    sum ≡ sum_of (despread_at samples phase place chips)
+    first ≡ (phase + place) % 32768 → first + length run ≤ 32768 → sum ≡ sum_of (despread_at samples phase place chips)
 unfolding correlation_with
 plain_run samples run ahead phase place chips first sum e is run_at at room =
     e ∙ ap sum_of (despread_run samples run ahead phase place chips first is run_at at room)

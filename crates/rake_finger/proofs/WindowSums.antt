@@ -24,10 +24,7 @@ symbol_held ring finger form start window k place h lt few at =
     let within = in_frame form window k lt few in
     let kept = h.held.kept in
     let taken = h.held.taken in
-    record {
-      kept = omega (arith, at, kept);
-      taken = omega (arith, at, taken, within);
-    }
+    record { kept = omega (arith, at, kept); taken = omega (arith, at, taken, within) }
 
 pub symbol_place : (form : Form) (from window k place : ℕ) →
     place ≡ from + window_chips form * window + symbol_chips form * k →
@@ -35,30 +32,25 @@ pub symbol_place : (form : Form) (from window k place : ℕ) →
 symbol_place Sync from window k place at = omega (arith, at)
 symbol_place Data from window k place at = omega (arith, at)
 
-pub chips_more : (form : Form) (k : ℕ) →
-    symbol_chips form * (k + 1) ≡ symbol_chips form * k + symbol_chips form
+pub chips_more : (form : Form) (k : ℕ) → symbol_chips form * (k + 1) ≡ symbol_chips form * k + symbol_chips form
 chips_more Sync k = omega arith
 chips_more Data k = omega arith
 
-pub whole_symbols : (form : Form) (k : ℕ) → k ≡ window_symbols form →
-    symbol_chips form * k ≡ window_chips form
+pub whole_symbols : (form : Form) (k : ℕ) → k ≡ window_symbols form → symbol_chips form * k ≡ window_chips form
 whole_symbols Sync k e = omega (arith, e)
 whole_symbols Data k e = omega (arith, e)
 
 -- THE PILOT
 -- what a sum has of the chips of the symbols before a symbol
 abbrev pub sum_before : List Sample → ℕ → ℕ → ℕ → Pair
-sum_before samples phase place count =
-    sum_of (despread (phase + place) (take count (drop place samples)))
+sum_before samples phase place count = sum_of (despread (phase + place) (take count (drop place samples)))
 
 -- The pilot's sum with one piece more is the sum over the samples up to the piece's end: the piece
 -- goes on where the samples before ended, with the code's chips in step, and sums of products
 -- despread one after another are added.
 pub pilot_more : (samples : List Sample) (phase place before chips after : ℕ) (sum piece : Pair)
-    (i q : ℤ) → place + before ≤ length samples → after ≡ before + chips →
-    sum ≡ sum_before samples phase place before →
-    piece ≡ sum_of (despread_at samples phase (place + before) chips) →
-    i ≡ sum.i +ℤ piece.i → q ≡ sum.q +ℤ piece.q →
+    (i q : ℤ) → place + before ≤ length samples → after ≡ before + chips → sum ≡ sum_before samples phase place before →
+    piece ≡ sum_of (despread_at samples phase (place + before) chips) → i ≡ sum.i +ℤ piece.i → q ≡ sum.q +ℤ piece.q →
     ◌≡◌ {A = Pair} record { i = i; q = q } (sum_before samples phase place after)
 pilot_more samples phase place before chips after sum piece i q within all is is' ei eq =
     let p : ℕ = phase + place in
@@ -78,15 +70,12 @@ pilot_more samples phase place before chips after sum piece i q within all is is
     ∙ ap (plus (sum_of (despread p xs))) part
     ∙ sym (sum_of-append (despread p xs) (despread (p + length xs) ys))
     ∙ ap sum_of (sym (despread-append xs ys p))
-    ∙ ap (λ (zs : List Sample). sum_of (despread p zs))
-    (sym (take-add before chips (drop place samples)))
+    ∙ ap (λ (zs : List Sample). sum_of (despread p zs)) (sym (take-add before chips (drop place samples)))
     ∙ ap (λ (n : ℕ). sum_before samples phase place n) (sym all)
 
-pub pilot_whole : (samples : List Sample) (finger : Finger) (form : Form)
-    (start window place count : ℕ) (sum : Pair) →
+pub pilot_whole : (samples : List Sample) (finger : Finger) (form : Form) (start window place count : ℕ) (sum : Pair) →
     sum ≡ sum_before samples finger.phase place count → count ≡ window_chips form →
-    place ≡ finger_place finger start + window_chips form * window →
-    sum ≡ pilot_sum samples finger form start window
+    place ≡ finger_place finger start + window_chips form * window → sum ≡ pilot_sum samples finger form start window
 unfolding pilot_sum
 pilot_whole samples finger form start window place count sum is all at =
     is
@@ -94,10 +83,8 @@ pilot_whole samples finger form start window place count sum is all at =
     ∙ ap (λ (n : ℕ). sum_before samples finger.phase n (window_chips form)) at
 
 -- BOUNDS
-bound_more : (form : Form) (k : ℕ) (a b : ℤ) →
-    unsigned_abs a ≤ 65536 * (symbol_chips form * k) →
-    unsigned_abs b ≤ 65536 * symbol_chips form →
-    unsigned_abs (a +ℤ b) ≤ 65536 * (symbol_chips form * (k + 1))
+bound_more : (form : Form) (k : ℕ) (a b : ℤ) → unsigned_abs a ≤ 65536 * (symbol_chips form * k) →
+    unsigned_abs b ≤ 65536 * symbol_chips form → unsigned_abs (a +ℤ b) ≤ 65536 * (symbol_chips form * (k + 1))
 bound_more Sync k a b h g = omega (arith, ints, h, g)
 bound_more Data k a b h g = omega (arith, ints, h, g)
 
@@ -114,14 +101,12 @@ pub sum_fits : (form : Form) (k : ℕ) (a b : ℤ) → k < window_symbols form �
 sum_fits form k a b lt h g = kept_sum_fits a b (parts_small form k a b lt h g)
 
 pub sum_kept : (form : Form) (k : ℕ) (a b : ℤ) → k < window_symbols form →
-    unsigned_abs a ≤ 65536 * (symbol_chips form * k) →
-    unsigned_abs b ≤ 65536 * symbol_chips form →
+    unsigned_abs a ≤ 65536 * (symbol_chips form * k) → unsigned_abs b ≤ 65536 * symbol_chips form →
     to_z w64 (of_z w64 (kept_sum a b)) ≡ a +ℤ b
 sum_kept form k a b lt h g = kept_sum_back a b (parts_small form k a b lt h g)
 
 pub bound_kept : (form : Form) (k : ℕ) (a b : ℤ) → k < window_symbols form →
-    unsigned_abs a ≤ 65536 * (symbol_chips form * k) →
-    unsigned_abs b ≤ 65536 * symbol_chips form →
+    unsigned_abs a ≤ 65536 * (symbol_chips form * k) → unsigned_abs b ≤ 65536 * symbol_chips form →
     unsigned_abs (to_z w64 (of_z w64 (kept_sum a b))) ≤ 65536 * (symbol_chips form * (k + 1))
 bound_kept form k a b lt h g =
     subst (λ (z : ℤ). unsigned_abs z ≤ 65536 * (symbol_chips form * (k + 1)))

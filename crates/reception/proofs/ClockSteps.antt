@@ -9,8 +9,7 @@ use Rattle.rake_finger.proofs.Spans as spans
 
 -- a span begins with the frame before, where that is in the file
 abbrev BeginsSpan : FrameClock → ℕ → Type 0
-BeginsSpan c first =
-    ((c.low < c.next) × (first + 1 ≡ c.next)) ⊎ ((c.next ≤ c.low) × (first ≡ c.next))
+BeginsSpan c first = ((c.low < c.next) × (first + 1 ≡ c.next)) ⊎ ((c.next ≤ c.low) × (first ≡ c.next))
 
 begins_span : (c : FrameClock) → BeginsSpan c (span_from c)
 begins_span c =
@@ -55,8 +54,7 @@ clock_new count s near = record {
 }
 
 starts_before : (form : Form) (first have frame : ℕ) → frame ≤ have →
-    first + frame_chips form * have - frame_chips form * (have - frame)
-    ≡ first + frame_chips form * frame
+    first + frame_chips form * have - frame_chips form * (have - frame) ≡ first + frame_chips form * frame
 starts_before Sync first have frame h = omega arith
 starts_before Data first have frame h = omega arith
 
@@ -118,8 +116,7 @@ module _ {C : Type 0} {count : ℕ} {s : StreamOf C} {c : FrameClock} {n : ℕ} 
       ]
 
   -- where the next frame has ended and isn't due it waits for the one after, which is in the file
-  waiting : ¬ IsDueAt count c → c.next < c.have →
-      (s.waits ≡ true) × (c.have ≤ c.next + 1) × (c.end ≤ count)
+  waiting : ¬ IsDueAt count c → c.next < c.have → (s.waits ≡ true) × (c.have ≤ c.next + 1) × (c.end ≤ count)
   waiting none less =
       elim (cases_Bool s.waits) [
         | inl waits ↦
@@ -151,8 +148,7 @@ module _ {C : Type 0} {count : ℕ} {s : StreamOf C} {c : FrameClock} {n : ℕ} 
             let same : c.have ≡ c.next + 1 = omega (arith, less, fits.1) in
             let end = is.end_is ∙ ap (stream_end s) same in
             let sooner = ends_lt s is.timed c.next (c.next + 1) (omega arith) in
-            let first = inside_from s is.timed c.next r.low_next
-            (omega (arith, sooner, end, fits.2)) in
+            let first = inside_from s is.timed c.next r.low_next (omega (arith, sooner, end, fits.2)) in
             let known = known_more s is.timed c.next fits.0 r.low_next (omega (arith, end, fits.2)) in
             let later = known_le s is.timed c.next k first inside low in
             omega (arith, most, end, known, later)
@@ -262,8 +258,7 @@ module _ {C : Type 0} {count : ℕ} {s : StreamOf C} {c : FrameClock} {n : ℕ} 
   -- where a frame began that has come
   pub start_before : (frame : ℕ) → frame ≤ c.have →
       c.start - frame_chips c.form * (c.have - frame) ≡ frame_start s frame
-  start_before frame h =
-      rw (is.start_is, is.form_is) (starts_before s.form s.first c.have frame h)
+  start_before frame h = rw (is.start_is, is.form_is) (starts_before s.form s.first c.have frame h)
 
   -- the span of a frame that is due
   pub span_is : s.waits ≡ true → IsDueAt count c → (span_from c ≡ span_first count s c.next)
@@ -311,8 +306,7 @@ one_most false = omega arith
 
 -- it ends early
 pub first_end : (form : Form) (first : ℕ) (fingers : List Finger) → AreNear fingers →
-    frame_end fingers form (first + frame_chips form * first_frame fingers first)
-    ≤ first + 2 * frame_chips form + 128
+    frame_end fingers form (first + frame_chips form * first_frame fingers first) ≤ first + 2 * frame_chips form + 128
 first_end form first fingers near =
     let frame : ℕ = first_frame fingers first in
     let bounds = ends_bounds form (first + frame_chips form * frame) fingers near in

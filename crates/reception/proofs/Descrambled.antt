@@ -20,8 +20,7 @@ descrambled_at (b ∷ bits) [] i few many = absurd (omega arith)
 descrambled_at (b ∷ bits) (x ∷ old) zero few many = refl
 descrambled_at (b ∷ bits) (x ∷ old) (suc i) few many =
     let e : suc i + 1 ≡ suc (i + 1) = omega arith in
-    rw e
-    (ap (λ (xs : List ℤ). (sign b *ℤ x) ∷ xs) (descrambled_at bits old i (omega arith) (omega arith)))
+    rw e (ap (λ (xs : List ℤ). (sign b *ℤ x) ∷ xs) (descrambled_at bits old i (omega arith) (omega arith)))
 
 pub descrambled_more : (bits : List Bool) (old now : List ℤ) (i : ℕ) (v : ℤ) → i < length bits →
     i < length old → now ≡ descrambled (take i bits) (take i old) ++ drop i old →

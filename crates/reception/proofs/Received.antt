@@ -21,8 +21,7 @@ none_kept size softs f long =
 -- before any sample is taken
 pub receives_new : {C : Type 0} (count : ℕ) (s : StreamOf C) (c : Continued) → s.waits ≡ true →
     AreNear s.fingers → c.fingers ≡ s.fingers → length c.softs ≡ 1152 →
-    c.clock ≡ clock_from s.fingers s.form s.waits s.first (first_frame s.fingers s.first) →
-    Receives count s c []
+    c.clock ≡ clock_from s.fingers s.form s.waits s.first (first_frame s.fingers s.first) → Receives count s c []
 receives_new count s c waits near fingers long clock = record {
   waits = waits;
   clocked = rw clock (clock_new count s near);
@@ -37,8 +36,7 @@ module _ {C : Type 0} {count : ℕ} {s : StreamOf C} {c : Continued} {heard : Li
     (r : Receives count s c heard) where
   -- more samples, up to the end of the frame that comes next
   pub receives_more : (more : List Sample) → ¬ IsDueAt count c.clock →
-      length heard + length more ≤ count → length heard + length more ≤ c.clock.end →
-      Receives count s c (heard ++ more)
+      length heard + length more ≤ count → length heard + length more ≤ c.clock.end → Receives count s c (heard ++ more)
   receives_more more none within most =
       let is = r.clocked in
       let n : length (heard ++ more) ≡ length heard + length more = length-append heard more in
@@ -61,22 +59,14 @@ module _ {C : Type 0} {count : ℕ} {s : StreamOf C} {c : Continued} {heard : Li
   -- After a frame's soft values came in, the last m frames' are those of the m frames up to this
   -- one: the m - 1 before it were the last ones that stood there, and it comes after them.
   shifted : (fresh : List ℤ) → fresh ≡ frame_softs heard s c.clock.have →
-      length c.softs ≡ 1152 → length fresh ≡ symbols s.form → (m : ℕ) → m ≤ 3 →
-      c.clock.low + m ≤ c.clock.have + 1 →
+      length c.softs ≡ 1152 → length fresh ≡ symbols s.form → (m : ℕ) → m ≤ 3 → c.clock.low + m ≤ c.clock.have + 1 →
       last_softs (symbols s.form) m (drop (symbols s.form) c.softs ++ fresh)
       ≡ flat_map (λ j. frame_softs heard s (c.clock.have + 1 - m + j)) (places m)
   shifted fresh e long many zero few h =
       let size : ℕ = symbols s.form in
       let room = most_symbols s.form in
       let whole : length (drop size c.softs ++ fresh) ≡ 1152 =
-      omega (
-        arith,
-        long,
-        many,
-        room,
-        length-append (drop size c.softs) fresh,
-        length-drop size c.softs,
-      ) in
+      omega (arith, long, many, room, length-append (drop size c.softs) fresh, length-drop size c.softs) in
       none_kept size (drop size c.softs ++ fresh) _ whole
   shifted fresh e long many (suc m) few h =
       let size : ℕ = symbols s.form in
@@ -98,11 +88,9 @@ module _ {C : Type 0} {count : ℕ} {s : StreamOf C} {c : Continued} {heard : Li
 
   -- one frame's soft values more
   pub receives_frame : (fresh : List ℤ) → ¬ IsDueAt count c.clock → c.clock.end ≡ length heard →
-      fresh ≡ frame_softs heard s c.clock.have → length c.softs ≡ 1152 →
-      length fresh ≡ symbols s.form →
+      fresh ≡ frame_softs heard s c.clock.have → length c.softs ≡ 1152 → length fresh ≡ symbols s.form →
       Receives count s
-      (record c { clock = frame_come c.clock; softs = drop (symbols s.form) c.softs ++ fresh })
-      heard
+      (record c { clock = frame_come c.clock; softs = drop (symbols s.form) c.softs ++ fresh }) heard
   receives_frame fresh none ended e long many = record {
     waits = r.waits;
     clocked = clock_come r.clocked none ended;
@@ -125,8 +113,7 @@ module _ {count : ℕ} {s : StreamOf Channel} {c : Continued} {heard : List Samp
   -- the own bits of the frame that is due, as the code cuts its span out
   pub own_bits_are : IsDueAt count c.clock → (frames own kept : ℕ) →
       frames ≡ c.clock.have - span_from c.clock → own ≡ c.clock.next - span_from c.clock →
-      kept ≡ symbols s.form * frames → length c.softs ≡ 1152 →
-      own_bits s.channel frames own
+      kept ≡ symbols s.form * frames → length c.softs ≡ 1152 → own_bits s.channel frames own
       (take (1152 - (1152 - kept)) (drop (1152 - kept) c.softs))
       ≡ own_bits s.channel (span_frames count s c.clock.next)
       (c.clock.next - span_first count s c.clock.next) (span_softs count heard s c.clock.next)
@@ -139,11 +126,9 @@ module _ {count : ℕ} {s : StreamOf Channel} {c : Continued} {heard : List Samp
       let low = bounds.2 is.low_next in
       let had = r.softs_are (c.clock.have - first) (omega (arith, bounds.1, is.have_most))
       (omega (arith, low, order, bounds.0)) in
-      let back : c.clock.have - (c.clock.have - first) ≡ first =
-      omega (arith, bounds.0, order) in
+      let back : c.clock.have - (c.clock.have - first) ≡ first = omega (arith, bounds.0, order) in
       let rest : List ℤ = drop (1152 - kept) c.softs in
       let all : take (1152 - (1152 - kept)) rest ≡ rest =
-      take_all (1152 - (1152 - kept)) rest
-      (omega (arith, length-drop (1152 - kept) c.softs, long)) in
+      take_all (1152 - (1152 - kept)) rest (omega (arith, length-drop (1152 - kept) c.softs, long)) in
       ap (own_bits s.channel frames own) all
       ∙ rw (kept_is, own_is, frames_is, had, back, e.1, e.0) refl

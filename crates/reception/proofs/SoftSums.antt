@@ -4,8 +4,7 @@ use Rattle.reception.proofs.Common.{replicate, length-drop, sum_by, unsigned_abs
 use Rattle.reception.proofs.Common.{sum_by-replicate, symbols, soft_bound, Form, Sync, Data, AreSmall, frame_most, last_softs}
 
 -- a frame over three fingers
-pub frame_small : (form : Form) (fingers : ℕ) → fingers ≤ 3 →
-    fingers * (symbols form * soft_bound form) ≤ frame_most
+pub frame_small : (form : Form) (fingers : ℕ) → fingers ≤ 3 → fingers * (symbols form * soft_bound form) ≤ frame_most
 frame_small Sync fingers few = omega arith
 frame_small Data fingers few = omega arith
 
@@ -23,10 +22,8 @@ frames_fit symbols (suc (suc (suc (suc n)))) few most = absurd (omega arith)
 
 -- ONE FRAME MORE
 -- the last frames, with one frame more after them
-pub last_more : (symbols frames : ℕ) (softs fresh : List ℤ) → length softs ≡ 1152 →
-    symbols * frames + symbols ≤ 1152 →
-    last_softs symbols (suc frames) (drop symbols softs ++ fresh)
-    ≡ last_softs symbols frames softs ++ fresh
+pub last_more : (symbols frames : ℕ) (softs fresh : List ℤ) → length softs ≡ 1152 → symbols * frames + symbols ≤ 1152 →
+    last_softs symbols (suc frames) (drop symbols softs ++ fresh) ≡ last_softs symbols frames softs ++ fresh
 last_more symbols frames softs fresh long room =
     let older : List ℤ = drop symbols softs in
     let left : ℕ = 1152 - symbols - symbols * frames in
@@ -39,8 +36,7 @@ last_more symbols frames softs fresh long room =
     ∙ ap (λ (xs : List ℤ). xs ++ fresh) (drop-drop left symbols softs)
     ∙ ap (λ n. drop n softs ++ fresh) c
 
-last_none : (symbols : ℕ) (softs fresh : List ℤ) → length softs ≡ 1152 →
-    last_softs symbols 0 softs ++ fresh ≡ fresh
+last_none : (symbols : ℕ) (softs fresh : List ℤ) → length softs ≡ 1152 → last_softs symbols 0 softs ++ fresh ≡ fresh
 last_none symbols softs fresh long =
     let none : symbols * 0 ≡ 0 = omega arith in
     let all : 1152 - symbols * 0 ≡ length softs = omega (arith, long, none) in

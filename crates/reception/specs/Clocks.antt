@@ -42,8 +42,7 @@ clock_after_frame c = record c { next = c.next + 1 }
 -- whether the next frame is known: it has come, and where it waits the frame after it has come, or
 -- isn't in the file
 abbrev pub IsDueAt : ℕ → FrameClock → Type 0
-IsDueAt count c =
-    (c.next < c.have) × (c.waits ≡ true → (c.next + 1 < c.have) ⊎ (count < c.end))
+IsDueAt count c = (c.next < c.have) × (c.waits ≡ true → (c.next + 1 < c.have) ⊎ (count < c.end))
 
 -- the first frame of the next one's span: the frame before it, where that is in the file
 abbrev pub span_from : FrameClock → ℕ

@@ -107,14 +107,12 @@ within_step draft k n line more (Some next) is rest fault =
     (omega (arith, there.0), omega (arith, there.1))
 
 -- the fault is at one of the lines, or after the last
-within : (draft : Draft) (k n : ℕ) (ls : List (List ℕ)) → stated draft k ls ≡ Err n →
-    (k ≤ n) × (n ≤ k + length ls)
+within : (draft : Draft) (k n : ℕ) (ls : List (List ℕ)) → stated draft k ls ≡ Err n → (k ≤ n) × (n ≤ k + length ls)
 within draft k n [] fault =
     let here = end_fault (plan_at draft) k n (sym (stated-none draft k) ∙ fault) in
     (omega (arith, here), omega (arith, here))
 within draft k n (line ∷ more) fault =
-    let told = within_step draft k n line more (draft_after draft line) refl
-    (λ s f. within s (k + 1) n more f) fault in
+    let told = within_step draft k n line more (draft_after draft line) refl (λ s f. within s (k + 1) n more f) fault in
     (told.0, omega (arith, told.1))
 
 -- ---- no whole script begins with the lines up to the fault
@@ -132,16 +130,14 @@ same_tail a b ls os e = cc
 -- this line is at fault the other script stops there too, and where it isn't both go on from the
 -- same draft, for which it is known already.
 refuses_step : (draft : Draft) (k j : ℕ) (line other : List ℕ) (more others : List (List ℕ))
-    (next : Option Draft) → draft_after draft line ≡ next →
-    other ≡ line → stated draft k (line ∷ more) ≡ Err (k + j) →
+    (next : Option Draft) → draft_after draft line ≡ next → other ≡ line → stated draft k (line ∷ more) ≡ Err (k + j) →
     IsOk (stated draft k (other ∷ others)) →
     ¬ ((s : Draft) (i : ℕ) → j ≡ suc i → stated s (k + 1) more ≡ Err (k + 1 + i) →
     ¬ IsOk (stated s (k + 1) others))
 refuses_step draft k j line other more others None is same fault ok rest =
     not_ok k (stated-fault draft k other others (ap (draft_after draft) same ∙ is)) ok
 refuses_step draft k zero line other more others (Some next) is same fault ok rest =
-    let there = within next (k + 1) (k + 0) more
-    (sym (stated-next draft next k line more is) ∙ fault) in
+    let there = within next (k + 1) (k + 0) more (sym (stated-next draft next k line more is) ∙ fault) in
     absurd (omega (arith, there.0))
 refuses_step draft k (suc i) line other more others (Some next) is same fault ok rest =
     let number : k + suc i ≡ k + 1 + i = omega arith in
@@ -150,8 +146,7 @@ refuses_step draft k (suc i) line other more others (Some next) is same fault ok
     rest next i refl (sym (stated-next draft next k line more is) ∙ fault ∙ ap Err number) there
 
 refuses : (draft : Draft) (k j : ℕ) (ls os : List (List ℕ)) → stated draft k ls ≡ Err (k + j) →
-    j < length ls → take (suc j) os ≡ take (suc j) ls →
-    ¬ IsOk (stated draft k os)
+    j < length ls → take (suc j) os ≡ take (suc j) ls → ¬ IsOk (stated draft k os)
 refuses draft k j [] os fault inside same ok = absurd (omega (arith, inside))
 refuses draft k j (line ∷ more) [] fault inside same ok = absurd (omega (arith, ap length same))
 refuses draft k j (line ∷ more) (other ∷ others) fault inside same ok =
@@ -189,13 +184,10 @@ stood draft next line true e is = e
 stood draft next line false e is = absurd (cc (draft_after-other draft line e, is))
 
 begun_step : (draft : Draft) (k n m : ℕ) (line : List ℕ) (more : List (List ℕ))
-    (next : Option Draft) → draft_after draft line ≡ next →
-    stated draft k (line ∷ more) ≡ Err n → k + suc m ≤ n →
-    ((s : Draft) → stated s (k + 1) more ≡ Err n → Begun s (k + 1) (take m more)) →
-    Begun draft k (line ∷ take m more)
+    (next : Option Draft) → draft_after draft line ≡ next → stated draft k (line ∷ more) ≡ Err n → k + suc m ≤ n →
+    ((s : Draft) → stated s (k + 1) more ≡ Err n → Begun s (k + 1) (take m more)) → Begun draft k (line ∷ take m more)
 begun_step draft k n m line more None is fault before rest =
-    absurd (omega
-    (arith, err_injective k n (sym (stated-fault draft k line more is) ∙ fault), before))
+    absurd (omega (arith, err_injective k n (sym (stated-fault draft k line more is) ∙ fault), before))
 begun_step draft k n m line more (Some next) is fault before rest =
     let there = rest next (sym (stated-next draft next k line more is) ∙ fault) in
     let ok : IsOk (stated draft k (line ∷ take m more ++ lines there.0)) =
@@ -206,8 +198,7 @@ begun : (draft : Draft) (k n m : ℕ) (ls : List (List ℕ)) → stated draft k 
     Begun draft k (take m ls)
 begun draft k n zero ls fault before = (completion draft.stage, completed draft k, tt)
 begun draft k n (suc m) [] fault before =
-    absurd (omega
-    (arith, end_fault (plan_at draft) k n (sym (stated-none draft k) ∙ fault), before))
+    absurd (omega (arith, end_fault (plan_at draft) k n (sym (stated-none draft k) ∙ fault), before))
 begun draft k n (suc m) (line ∷ more) fault before =
     begun_step draft k n m line more (draft_after draft line) refl fault before
     (λ s f. begun s (k + 1) n m more f (omega (arith, before)))
@@ -217,16 +208,14 @@ begun draft k n (suc m) (line ∷ more) fault before =
 -- Where a script has its fault at line n, no other script with the same first n lines names a plan:
 -- a script is read line by line, and what is read up to a line depends only on the lines up to it.
 pub refused : (script other : List ℕ) (n : ℕ) → stated_plan script ≡ Err n →
-    n ≤ length (lines script) → IsOk (stated_plan other) →
-    take n (lines other) ≢ take n (lines script)
+    n ≤ length (lines script) → IsOk (stated_plan other) → take n (lines other) ≢ take n (lines script)
 refused script other n fault inside ok same =
     let read : stated empty_draft 1 (lines script) ≡ Err n = sym (stated_plan-lines script)
     ∙ fault in
     let least = (within empty_draft 1 n (lines script) read).0 in
     let number : n ≡ 1 + (n - 1) = omega (arith, least) in
     let one_more : n ≡ suc (n - 1) = omega (arith, least) in
-    refuses empty_draft 1 (n - 1) (lines script) (lines other) (read ∙ ap Err number)
-    (omega (arith, least, inside))
+    refuses empty_draft 1 (n - 1) (lines script) (lines other) (read ∙ ap Err number) (omega (arith, least, inside))
     (ap (λ (k : ℕ). take k (lines other)) (sym one_more) ∙ same
     ∙ ap (λ (k : ℕ). take k (lines script)) one_more)
     (rw (sym (stated_plan-lines other)) ok)
@@ -234,15 +223,10 @@ refused script other n fault inside ok same =
 pub missing : (script : List ℕ) (n : ℕ) → stated_plan script ≡ Err n → length (lines script) < n →
     n ≡ length (lines script) + 1
 missing script n fault past =
-    omega (
-      arith,
-      (within empty_draft 1 n (lines script) (sym (stated_plan-lines script) ∙ fault)).1,
-      past,
-    )
+    omega (arith, (within empty_draft 1 n (lines script) (sym (stated_plan-lines script) ∙ fault)).1, past)
 
 pub counted : (script : List ℕ) (n : ℕ) → stated_plan script ≡ Err n → 1 ≤ n
-counted script n fault =
-    (within empty_draft 1 n (lines script) (sym (stated_plan-lines script) ∙ fault)).0
+counted script n fault = (within empty_draft 1 n (lines script) (sym (stated_plan-lines script) ∙ fault)).0
 
 -- Lines that come before the fault are the beginning of some script that names a plan: what they
 -- told so far can be completed from any stage, so the line at fault is the first that no such
@@ -254,11 +238,9 @@ least script n m fault before =
     ∙ fault in
     let some = begun empty_draft 1 n m (lines script) read (omega (arith, before)) in
     let front = take m (lines script) in
-    let split : lines (joined front ++ some.0) ≡ front ++ lines some.0 =
-    lines-joined front some.0 some.2 in
+    let split : lines (joined front ++ some.0) ≡ front ++ lines some.0 = lines-joined front some.0 some.2 in
     let long : length front ≡ m =
-    length-take-le m (lines script)
-    (omega (arith, before, (within empty_draft 1 n (lines script) read).1)) in
+    length-take-le m (lines script) (omega (arith, before, (within empty_draft 1 n (lines script) read).1)) in
     let ok : IsOk (stated_plan (joined front ++ some.0)) =
     rw (stated_plan-lines (joined front ++ some.0) ∙ ap (stated empty_draft 1) split) some.1 in
     (joined front ++ some.0, ok, ap (take m) split ∙ take_at front (lines some.0) m long)
@@ -268,13 +250,11 @@ least script n m fault before =
 abbrev NoLine : Option ScriptFault → Type 0
 NoLine fault = (n : ℕ) → ¬ (fault ≡ Some (Line n))
 
-no_line_if : (b : Bool) (fault other : Option ScriptFault) → NoLine fault → NoLine other →
-    NoLine (cond b fault other)
+no_line_if : (b : Bool) (fault other : Option ScriptFault) → NoLine fault → NoLine other → NoLine (cond b fault other)
 no_line_if true fault other p q = p
 no_line_if false fault other p q = q
 
-no_line_first : (fault later : Option ScriptFault) → NoLine fault → NoLine later →
-    NoLine (option_or fault later)
+no_line_first : (fault later : Option ScriptFault) → NoLine fault → NoLine later → NoLine (option_or fault later)
 no_line_first None later p q = q
 no_line_first (Some fault) later p q = p
 
@@ -306,8 +286,7 @@ plan_no_line : (width : Width) (plan : CellPlan) → NoLine (plan_fault width pl
 plan_no_line width plan =
     no_line_first _ _ (rows_no_line _)
     (no_line_first _ _
-    (no_line_if _ _ _ (gain_no_line 0)
-    (no_line_first _ _ (sync_no_line plan.sync) (gains_no_line _)))
+    (no_line_if _ _ _ (gain_no_line 0) (no_line_first _ _ (sync_no_line plan.sync) (gains_no_line _)))
     (no_line_first _ _ (no_line_if _ _ _ (loud_no_line _) none_no_line)
     (no_line_if _ _ _ (long_no_line _) none_no_line)))
 
@@ -316,34 +295,28 @@ unless_line : (plan : CellPlan) (fault : Option ScriptFault) (n : ℕ) → NoLin
 unless_line plan None n p e = cc
 unless_line plan (Some fault) n p e = p n (cc e)
 
-named_line : (width : Width) (read : Result CellPlan ℕ) (n : ℕ) → named width read ≡ Err (Line n) →
-    read ≡ Err n
+named_line : (width : Width) (read : Result CellPlan ℕ) (n : ℕ) → named width read ≡ Err (Line n) → read ≡ Err n
 named_line width (Err k) n e = cc
-named_line width (Ok plan) n e =
-    absurd (unless_line plan (plan_fault width plan) n (plan_no_line width plan) e)
+named_line width (Ok plan) n e = absurd (unless_line plan (plan_fault width plan) n (plan_no_line width plan) e)
 
 answered : (width : Width) (script : List ℕ) (n : ℕ) (big : Bool) →
     nat_lt 1048576 (length script) ≡ big → plan_named width script ≡ Err (Line n) →
     (length script ≤ 1048576) × (stated_plan script ≡ Err n)
 unfolding plan_named
-answered width script n true is e =
-    absurd (cc (cond-true _ (Err TooBig) (named width (stated_plan script)) is, e))
+answered width script n true is e = absurd (cc (cond-true _ (Err TooBig) (named width (stated_plan script)) is, e))
 answered width script n false is e = (
   ltb-false 1048576 (length script) is,
   named_line width (stated_plan script) n
       (sym (cond-false _ (Err TooBig) (named width (stated_plan script)) is) ∙ e),
 )
 
-answers : (width : Width) (script : List ℕ) (n : ℕ) →
-    (length script ≤ 1048576) × (stated_plan script ≡ Err n) →
+answers : (width : Width) (script : List ℕ) (n : ℕ) → (length script ≤ 1048576) × (stated_plan script ≡ Err n) →
     plan_named width script ≡ Err (Line n)
 unfolding plan_named
 answers width script n fault =
     cond-false _ (Err TooBig) (named width (stated_plan script))
     (le-ltb 1048576 (length script) fault.0) ∙ ap (named width) fault.1
 
-pub line_answer : (width : Width) (script : List ℕ) (n : ℕ) →
-    (plan_named width script ≡ Err (Line n)) ↔
+pub line_answer : (width : Width) (script : List ℕ) (n : ℕ) → (plan_named width script ≡ Err (Line n)) ↔
     ((length script ≤ 1048576) × (stated_plan script ≡ Err n))
-line_answer width script n =
-    (answered width script n (nat_lt 1048576 (length script)) refl, answers width script n)
+line_answer width script n = (answered width script n (nat_lt 1048576 (length script)) refl, answers width script n)

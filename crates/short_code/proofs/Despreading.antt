@@ -22,18 +22,14 @@ despread-append (x ∷ xs) ys phase =
 pub turned_is : (s : Sample) (signs : ℤ × ℤ) (i q : ℤ) → i ≡ (s.i *ℤ signs.0) +ℤ (s.q *ℤ signs.1) →
     q ≡ (s.q *ℤ signs.0) -ℤ (s.i *ℤ signs.1) →
     ◌≡◌ {A = Pair} record { i = i; q = q } (turned s signs)
-turned_is s signs i q e f =
-    rw (e ∙ real_part s.i s.q signs.0 signs.1, f ∙ imaginary_part s.i s.q signs.0 signs.1)
+turned_is s signs i q e f = rw (e ∙ real_part s.i s.q signs.0 signs.1, f ∙ imaginary_part s.i s.q signs.0 signs.1)
 
 -- a branch times a sign, both as their bits hold them
 pub branch_is : (branch sign made : ℤ) → FitsSigned w16 branch → unsigned_abs sign ≤ 1 →
     made ≡ to_z w16 (of_z w16 branch) *ℤ to_z w8 (of_z w8 sign) → made ≡ branch *ℤ sign
 branch_is branch sign made fits unit is =
     is
-    ∙ rw (
-      to_z-of_z w16 branch fits,
-      to_z-of_z w8 sign (fits_signed_from_abs w8 sign (omega (arith, unit))),
-    )
+    ∙ rw (to_z-of_z w16 branch fits, to_z-of_z w8 sign (fits_signed_from_abs w8 sign (omega (arith, unit))))
     refl
 
 -- a branch comes back from 32 bits, and a sign makes it no larger
@@ -51,8 +47,7 @@ branch_most branch sign fits unit =
 
 -- the product, as 32 bits hold both
 pub branch_kept : (branch sign wide_branch wide_sign : ℤ) → FitsSigned w16 branch →
-    unsigned_abs sign ≤ 1 → wide_branch ≡ to_z w16 (of_z w16 branch) →
-    wide_sign ≡ to_z w8 (of_z w8 sign) →
+    unsigned_abs sign ≤ 1 → wide_branch ≡ to_z w16 (of_z w16 branch) → wide_sign ≡ to_z w8 (of_z w8 sign) →
     to_z w32 (of_z w32 (to_z w32 (of_z w32 wide_branch) *ℤ to_z w32 (of_z w32 wide_sign))) ≡ branch *ℤ sign
 branch_kept branch sign wide_branch wide_sign fits unit b s =
     rw (
@@ -64,22 +59,17 @@ branch_kept branch sign wide_branch wide_sign fits unit b s =
     (kept_branch (branch *ℤ sign) (branch_most branch sign fits unit))
 
 -- the sum or the difference of two turned branches, made with 32 bits and kept with 64
-kept_wide : (x made : ℤ) → unsigned_abs x ≤ 65536 → made ≡ to_z w32 (of_z w32 x) →
-    to_z w64 (of_z w64 made) ≡ x
+kept_wide : (x made : ℤ) → unsigned_abs x ≤ 65536 → made ≡ to_z w32 (of_z w32 x) → to_z w64 (of_z w64 made) ≡ x
 kept_wide x made small is =
     rw (is ∙ to_z-of_z w32 x (fits_signed_from_abs w32 x (omega (arith, small))))
     (to_z-of_z w64 x (fits_signed_from_abs w64 x (omega (arith, small))))
 
 pub branches_added : (x y made : ℤ) → unsigned_abs x ≤ 32768 → unsigned_abs y ≤ 32768 →
-    made ≡ to_z w32 (of_z w32 (to_z w32 (of_z w32 x) +ℤ to_z w32 (of_z w32 y))) →
-    to_z w64 (of_z w64 made) ≡ x +ℤ y
+    made ≡ to_z w32 (of_z w32 (to_z w32 (of_z w32 x) +ℤ to_z w32 (of_z w32 y))) → to_z w64 (of_z w64 made) ≡ x +ℤ y
 branches_added x y made h g is =
-    kept_wide (x +ℤ y) made (omega (arith, h, g, abs_sum x y))
-    (rw (kept_branch x h, kept_branch y g) at is)
+    kept_wide (x +ℤ y) made (omega (arith, h, g, abs_sum x y)) (rw (kept_branch x h, kept_branch y g) at is)
 
 pub branches_taken : (x y made : ℤ) → unsigned_abs x ≤ 32768 → unsigned_abs y ≤ 32768 →
-    made ≡ to_z w32 (of_z w32 (to_z w32 (of_z w32 x) -ℤ to_z w32 (of_z w32 y))) →
-    to_z w64 (of_z w64 made) ≡ x -ℤ y
+    made ≡ to_z w32 (of_z w32 (to_z w32 (of_z w32 x) -ℤ to_z w32 (of_z w32 y))) → to_z w64 (of_z w64 made) ≡ x -ℤ y
 branches_taken x y made h g is =
-    kept_wide (x -ℤ y) made (omega (arith, h, g, abs_difference x y))
-    (rw (kept_branch x h, kept_branch y g) at is)
+    kept_wide (x -ℤ y) made (omega (arith, h, g, abs_difference x y)) (rw (kept_branch x h, kept_branch y g) at is)

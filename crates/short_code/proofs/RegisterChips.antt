@@ -26,16 +26,12 @@ Holds-more r before b h = record { small = omega arith; chips = shifted_chips r 
 -- chip 0, with zeros before it
 pub Holds-start : Holds 1 (true ∷ [])
 Holds-start =
-    let none : Holds 0 [] = record {
-      small = omega arith;
-      chips = λ k lt. ap (λ n. nat_eq n 1) (bit_at-zero k);
-    } in
+    let none : Holds 0 [] = record { small = omega arith; chips = λ k lt. ap (λ n. nat_eq n 1) (bit_at-zero k) } in
     Holds-more 0 [] true none
 
 -- the register's chips at places within it
 pub map_places : (r : ℕ) (before : List Bool) (at : List ℕ) → Holds r before →
-    ((k d : ℕ) → k < length at → get_or at k d < 15) →
-    map (bit_of r) at ≡ map (λ k. get_or before k false) at
+    ((k d : ℕ) → k < length at → get_or at k d < 15) → map (bit_of r) at ≡ map (λ k. get_or before k false) at
 map_places r before [] h all = refl
 map_places r before (k ∷ ks) h all =
     let here : bit_of r k ≡ get_or before k false = h.chips k (all 0 0 (omega arith)) in

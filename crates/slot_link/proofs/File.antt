@@ -42,8 +42,7 @@ use Rattle.frame_decoder.specs.declared.span_format.FrameKind.TheVariants as kin
 
 -- the codeword of a span has the span's length
 codeword_allowed : (c : Channel) (bits_of : ℕ → List Bool) (first frames : ℕ) → 8 ≤ c.bits →
-    ((k : ℕ) → length (bits_of k) ≡ c.bits) →
-    IsAllowed Free (c.bits * frames) (span_codeword bits_of first frames)
+    ((k : ℕ) → length (bits_of k) ≡ c.bits) → IsAllowed Free (c.bits * frames) (span_codeword bits_of first frames)
 codeword_allowed c bits_of first frames enough each = record {
   start_long = length-before bits_of c.bits first enough each;
   bits_long = length-frames (λ j. bits_of (first + j)) c.bits frames (λ j. each (first + j));
@@ -63,16 +62,14 @@ signed_spans_back c symbols bits_of first frames own softs whole each inside hav
 
 -- ---- parts of soft values have the signs of parts of the symbols
 
-signs-take : (n : ℕ) (bits : List Bool) (zs : List ℤ) → HaveSigns bits zs →
-    HaveSigns (take n bits) (take n zs)
+signs-take : (n : ℕ) (bits : List Bool) (zs : List ℤ) → HaveSigns bits zs → HaveSigns (take n bits) (take n zs)
 signs-take zero bits zs have = tt
 signs-take (suc n) [] [] have = tt
 signs-take (suc n) [] (z ∷ zs) have = absurd have
 signs-take (suc n) (b ∷ bits) [] have = absurd have
 signs-take (suc n) (b ∷ bits) (z ∷ zs) have = (have.0, signs-take n bits zs have.1)
 
-signs-drop : (n : ℕ) (bits : List Bool) (zs : List ℤ) → HaveSigns bits zs →
-    HaveSigns (drop n bits) (drop n zs)
+signs-drop : (n : ℕ) (bits : List Bool) (zs : List ℤ) → HaveSigns bits zs → HaveSigns (drop n bits) (drop n zs)
 signs-drop zero bits zs have = have
 signs-drop (suc n) [] [] have = tt
 signs-drop (suc n) [] (z ∷ zs) have = absurd have
@@ -82,10 +79,8 @@ signs-drop (suc n) (b ∷ bits) (z ∷ zs) have = signs-drop n bits zs have.1
 -- ---- a slot
 
 -- n frames after the first a of them
-frames_within : {A : Type 0} (f : ℕ → List A) (size a n b : ℕ) →
-    ((k : ℕ) → length (f k) ≡ size) →
-    take (size * n) (drop (size * a) (flat_map f (places (a + (n + b))))) ≡
-    flat_map (λ j. f (a + j)) (places n)
+frames_within : {A : Type 0} (f : ℕ → List A) (size a n b : ℕ) → ((k : ℕ) → length (f k) ≡ size) →
+    take (size * n) (drop (size * a) (flat_map f (places (a + (n + b))))) ≡ flat_map (λ j. f (a + j)) (places n)
 frames_within {A} f size a n b each =
     let front = flat_map f (places a) in
     let own = flat_map (λ j. f (a + j)) (places n) in
@@ -94,8 +89,7 @@ frames_within {A} f size a n b each =
     (flat_map-add f a (n + b)
     ∙ ap (λ (xs : List A). front ++ xs) (flat_map-add (λ j. f (a + j)) n b))
     ∙ ap (take (size * n)) (drop_at front (own ++ rest) (size * a) (length-frames f size a each))
-    ∙ take_at own rest (size * n)
-    (length-frames (λ j. f (a + j)) size n (λ j. each (a + j)))
+    ∙ take_at own rest (size * n) (length-frames (λ j. f (a + j)) size n (λ j. each (a + j)))
 
 module _ (rate : Rate) (bits_of : ℕ → List Bool) (first : ℕ) (softs : List ℤ)
     (each : (k : ℕ) → length (bits_of k) ≡ (paging_channel rate).bits)
@@ -122,8 +116,7 @@ module _ (rate : Rate) (bits_of : ℕ → List Bool) (first : ℕ) (softs : List
 
   -- a frame of the slot, by the span of these
   frame_of_span : (a n b own : ℕ) → a + (n + b) ≡ 4 → own < n →
-      own_bits (paging_channel rate) n own (take (384 * n) (drop (384 * a) softs))
-      ≡ bits_of (first + (a + own))
+      own_bits (paging_channel rate) n own (take (384 * n) (drop (384 * a) softs)) ≡ bits_of (first + (a + own))
   frame_of_span a n b own all inside =
       let part = take (384 * n) (drop (384 * a) softs) in
       let whole = sent_in_span (paging_channel rate) bits_of first 4 in
@@ -131,8 +124,7 @@ module _ (rate : Rate) (bits_of : ℕ → List Bool) (first : ℕ) (softs : List
       signed_spans_back (paging_channel rate) 384 bits_of (first + a) n own part
       (whole_frames (kinds.Paging rate)) each inside
       (subst (λ (xs : List Bool). HaveSigns xs part) (span_order a n b all)
-      (signs-take (384 * n) (drop (384 * a) whole) (drop (384 * a) softs)
-      (signs-drop (384 * a) whole softs have)))
+      (signs-take (384 * n) (drop (384 * a) whole) (drop (384 * a) softs) (signs-drop (384 * a) whole softs have)))
       ∙ ap bits_of place
 
   frame_of_four : (k : ℕ) → k < 4 → slot_frame_bits rate softs k ≡ bits_of (first + k)
@@ -161,8 +153,7 @@ capsules_of_frames size own zero =
 capsules_of_frames size own (suc n) =
     ap (capsules_in size) (flat_map-next own n)
     ∙ ended_by-append size [] (flat_map own (places n)) (own n)
-    ∙ ap (λ (l : List (List Bool)). l ++ frame_capsules size own n)
-    (capsules_of_frames size own n)
+    ∙ ap (λ (l : List (List Bool)). l ++ frame_capsules size own n) (capsules_of_frames size own n)
     ∙ sym (flat_map-next (frame_capsules size own) n)
 
 -- ---- their messages
@@ -195,8 +186,7 @@ abbrev message_told : Option ReadPage → List PagingMessage
 message_told None = []
 message_told (Some page) = page.message ∷ []
 
-told_is : (c : List Bool) (o : Option PagingMessage) →
-    message_told (as_spelled_page c o) ≡ option_to_list o
+told_is : (c : List Bool) (o : Option PagingMessage) → message_told (as_spelled_page c o) ≡ option_to_list o
 told_is c None = refl
 told_is c (Some m) = refl
 
@@ -225,12 +215,10 @@ slot_pages_back rate form pages first whole =
     let kept : ℕ → Placed → Bool = λ r. is_between (2 * first) (2 * (first + 4)) (cycle * r) in
     let sendings : ℕ → List (ℕ × List Bool) = λ r.
     map (sending_of form first (cycle * r)) (filter (kept r) laid) in
-    let room : 1 * rounds ≤ cycle * rounds =
-    mul-le-mul_right rounds (cycle_some rate form pages whole) in
+    let room : 1 * rounds ≤ cycle * rounds = mul-le-mul_right rounds (cycle_some rate form pages whole) in
     let large = size_large rate in
     pages_of_frames form rate own 4
-    ∙ ap (flat_map (messages_with form))
-    (page_sendings_back rate form pages first 4 rounds whole (omega (arith, room)))
+    ∙ ap (flat_map (messages_with form)) (page_sendings_back rate form pages first 4 rounds whole (omega (arith, room)))
     ∙ flat_map-flat_map (messages_with form) sendings (places rounds)
     ∙ flat_map_ext_places (λ r. flat_map (messages_with form) (sendings r))
     (λ r. round_in_slot first (cycle * r) laid) rounds
@@ -250,8 +238,7 @@ module _ (width : Width) (plan : CellPlan) (p : PagingPlan) (t : Tuning)
       is_in_file t.count (streams.paging_stream t p.number m) (4 * i + k) ≡ true
   there i k inside low =
       let place = is.cell.marked.place in
-      paging_file_from t p.number m is.tuned.alone (4 * i + k)
-      (omega (arith, inside, low, place, is.tuned.count))
+      paging_file_from t p.number m is.tuned.alone (4 * i + k) (omega (arith, inside, low, place, is.tuned.count))
 
   -- So where their soft values have the signs of what is sent, the pages come back.
   pub slot_back : (samples : List Sample) (i : ℕ) → i < slots_to_end plan superframes →
@@ -268,8 +255,7 @@ module _ (width : Width) (plan : CellPlan) (p : PagingPlan) (t : Tuning)
       (slot_bits (streams.paging_rate m.prat) (slot_softs samples s i))) is.tuned.checks_of_30
       ∙ ap (slot_pages form (streams.paging_rate m.prat))
       (signed_slot_bits_back (streams.paging_rate m.prat) bits_of first (slot_softs samples s i) read.each
-      (zipped_frames HasSign (λ k. order_of s bits_of (first + k))
-      (λ k. frame_softs samples s (4 * i + k)) 4
+      (zipped_frames HasSign (λ k. order_of s bits_of (first + k)) (λ k. frame_softs samples s (4 * i + k)) 4
       (λ k low.
       let same : 4 * superframes + (4 * i + k) ≡ first + k = omega arith in
       subst (λ (n : ℕ). HaveSigns (order_of s bits_of n) (frame_softs samples s (4 * i + k))) same
@@ -277,12 +263,10 @@ module _ (width : Width) (plan : CellPlan) (p : PagingPlan) (t : Tuning)
       (subst (PagingFrameHasSigns plan p samples) (sym same) (signs k low)) (there i k inside low)))))
       ∙ ap (λ (r : Rate). slot_pages form r (bits_in_slot bits_of first)) same_rate
       ∙ slot_pages_back rate form p.pages first
-      (stated_pages rate p
-      (All-contains (IsStatedPaging rate) plan.paging p is.receivable.pages is.sent))
+      (stated_pages rate p (All-contains (IsStatedPaging rate) plan.paging p is.receivable.pages is.sent))
 
 pub slots_back : SlotsComeBack
-slots_back width plan p t m superframes i samples is =
-    slot_back width plan p t m superframes is samples i
+slots_back width plan p t m superframes i samples is = slot_back width plan p t m superframes is samples i
 
 -- ---- the slots in the file
 
@@ -298,10 +282,8 @@ module _ (plan : CellPlan) (t : Tuning) (number : ℕ) (m : Mark) (superframes :
       record { phase = same.phase; row = same.row; fingers = same.fingers }
 
   -- each of their frames ends so many samples after the mark
-  end_is : (slot i : ℕ) →
-      frame_of_slot_end stream slot i ≡ m.sample + 24576 * (4 * slot + i + 1)
-  end_is slot i =
-      known_at_once t.count stream (frame_of_slot slot i) alone refl ∙ omega arith
+  end_is : (slot i : ℕ) → frame_of_slot_end stream slot i ≡ m.sample + 24576 * (4 * slot + i + 1)
+  end_is slot i = known_at_once t.count stream (frame_of_slot slot i) alone refl ∙ omega arith
 
   -- whether a frame lies in the file and ends within it
   abbrev is_there : ℕ → ℕ → Bool
@@ -309,12 +291,10 @@ module _ (plan : CellPlan) (t : Tuning) (number : ℕ) (m : Mark) (superframes :
       is_in_file t.count stream (frame_of_slot slot i)
       && nat_le (frame_of_slot_end stream slot i) (length samples)
 
-  frame_there : (slot i : ℕ) → slot < slots_to_end plan superframes → i < 4 →
-      is_there slot i ≡ true
+  frame_there : (slot i : ℕ) → slot < slots_to_end plan superframes → i < 4 → is_there slot i ≡ true
   frame_there slot i inside low =
       let place = marked.place in
-      let room : m.sample + 24576 * (4 * slot + i + 1) ≤ plan.link.samples =
-      omega (arith, inside, low, place) in
+      let room : m.sample + 24576 * (4 * slot + i + 1) ≤ plan.link.samples = omega (arith, inside, low, place) in
       and_from (is_in_file t.count stream (frame_of_slot slot i))
       (nat_le (frame_of_slot_end stream slot i) (length samples))
       (paging_file_from t number m tuned.alone (frame_of_slot slot i)
@@ -365,8 +345,7 @@ module _ (plan : CellPlan) (t : Tuning) (number : ℕ) (m : Mark) (superframes :
         heard slot ≡ is_monitored (plan.cell.time + (superframes + slot)) key cycle
     heard_low low slot inside =
         let monitored = is_monitored (plan.cell.time + (superframes + slot)) key cycle in
-        let time : m.time + slot ≡ plan.cell.time + (superframes + slot) =
-        omega (arith, marked.time) in
+        let time : m.time + slot ≡ plan.cell.time + (superframes + slot) = omega (arith, marked.time) in
         rw (low, slot_within slot inside, time, and-true monitored, and-true monitored) refl
 
     heard_high : nat_lt m.prat 2 ≡ false → (slot : ℕ) → heard slot ≡ false
@@ -379,14 +358,12 @@ module _ (plan : CellPlan) (t : Tuning) (number : ℕ) (m : Mark) (superframes :
         let place = marked.place in
         filter_enough heard (slot_bound (length samples)) (slots_to_end plan superframes)
         (λ slot past. heard_past slot (omega (arith, past, place, long))) heard_past
-        ∙ filter_ext_places heard
-        (λ i. is_monitored (plan.cell.time + (superframes + i)) key cycle)
+        ∙ filter_ext_places heard (λ i. is_monitored (plan.cell.time + (superframes + i)) key cycle)
         (slots_to_end plan superframes) (λ slot inside. heard_low low slot inside)
 
     slots_high : nat_lt m.prat 2 ≡ false → filter heard (places (slot_bound (length samples))) ≡ []
     slots_high high =
-        filter_none_places heard (slot_bound (length samples))
-        (λ slot below. heard_high high slot)
+        filter_none_places heard (slot_bound (length samples)) (λ slot below. heard_high high slot)
 
 -- ---- their lines
 
@@ -400,15 +377,13 @@ module _ (width : Width) (plan : CellPlan) (p : PagingPlan) (t : Tuning)
       sent_slot plan p (superframes + slot)
   lines_back slot inside =
       let s = channel_stream t (Paging p.number) m in
-      let pages = pages_in_slot (sent_paging_rate plan.sync) plan.cell.check30 p.pages
-      (4 * (superframes + slot)) in
+      let pages = pages_in_slot (sent_paging_rate plan.sync) plan.cell.check30 p.pages (4 * (superframes + slot)) in
       let marked = is.cell.marked in
       let place = marked.place in
       let ends : frame_of_slot_end s slot 3 ≡
       98304 * (superframes + slot + 1) - plan.link.start =
       omega (arith, place, end_is plan t p.number m superframes is.tuned marked samples long slot 3) in
-      let time : m.time + slot ≡ plan.cell.time + (superframes + slot) =
-      omega (arith, marked.time) in
+      let time : m.time + slot ≡ plan.cell.time + (superframes + slot) = omega (arith, marked.time) in
       ap (slot_lines (frame_of_slot_end s slot 3) (m.time + slot))
       (slot_back width plan p t m superframes is samples slot inside
       (λ k low.
@@ -419,33 +394,26 @@ module _ (width : Width) (plan : CellPlan) (p : PagingPlan) (t : Tuning)
       time
 
   -- so is the whole text, at either rate of a paging channel, and none at another one
-  text_low : (key cycle : ℕ) → nat_lt m.prat 2 ≡ true →
-      lines_by_times key cycle t p.number m samples ≡
+  text_low : (key cycle : ℕ) → nat_lt m.prat 2 ≡ true → lines_by_times key cycle t p.number m samples ≡
       slots_after_mark key cycle plan p (Some superframes)
   text_low key cycle low =
       let lines = lines_of_slot t.check30 m samples (channel_stream t (Paging p.number) m) in
-      ap (flat_map lines)
-      (slots_low plan t p.number m superframes is.tuned is.cell.marked samples long key cycle low)
-      ∙ flat_map_ext_filter_places
-      (λ i. is_monitored (plan.cell.time + (superframes + i)) key cycle) lines
+      ap (flat_map lines) (slots_low plan t p.number m superframes is.tuned is.cell.marked samples long key cycle low)
+      ∙ flat_map_ext_filter_places (λ i. is_monitored (plan.cell.time + (superframes + i)) key cycle) lines
       (λ i. sent_slot plan p (superframes + i)) (slots_to_end plan superframes)
       (λ slot inside kept. lines_back slot inside)
 
-  text_high : (key cycle : ℕ) → nat_lt m.prat 2 ≡ false →
-      lines_by_times key cycle t p.number m samples ≡ []
+  text_high : (key cycle : ℕ) → nat_lt m.prat 2 ≡ false → lines_by_times key cycle t p.number m samples ≡ []
   text_high key cycle high =
-      ap
-      (flat_map (lines_of_slot t.check30 m samples (channel_stream t (Paging p.number) m)))
+      ap (flat_map (lines_of_slot t.check30 m samples (channel_stream t (Paging p.number) m)))
       (slots_high plan t p.number m superframes is.tuned is.cell.marked samples long key cycle high)
 
   text_back : (key cycle : ℕ) (at : Option ℕ) → at ≡ Some superframes →
       lines_by_times key cycle t p.number m samples ≡ slots_after key cycle plan p at plan.sync
   text_back key cycle at told =
       let sync = is.cell.sync in
-      let same : nat_lt m.prat 2 ≡ nat_lt sync.message.prat 2 =
-      ap (λ (n : ℕ). nat_lt n 2) is.cell.rate in
-      let text : Bool → List ℕ =
-      λ rated. if rated then slots_after_mark key cycle plan p (Some superframes) else [] in
+      let same : nat_lt m.prat 2 ≡ nat_lt sync.message.prat 2 = ap (λ (n : ℕ). nat_lt n 2) is.cell.rate in
+      let text : Bool → List ℕ = λ rated. if rated then slots_after_mark key cycle plan p (Some superframes) else [] in
       let sent : slots_after key cycle plan p at plan.sync ≡ text (nat_lt sync.message.prat 2) =
       ap (slots_after key cycle plan p at) is.cell.sends
       ∙ ap (λ (o : Option ℕ). slots_after key cycle plan p o (Some sync)) told in

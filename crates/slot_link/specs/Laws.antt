@@ -80,8 +80,7 @@ slots_after key cycle plan p at (Some sync) =
 -- What is written for the handset of a key that monitors one of the cell's paging channels in a
 -- cycle: the first whole transmission of the sync channel tells the mark.
 unfoldable pub slots_sent : ℕ → ℕ → CellPlan → PagingPlan → List ℕ
-slots_sent key cycle plan p =
-    slots_after key cycle plan p (told_with_sync plan plan.sync) plan.sync
+slots_sent key cycle plan p = slots_after key cycle plan p (told_with_sync plan plan.sync) plan.sync
 
 -- ---- frames
 

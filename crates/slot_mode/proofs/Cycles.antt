@@ -14,12 +14,10 @@ has_slots cycle = let some = pow_pos cycle in omega (arith, some)
 -- whole cycles later
 pub comes_again : ComesAgain
 comes_again time key cycle count =
-    ap (λ (r : ℕ). nat_eq r (slot_of key % slot_period cycle))
-    (add-mul-mod_self_right time count (slot_period cycle))
+    ap (λ (r : ℕ). nat_eq r (slot_of key % slot_period cycle)) (add-mul-mod_self_right time count (slot_period cycle))
 
 -- from a time, whose remainder is a, up to the remainder r in the cycle after its own
-to_remainder : (from p r a q : ℕ) → p * q + a ≡ from → a < p →
-    from + (r + p - a) ≡ r + (q + 1) * p
+to_remainder : (from p r a q : ℕ) → p * q + a ≡ from → a < p → from + (r + p - a) ≡ r + (q + 1) * p
 to_remainder from p r a q parts low =
     let out : (q + 1) * p ≡ p * q + p = omega arith in
     omega (arith, parts, low, out)
@@ -28,8 +26,7 @@ to_remainder from p r a q parts low =
 has_remainder : (from p r : ℕ) → 0 < p → r < p → (from + (r + p - from % p) % p) % p ≡ r
 has_remainder from p r some below =
     add-mod-mod from (r + p - from % p) p
-    ∙ ap (λ (n : ℕ). n % p)
-    (to_remainder from p r (from % p) (from / p) (div-add-mod from p) (mod_below from p some))
+    ∙ ap (λ (n : ℕ). n % p) (to_remainder from p r (from % p) (from / p) (div-add-mod from p) (mod_below from p some))
     ∙ add-mul-mod_self_right r (from / p + 1) p
     ∙ mod-eq_of_lt below
 
@@ -61,22 +58,19 @@ no_greater p a b r near =
     ]
 
 -- and two that are less than p apart either way are one
-same_quotients : (p a b r s : ℕ) → r ≡ s → p * a + r < p * b + s + p →
-    p * b + s < p * a + r + p → a ≡ b
+same_quotients : (p a b r s : ℕ) → r ≡ s → p * a + r < p * b + s + p → p * b + s < p * a + r + p → a ≡ b
 same_quotients p a b r s same near close =
     let few = no_greater p a b r (omega (arith, near, same)) in
     let more = no_greater p b a r (omega (arith, close, same)) in
     omega (arith, few, more)
 
 -- of p times in a row two of one remainder are one
-same_in_row : (from p x y : ℕ) → from ≤ x → x < from + p → from ≤ y → y < from + p →
-    x % p ≡ y % p → x ≡ y
+same_in_row : (from p x y : ℕ) → from ≤ x → x < from + p → from ≤ y → y < from + p → x % p ≡ y % p → x ≡ y
 same_in_row from p x y first last first' last' same =
     let whole = div-add-mod x p in
     let whole' = div-add-mod y p in
     let quotients : x / p ≡ y / p =
-    same_quotients p (x / p) (y / p) (x % p) (y % p) same
-    (omega (arith, whole, whole', last, first'))
+    same_quotients p (x / p) (y / p) (x % p) (y % p) same (omega (arith, whole, whole', last, first'))
     (omega (arith, whole, whole', last', first)) in
     sym whole ∙ ap (λ (q : ℕ). p * q + x % p) quotients
     ∙ ap (λ (r : ℕ). p * (y / p) + r) same ∙ whole'
@@ -91,8 +85,7 @@ comes_once from key cycle time first last is =
 
 -- a longer cycle is whole shorter ones
 longer : (cycle more : ℕ) → slot_period (cycle + more) ≡ slot_period cycle * 2 ^ more
-longer cycle more =
-    ap (λ (n : ℕ). 16 * n) (pow-add 2 cycle more) ∙ sym (mul_assoc 16 (2 ^ cycle) (2 ^ more))
+longer cycle more = ap (λ (n : ℕ). 16 * n) (pow-add 2 cycle more) ∙ sym (mul_assoc 16 (2 ^ cycle) (2 ^ more))
 
 -- what is equal modulo whole cycles is modulo one
 shorter : (p k m x y : ℕ) → m ≡ p * k → x % m ≡ y % m → x % p ≡ y % p

@@ -7,12 +7,10 @@ use Rattle.slot_mode.specs.Laws.{IsHeardAsEver}
 
 -- a part of the soft values of a slot, wherever the slot lies
 part : (from count : ℕ) (before softs following : List ℤ) → from + count ≤ length softs →
-    take count (drop (length before + from) (before ++ softs ++ following))
-    ≡ take count (drop from softs)
+    take count (drop (length before + from) (before ++ softs ++ following)) ≡ take count (drop from softs)
 part from count before softs following room =
     let rest = length-drop from softs in
-    ap (λ (xs : List ℤ). take count (drop (length before + from) xs))
-    (append_assoc before softs following)
+    ap (λ (xs : List ℤ). take count (drop (length before + from) xs)) (append_assoc before softs following)
     ∙ ap (take count) (drop-append-add before (softs ++ following) from)
     ∙ ap (take count) (drop-append-le from softs following (omega (arith, room)))
     ∙ take-append-le count (drop from softs) following (omega (arith, room, rest))
@@ -20,10 +18,7 @@ part from count before softs following room =
 pub heard_as_ever : IsHeardAsEver
 heard_as_ever rate before softs following zero long low high = absurd (omega (arith, low))
 heard_as_ever rate before softs following (suc zero) long low high =
-    ap (own_bits (paging_channel rate) 3 1)
-    (sym (part 0 1152 before softs following (omega (arith, long))))
+    ap (own_bits (paging_channel rate) 3 1) (sym (part 0 1152 before softs following (omega (arith, long))))
 heard_as_ever rate before softs following (suc (suc zero)) long low high =
-    ap (own_bits (paging_channel rate) 3 1)
-    (sym (part 384 1152 before softs following (omega (arith, long))))
-heard_as_ever rate before softs following (suc (suc (suc n))) long low high =
-    absurd (omega (arith, high))
+    ap (own_bits (paging_channel rate) 3 1) (sym (part 384 1152 before softs following (omega (arith, long))))
+heard_as_ever rate before softs following (suc (suc (suc n))) long low high = absurd (omega (arith, high))

@@ -14,8 +14,7 @@ ComesAgain =
 
 -- of as many times in a row as the cycle has slots, the next monitored one is one
 abbrev pub ComesInTime : Type 0
-ComesInTime =
-    (from key cycle : ℕ) → let next = next_monitored from key cycle in
+ComesInTime = (from key cycle : ℕ) → let next = next_monitored from key cycle in
     (from ≤ next) × (next < from + slot_period cycle) × IsTrue (is_monitored next key cycle)
 
 -- and the only one

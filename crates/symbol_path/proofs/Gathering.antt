@@ -26,14 +26,12 @@ part_split f key n c =
     ∙ total-append (map f (filter test (places n))) (map f (cond (key n == c) (n ∷ []) []))
 
 -- one number more
-pub part_here : (f : ℕ → ℤ) (key : ℕ → ℕ) (n c : ℕ) → key n ≡ c →
-    part f key (n + 1) c ≡ part f key n c +ℤ f n
+pub part_here : (f : ℕ → ℤ) (key : ℕ → ℕ) (n c : ℕ) → key n ≡ c → part f key (n + 1) c ≡ part f key n c +ℤ f n
 part_here f key n c e =
     let yes = eq-eqb (key n) c e in
     part_split f key n c ∙ rw yes (omega (arith, ints))
 
-pub part_other : (f : ℕ → ℤ) (key : ℕ → ℕ) (n c : ℕ) → c ≢ key n →
-    part f key (n + 1) c ≡ part f key n c
+pub part_other : (f : ℕ → ℤ) (key : ℕ → ℕ) (n c : ℕ) → c ≢ key n → part f key (n + 1) c ≡ part f key n c
 part_other f key n c ne =
     let other = ne_eqb (key n) c (λ e. ne (sym e)) in
     part_split f key n c ∙ rw other (omega (arith, ints))
@@ -41,8 +39,7 @@ part_other f key n c ne =
 -- one turn of the loop, for each sum
 pub part_more : (f : ℕ → ℤ) (key : ℕ → ℕ) (n : ℕ) (sums : List ℤ) → key n < length sums →
     ((c : ℕ) → get_or sums c (pos 0) ≡ part f key n c) →
-    (c : ℕ) → get_or (set sums (key n) (get_or sums (key n) (pos 0) +ℤ f n)) c (pos 0) ≡
-    part f key (n + 1) c
+    (c : ℕ) → get_or (set sums (key n) (get_or sums (key n) (pos 0) +ℤ f n)) c (pos 0) ≡ part f key (n + 1) c
 part_more f key n sums h each c =
     ⊎_elim
     (λ (e : c ≡ key n).
@@ -71,8 +68,7 @@ sizes_more sums softs at n h l most =
       most,
     )
 
-pub sizes_none : (xs : List ℤ) → ((i : ℕ) → get_or xs i (pos 0) ≡ pos 0) →
-    sum_by unsigned_abs xs ≡ 0
+pub sizes_none : (xs : List ℤ) → ((i : ℕ) → get_or xs i (pos 0) ≡ pos 0) → sum_by unsigned_abs xs ≡ 0
 sizes_none [] each = refl
 sizes_none (x ∷ xs) each =
     let first : x ≡ pos 0 = each 0 in
@@ -81,8 +77,7 @@ sizes_none (x ∷ xs) each =
 
 -- there is room for one more
 pub sum_has_room : (sums softs : List ℤ) (at n : ℕ) → at < length sums → n < length softs →
-    sum_by unsigned_abs sums ≤ sum_by unsigned_abs (take n softs) →
-    sum_by unsigned_abs softs ≤ 2 ^ 62 →
+    sum_by unsigned_abs sums ≤ sum_by unsigned_abs (take n softs) → sum_by unsigned_abs softs ≤ 2 ^ 62 →
     unsigned_abs (get_or sums at (pos 0)) + unsigned_abs (get_or softs n (pos 0)) ≤ 2 ^ 62
 sum_has_room sums softs at n h l most bound =
     omega (
@@ -109,17 +104,13 @@ added_is x y h =
 pub added_fits : (x y : ℤ) → unsigned_abs x + unsigned_abs y ≤ 2 ^ 62 → SFits w64 (added x y)
 added_fits x y h = rw (added_is x y h) (fits (x +ℤ y) (omega (arith, abs_sum x y, h)))
 
-pub stored_is : (x y : ℤ) → unsigned_abs x + unsigned_abs y ≤ 2 ^ 62 →
-    to_z w64 (of_z w64 (added x y)) ≡ x +ℤ y
+pub stored_is : (x y : ℤ) → unsigned_abs x + unsigned_abs y ≤ 2 ^ 62 → to_z w64 (of_z w64 (added x y)) ≡ x +ℤ y
 stored_is x y h = to_z-of_z w64 (added x y) (added_fits x y h) ∙ added_is x y h
 
 -- one turn of the loop, where the code adds soft value n at its code symbol
-pub turn : (key : ℕ → ℕ) (n at : ℕ) (sums softs : List ℤ) → at ≡ key n → at < length sums →
-    n < length softs →
-    sum_by unsigned_abs softs ≤ 2 ^ 62 →
-    sum_by unsigned_abs sums ≤ sum_by unsigned_abs (take n softs) →
-    ((c : ℕ) → get_or sums c (pos 0) ≡ part (λ i. get_or softs i (pos 0)) key n c) →
-    (c : ℕ) →
+pub turn : (key : ℕ → ℕ) (n at : ℕ) (sums softs : List ℤ) → at ≡ key n → at < length sums → n < length softs →
+    sum_by unsigned_abs softs ≤ 2 ^ 62 → sum_by unsigned_abs sums ≤ sum_by unsigned_abs (take n softs) →
+    ((c : ℕ) → get_or sums c (pos 0) ≡ part (λ i. get_or softs i (pos 0)) key n c) → (c : ℕ) →
     get_or (set sums at
     (to_z w64 (of_z w64 (added (get_or sums at (pos 0)) (get_or softs n (pos 0)))))) c (pos 0) ≡
     part (λ i. get_or softs i (pos 0)) key (n + 1) c
@@ -132,16 +123,14 @@ turn key n at sums softs here h l bound most each c =
     ∙ part_more (λ i. get_or softs i (pos 0)) key n sums low each c
 
 pub turn_sizes : (n at : ℕ) (sums softs : List ℤ) → at < length sums → n < length softs →
-    sum_by unsigned_abs softs ≤ 2 ^ 62 →
-    sum_by unsigned_abs sums ≤ sum_by unsigned_abs (take n softs) →
+    sum_by unsigned_abs softs ≤ 2 ^ 62 → sum_by unsigned_abs sums ≤ sum_by unsigned_abs (take n softs) →
     sum_by unsigned_abs
     (set sums at
     (to_z w64 (of_z w64 (added (get_or sums at (pos 0)) (get_or softs n (pos 0)))))) ≤
     sum_by unsigned_abs (take (n + 1) softs)
 turn_sizes n at sums softs h l bound most =
     let room = sum_has_room sums softs at n h l most bound in
-    rw (stored_is (get_or sums at (pos 0)) (get_or softs n (pos 0)) room)
-    (sizes_more sums softs at n h l most)
+    rw (stored_is (get_or sums at (pos 0)) (get_or softs n (pos 0)) room) (sizes_more sums softs at n h l most)
 
 -- the sums of all soft values
 pub gathered_all : (key : ℕ → ℕ) (n count : ℕ) (sums softs : List ℤ) → length sums ≡ count →

@@ -19,8 +19,7 @@ pub repeats_some : (count repeats total : ℕ) → count * repeats ≡ total →
 repeats_some count zero total e some = absurd (omega (arith, e, some))
 repeats_some count (suc r) total e some = omega arith
 
-pub symbol_lt : (a count repeats total : ℕ) → count * repeats ≡ total → a < total →
-    a / repeats < count
+pub symbol_lt : (a count repeats total : ℕ) → count * repeats ≡ total → a < total → a / repeats < count
 symbol_lt a count repeats total e h =
     let some : 0 < total = omega (arith, h) in
     div_below a repeats count (repeats_some count repeats total e some) (omega (arith, e, h))
@@ -36,7 +35,5 @@ pub read_repeats_some : (count repeats from total address : ℕ) → from ≡ re
 read_repeats_some count repeats from total address same e below =
     rw same (repeats_some count repeats total e (omega (arith, below)))
 
-pub count_is : (count repeats total : ℕ) → count * repeats ≡ total → 0 < total →
-    total / repeats ≡ count
-count_is count repeats total e some =
-    div-eq_of_eq-mul_left (repeats_some count repeats total e some) (sym e)
+pub count_is : (count repeats total : ℕ) → count * repeats ≡ total → 0 < total → total / repeats ≡ count
+count_is count repeats total e some = div-eq_of_eq-mul_left (repeats_some count repeats total e some) (sym e)

@@ -21,16 +21,14 @@ each : (kind : Kind) (a : ℕ) → a < size (shape_of kind) → is_back (shape_o
 each Sync a h = agree_below_at (is_back sync_shape) (λ a. true) 128 a sync_all h
 each Data a h = agree_below_at (is_back data_shape) (λ a. true) 384 a data_all h
 
-pub place_lt : (kind : Kind) (a : ℕ) → a < size (shape_of kind) →
-    place (shape_of kind) a < size (shape_of kind)
+pub place_lt : (kind : Kind) (a : ℕ) → a < size (shape_of kind) → place (shape_of kind) a < size (shape_of kind)
 place_lt kind a h = ltb-true _ _ (and_parts _ _ (and_parts _ _ (each kind a h)).0).0
 
 pub address-place : (kind : Kind) (a : ℕ) → a < size (shape_of kind) →
     address (shape_of kind) (place (shape_of kind) a) ≡ a
 address-place kind a h = eqb-true _ _ (and_parts _ _ (and_parts _ _ (each kind a h)).0).1
 
-pub address_lt : (kind : Kind) (i : ℕ) → i < size (shape_of kind) →
-    address (shape_of kind) i < size (shape_of kind)
+pub address_lt : (kind : Kind) (i : ℕ) → i < size (shape_of kind) → address (shape_of kind) i < size (shape_of kind)
 address_lt kind i h = ltb-true _ _ (and_parts _ _ (and_parts _ _ (each kind i h)).1).0
 
 pub place-address : (kind : Kind) (i : ℕ) → i < size (shape_of kind) →
@@ -39,5 +37,4 @@ place-address kind i h = eqb-true _ _ (and_parts _ _ (and_parts _ _ (each kind i
 
 pub address-injective : (kind : Kind) (i j : ℕ) → i < size (shape_of kind) →
     j < size (shape_of kind) → address (shape_of kind) i ≡ address (shape_of kind) j → i ≡ j
-address-injective kind i j p q e =
-    sym (place-address kind i p) ∙ ap (place (shape_of kind)) e ∙ place-address kind j q
+address-injective kind i j p q e = sym (place-address kind i p) ∙ ap (place (shape_of kind)) e ∙ place-address kind j q

@@ -25,12 +25,10 @@ power_place_low state mask (suc g) = omega arith
 
 power_place_high : (state mask g : ℕ) → power_place state mask g < 24 * g + 16
 power_place_high state mask zero = power_start_lt (group_scrambling (before state 1536) mask)
-power_place_high state mask (suc g) =
-    omega (arith, power_start_lt (group_scrambling (after state (1536 * g)) mask))
+power_place_high state mask (suc g) = omega (arith, power_start_lt (group_scrambling (after state (1536 * g)) mask))
 
 pub power_place_in_groups : (state mask : ℕ) → IsInGroups (power_place state mask)
-power_place_in_groups state mask =
-    record { low = power_place_low state mask; high = power_place_high state mask }
+power_place_in_groups state mask = record { low = power_place_low state mask; high = power_place_high state mask }
 
 -- of 32 places the first 2 n are f's, each with its neighbour
 pub record ArePairs (f : ℕ → ℕ) (xs : List ℕ) (n : ℕ) : Type 0 where
@@ -39,8 +37,7 @@ pub record ArePairs (f : ℕ → ℕ) (xs : List ℕ) (n : ℕ) : Type 0 where
   pub second : (g : ℕ) → g < n → get_or xs (2 * g + 1) 0 ≡ f g + 1
 
 -- one pair more
-pub pairs_more : (f : ℕ → ℕ) (xs : List ℕ) (n one two v : ℕ) → one ≡ 2 * n → two ≡ 2 * n + 1 →
-    n < 16 → v ≡ f n →
+pub pairs_more : (f : ℕ → ℕ) (xs : List ℕ) (n one two v : ℕ) → one ≡ 2 * n → two ≡ 2 * n + 1 → n < 16 → v ≡ f n →
     ArePairs f xs n → ArePairs f (set (set xs one v) two (v + 1)) (n + 1)
 pairs_more f xs n one two v p q small is pairs =
     let ys = set xs one v in
@@ -75,8 +72,7 @@ pairs_more f xs n one two v p q small is pairs =
 
 -- a list of pairs, from a on
 pairs_from : (f : ℕ → ℕ) (a n : ℕ) (xs : List ℕ) → length xs ≡ 2 * n →
-    ((g : ℕ) → g < n → get_or xs (2 * g) 0 ≡ f (a + g)) →
-    ((g : ℕ) → g < n → get_or xs (2 * g + 1) 0 ≡ f (a + g) + 1) →
+    ((g : ℕ) → g < n → get_or xs (2 * g) 0 ≡ f (a + g)) → ((g : ℕ) → g < n → get_or xs (2 * g + 1) 0 ≡ f (a + g) + 1) →
     xs ≡ flat_map (λ g. f g ∷ (f g + 1) ∷ []) (range_with_len a n)
 pairs_from f a zero xs long first second = nil_from_length xs long
 pairs_from f a (suc n) [] long first second = absurd (omega (arith, long))
@@ -99,15 +95,13 @@ pairs_from f a (suc n) (x ∷ y ∷ xs) long first second =
     ap (λ (k : ℕ). f k + 1) turned) in
     rw (one, two, rest)
 
-pub pairs_all : (state mask : ℕ) (xs : List ℕ) → ArePairs (power_place state mask) xs 16 →
-    xs ≡ power_places state mask
+pub pairs_all : (state mask : ℕ) (xs : List ℕ) → ArePairs (power_place state mask) xs 16 → xs ≡ power_places state mask
 unfolding power_places
 pairs_all state mask xs pairs =
     pairs_from (power_place state mask) 0 16 xs pairs.long
     (λ g lt. pairs.first g lt ∙ ap (power_place state mask) (omega arith))
     (λ g lt. pairs.second g lt ∙ ap (λ (k : ℕ). power_place state mask k + 1) (omega arith))
-    ∙ ap (flat_map (λ g. power_place state mask g ∷ (power_place state mask g + 1) ∷ []))
-    (sym (places_is 16))
+    ∙ ap (flat_map (λ g. power_place state mask g ∷ (power_place state mask g + 1) ∷ [])) (sym (places_is 16))
 
 even_or_odd : (k : ℕ) → (2 * (k / 2) ≡ k) ⊎ (2 * (k / 2) + 1 ≡ k)
 even_or_odd k = by_rest (k % 2) refl (omega arith)

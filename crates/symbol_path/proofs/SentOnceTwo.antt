@@ -46,10 +46,8 @@ kept_lt a h = ltb-true _ _ (and_parts _ _ (and_parts _ _ (kept_back a h)).0).0
 -- the repeated symbol to each of them.
 kept-injective : (a b : ℕ) → a < 384 → b < 384 → kept_symbol a ≡ kept_symbol b → a ≡ b
 kept-injective a b p q e =
-    let here : kept_as (kept_symbol a) ≡ a =
-    eqb-true _ _ (and_parts _ _ (and_parts _ _ (kept_back a p)).0).1 in
-    let there : kept_as (kept_symbol b) ≡ b =
-    eqb-true _ _ (and_parts _ _ (and_parts _ _ (kept_back b q)).0).1 in
+    let here : kept_as (kept_symbol a) ≡ a = eqb-true _ _ (and_parts _ _ (and_parts _ _ (kept_back a p)).0).1 in
+    let there : kept_as (kept_symbol b) ≡ b = eqb-true _ _ (and_parts _ _ (and_parts _ _ (kept_back b q)).0).1 in
     sym here ∙ ap kept_as e ∙ there
 
 -- each code symbol is repeated so often that all fill a frame

@@ -5,8 +5,7 @@ use Rattle.symbol_path.proofs.Common.{after-after, after_none, after-before, bef
 use Rattle.symbol_path.proofs.Common.{group_scrambling, power_start, power_place}
 
 -- a chip of a state that is the same from then on
-pub long_chip-same : (s t mask m n : ℕ) → after s m ≡ after t n →
-    long_chip s mask m ≡ long_chip t mask n
+pub long_chip-same : (s t mask m n : ℕ) → after s m ≡ after t n → long_chip s mask m ≡ long_chip t mask n
 unfolding long_chip
 long_chip-same s t mask m n e = ap (λ (v : ℕ). common_parity (binary 42 mask) (binary 42 v)) e
 
@@ -18,11 +17,9 @@ later_by_symbol s t k n e =
     after-after t 64 n ∙ e ∙ ap (after s) place
 
 pub symbol_chips_all : (state mask n : ℕ) (out : List Bool) → length out ≡ n →
-    ((k : ℕ) → k < n → get_or out k false ≡ long_chip state mask (64 * k)) →
-    out ≡ scrambling_chips state mask n
+    ((k : ℕ) → k < n → get_or out k false ≡ long_chip state mask (64 * k)) → out ≡ scrambling_chips state mask n
 unfolding scrambling_chips
-symbol_chips_all state mask n out long each =
-    map-places-all (λ i. long_chip state mask (64 * i)) out n false long each
+symbol_chips_all state mask n out long each = map-places-all (λ i. long_chip state mask (64 * i)) out n false long each
 
 -- GROUPS: the state before a frame, where only the state's lowest 42 bits count
 
@@ -35,8 +32,7 @@ unfolding before
 before-low s n = rw (binary-low 42 0 s) refl
 
 pub before_later : (s n : ℕ) → n ≤ period → before s n ≡ after s (period - n)
-before_later s n h =
-    sym (before-low s n) ∙ before_is_later (s % 2 ^ 42) n (omega arith) h ∙ after-low s (period - n)
+before_later s n h = sym (before-low s n) ∙ before_is_later (s % 2 ^ 42) n (omega arith) h ∙ after-low s (period - n)
 
 -- back, and as far forth, and on
 pub on_again : (s n m : ℕ) → after (before s n) (n + m) ≡ after s m
@@ -48,19 +44,16 @@ on_again s n m =
 
 pub group_first : (s : ℕ) → before s 1536 ≡ after (before s 1536) 0
 group_first s =
-    let small : before s 1536 < 2 ^ 42 =
-    rw (sym (before-low s 1536)) (before_lt (s % 2 ^ 42) 1536) in
+    let small : before s 1536 < 2 ^ 42 = rw (sym (before-low s 1536)) (before_lt (s % 2 ^ 42) 1536) in
     sym (after_none (before s 1536) small)
 
-pub group_next : (s g : ℕ) →
-    after (after (before s 1536) (1536 * g)) 1536 ≡ after (before s 1536) (1536 * (g + 1))
+pub group_next : (s g : ℕ) → after (after (before s 1536) (1536 * g)) 1536 ≡ after (before s 1536) (1536 * (g + 1))
 group_next s g =
     let place : 1536 * g + 1536 ≡ 1536 * (g + 1) = omega arith in
     after-after (before s 1536) (1536 * g) 1536 ∙ ap (after (before s 1536)) place
 
 -- the place of a group's bit, by the state of the group before
-pub power_place_is : (state mask g : ℕ) →
-    power_place state mask g ≡
+pub power_place_is : (state mask g : ℕ) → power_place state mask g ≡
     24 * g + power_start (group_scrambling (after (before state 1536) (1536 * g)) mask)
 power_place_is state mask zero =
     ap (λ (s : ℕ). power_start (group_scrambling s mask)) (group_first state) ∙ sym (zero-add _)

@@ -25,15 +25,9 @@ length-body m =
 -- TAILS
 pub tail-some : (freq : ℕ) (rest : List Bool) → length (tail (Some freq) rest) ≡ 11 + length rest
 tail-some freq rest =
-    omega (
-      arith,
-      length-append (binary 11 freq ++ []) rest,
-      length-append (binary 11 freq) [],
-      length-binary 11 freq,
-    )
+    omega (arith, length-append (binary 11 freq ++ []) rest, length-append (binary 11 freq) [], length-binary 11 freq)
 
-pub fills_from : (n : ℕ) (body : List Bool) → 25 ≤ n → n ≤ 148 → 8 * n ≡ 38 + length body →
-    FillsCapsule M30 body
+pub fills_from : (n : ℕ) (body : List Bool) → 25 ≤ n → n ≤ 148 → 8 * n ≡ 38 + length body → FillsCapsule M30 body
 fills_from n body least most whole =
     let count : octets M30 body ≡ n = omega (arith, whole) in
     record {
@@ -56,13 +50,7 @@ record Whole (freq : Option ℕ) (rest : List Bool) : Type 0 where
   filled : 8 * count ≡ 197 + length (tail freq rest)
 
 tail_whole : (freq : Option ℕ) (rest : List Bool) → IsTail freq rest → Whole freq rest
-tail_whole None rest told =
-    record {
-      count = 25;
-      least = omega arith;
-      most = omega arith;
-      filled = omega (arith, told);
-    }
+tail_whole None rest told = record { count = 25; least = omega arith; most = omega arith; filled = omega (arith, told) }
 tail_whole (Some freq) rest told =
     record {
       count = 26 + length rest / 8;
@@ -94,8 +82,7 @@ admitted m fits told =
 pub fixed_fit : (m : SyncFields) → IsSyncMessage m → FieldsFit (fixed_fields m)
 fixed_fit m is = (omega arith, is.said.fixed.fit)
 
-tail_told : (freq : Option ℕ) (rest : List Bool) (n : ℕ) → n ≤ 148 →
-    8 * n ≡ 197 + length (tail freq rest) →
+tail_told : (freq : Option ℕ) (rest : List Bool) (n : ℕ) → n ≤ 148 → 8 * n ≡ 197 + length (tail freq rest) →
     IsGroup (UnlessLeft 3) (11 ∷ []) (freq_group freq) (length rest) → IsTail freq rest
 tail_told None rest n most whole is = is
 tail_told (Some freq) rest n most whole is =

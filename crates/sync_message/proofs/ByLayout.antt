@@ -53,8 +53,7 @@ by_layout = record { lawful = sync_lawful; back = sync_back; made = sync_made }
 -- READING
 -- contents that were read fit
 pub fields_fit : (c : Contents) → IsOf sync_message_shape c →
-    FieldsFit (in_widths sync_widths (sync_values (sync_from c)))
-    × IfSome (freq_from c.group) (λ n. n < 2 ^ 11)
+    FieldsFit (in_widths sync_widths (sync_values (sync_from c))) × IfSome (freq_from c.group) (λ n. n < 2 ^ 11)
 unfolding sync_of
 fields_fit c is =
     let m = sync_from c in
@@ -102,8 +101,7 @@ body_written m one after first following =
     following ∙ ap (λ (r : List Bool). r ++ spelling sync_message_shape (sync_contents m)) first
 
 -- there is room after the message type
-pub body_room : (m : SyncFields) → IsSyncMessage m →
-    8 + length (spelling sync_message_shape (sync_contents m)) ≤ 1184
+pub body_room : (m : SyncFields) → IsSyncMessage m → 8 + length (spelling sync_message_shape (sync_contents m)) ≤ 1184
 unfolding sync_body
 body_room m is =
     omega (

@@ -10,8 +10,7 @@ some_if_is_some (Some x) h = (x, refl)
 
 -- A body that is admitted has a message: it is long enough for the head, its remaining bits can be
 -- read as a part of its type, and what was read spells the bits that it was read from.
-pub admitted_has : (body : List Bool) → FillsCapsule M16 body → traffic_admits body ≡ true →
-    HasTrafficMessage body
+pub admitted_has : (body : List Bool) → FillsCapsule M16 body → traffic_admits body ≡ true → HasTrafficMessage body
 unfolding traffic_admits
 admitted_has body fills h =
     let kind = number_at 0 8 body in
@@ -37,5 +36,4 @@ has_admitted body has =
     ap traffic_body_reading has.same ∙ message_again has.message has.spelled in
     let parts = body_parts_read body has.message read in
     and_from (nat_le 17 (length body)) (is_some (part_reading kind head.encryption bits))
-    (le-leb 17 (length body) (is_body_parts body parts.0).1)
-    (ap is_some parts.2)
+    (le-leb 17 (length body) (is_body_parts body parts.0).1) (ap is_some parts.2)

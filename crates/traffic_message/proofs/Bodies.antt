@@ -20,13 +20,11 @@ use Rattle.traffic_message.specs.declared.layouts.BodyForm.TheVariants as forms
 abbrev IsForm : BodyForm → ℕ → ℕ → List Bool → Type 0
 IsForm forms.Parameters kind encryption bits = (encryption ≡ 0) × (kind ≡ 7)
 IsForm forms.Update kind encryption bits = (encryption ≡ 0) × (kind ≡ 8)
-IsForm forms.Direction kind encryption bits =
-    (encryption ≡ 0) × (kind ≡ 17) × (is_hard bits ≡ false)
+IsForm forms.Direction kind encryption bits = (encryption ≡ 0) × (kind ≡ 17) × (is_hard bits ≡ false)
 IsForm forms.Plain kind encryption bits =
     (encryption ≢ 0) ⊎ ((kind ≢ 7) × (kind ≢ 8) × ((kind ≢ 17) ⊎ (is_hard bits ≡ true)))
 
-form_is : (kind encryption : ℕ) (bits : List Bool) →
-    IsForm (form_at kind encryption bits) kind encryption bits
+form_is : (kind encryption : ℕ) (bits : List Bool) → IsForm (form_at kind encryption bits) kind encryption bits
 form_is kind encryption bits =
     elim (cases_Bool (encryption == 0)) [
       | inr f ↦ rw f (inl (eqb-false encryption 0 f))
@@ -75,8 +73,7 @@ form_again h (bodies.Handoff m) is =
     let soft = soft_bits m in
     rw (t, soft) refl
 form_again h (bodies.Other kind bits) is =
-    rw (plain_bits bits)
-    (only_plain h (form_at kind h.encryption bits) kind bits (form_is kind h.encryption bits) is)
+    rw (plain_bits bits) (only_plain h (form_at kind h.encryption bits) kind bits (form_is kind h.encryption bits) is)
 
 fields_of : (h : Head) (b : TrafficBody) → messages.IsOfKind h b → HasFields b
 fields_of h (bodies.System m) is = is.1
@@ -112,13 +109,11 @@ kind_is forms.Plain kind encryption bits c is = refl
 
 of_kind : (f : BodyForm) (kind encryption : ℕ) (bits : List Bool) (c : Contents) (h : Head) →
     IsForm f kind encryption bits → HasFields (body_from f kind c) →
-    bits ≡ messages.bits_of (body_from f kind c) → h.encryption ≡ encryption →
-    messages.IsOfKind h (body_from f kind c)
+    bits ≡ messages.bits_of (body_from f kind c) → h.encryption ≡ encryption → messages.IsOfKind h (body_from f kind c)
 of_kind forms.Parameters kind encryption bits c h is fields same e = (e ∙ is.0, fields)
 of_kind forms.Update kind encryption bits c h is fields same e = (e ∙ is.0, fields)
 of_kind forms.Direction kind encryption bits c h is fields same e = (e ∙ is.0, fields)
-of_kind forms.Plain kind encryption bits c h (inl secret) fields same e =
-    inl (λ z. secret (sym e ∙ z))
+of_kind forms.Plain kind encryption bits c h (inl secret) fields same e = inl (λ z. secret (sym e ∙ z))
 of_kind forms.Plain kind encryption bits c h (inr plain) fields same e =
     inr (
       plain.0,
@@ -162,8 +157,7 @@ head_back w fit =
     rw bit refl
 
 -- a body is its type and its head as fields of one table, and what stands after them
-typed : (m : messages.Message) →
-    messages.traffic_message_body m
+typed : (m : messages.Message) → messages.traffic_message_body m
     ≡ spelled (in_widths typed_widths (messages.kind_of m.body ∷ messages.head_values m.head))
     ++ messages.bits_of m.body
 unfolding messages.traffic_message_body
@@ -183,14 +177,12 @@ length-message m =
     )
 
 -- BODIES
-pub is_body_from : (body : List Bool) → FillsCapsule M16 body → 17 ≤ length body →
-    reading.is_traffic_body body ≡ true
+pub is_body_from : (body : List Bool) → FillsCapsule M16 body → 17 ≤ length body → reading.is_traffic_body body ≡ true
 unfolding reading.is_traffic_body
 is_body_from body fills least =
     and_from (length body % 8 == 0) (nat_le 17 (length body) && nat_le (length body) 1160)
     (eq-eqb (length body % 8) 0 (omega (arith, fills.whole)))
-    (and_from (nat_le 17 (length body)) (nat_le (length body) 1160)
-    (le-leb 17 (length body) least)
+    (and_from (nat_le 17 (length body)) (nat_le (length body) 1160) (le-leb 17 (length body) least)
     (le-leb (length body) 1160 (omega (arith, fills.whole, fills.most))))
 
 -- A body that passes the test fits a capsule and has a type and a head: the test joins three
@@ -199,17 +191,12 @@ pub is_body_parts : (body : List Bool) → reading.is_traffic_body body ≡ true
     FillsCapsule M16 body × (17 ≤ length body) × (length body ≤ 1160)
 unfolding reading.is_traffic_body
 is_body_parts body h =
-    let all = and_parts (length body % 8 == 0)
-    (nat_le 17 (length body) && nat_le (length body) 1160) h in
+    let all = and_parts (length body % 8 == 0) (nat_le 17 (length body) && nat_le (length body) 1160) h in
     let more = and_parts (nat_le 17 (length body)) (nat_le (length body) 1160) all.1 in
     let rest = eqb-true (length body % 8) 0 all.0 in
     let least = leb-true 17 (length body) more.0 in
     let most = leb-true (length body) 1160 more.1 in (
-      record {
-        whole = omega (arith, rest);
-        least = omega (arith, least);
-        most = omega (arith, most);
-      },
+      record { whole = omega (arith, rest); least = omega (arith, least); most = omega (arith, most) },
       least,
       most,
     )
@@ -275,10 +262,8 @@ spelled_from body b t says =
     let v = values_there typed_widths body fits.1 in
     let head = head_back (drop 8 body) v.1.1 in
     let same : body ≡ messages.traffic_message_body m =
-    v.2 ∙ ap (λ (ns : List ℕ). spelled (in_widths typed_widths (number_at 0 8 body ∷ ns)) ++ drop 17 body)
-    (sym head)
-    ∙ ap (λ (n : ℕ). spelled (in_widths typed_widths (n ∷ messages.head_values m.head)) ++ drop 17 body)
-    (sym says.0)
+    v.2 ∙ ap (λ (ns : List ℕ). spelled (in_widths typed_widths (number_at 0 8 body ∷ ns)) ++ drop 17 body) (sym head)
+    ∙ ap (λ (n : ℕ). spelled (in_widths typed_widths (n ∷ messages.head_values m.head)) ++ drop 17 body) (sym says.0)
     ∙ ap (λ (r : List Bool).
     spelled (in_widths typed_widths (messages.kind_of b ∷ messages.head_values m.head)) ++ r)
     (sym says.1) ∙ sym (typed m) in (
@@ -313,16 +298,14 @@ body_parts_read body m e =
       | inl t ↦
           let head = reading.head_at body in
           let some = mapped_some (λ (b : TrafficBody). record { head = head; body = b })
-          (reading.part_reading (number_at 0 8 body) head.encryption (drop 17 body)) m
-          (rw t at e) in
+          (reading.part_reading (number_at 0 8 body) head.encryption (drop 17 body)) m (rw t at e) in
           (t, some.0, some.1, some.2)
       | inr f ↦
           let none : None ≡ Some m = rw f at e in
           absurd (cc)
     ]
 
-pub message_there : (body : List Bool) (m : messages.Message) →
-    reading.traffic_body_reading body ≡ Some m →
+pub message_there : (body : List Bool) (m : messages.Message) → reading.traffic_body_reading body ≡ Some m →
     messages.IsTrafficMessage m × (body ≡ messages.traffic_message_body m)
 message_there body m e =
     let p = body_parts_read body m e in
@@ -355,8 +338,7 @@ head_there body t =
     let some = le-leb 17 (length body) (is_body_parts body t).1 in
     rw some refl
 
-pub no_head : (body : List Bool) → reading.is_traffic_body body ≡ true →
-    ¬ (None ≡ fields_at typed_widths body)
+pub no_head : (body : List Bool) → reading.is_traffic_body body ≡ true → ¬ (None ≡ fields_at typed_widths body)
 no_head body t none =
     let some : None ≡ Some (head_said body) = none ∙ head_there body t in
     absurd (cc)
@@ -365,12 +347,10 @@ no_head body t none =
 -- leaves is what comes after the first 17 bits: a body that passes the test has those bits, so the
 -- reading gives just what the definition takes.
 pub are_parts : (body : List Bool) (vs : List ℕ) (rest : List Bool) →
-    reading.is_traffic_body body ≡ true → Some (vs, rest) ≡ fields_at typed_widths body →
-    AreParts body vs rest
+    reading.is_traffic_body body ≡ true → Some (vs, rest) ≡ fields_at typed_widths body → AreParts body vs rest
 unfolding reading.head_at reading.head_of
 are_parts body vs rest t read =
-    let same : (vs, rest) ≡ head_said body =
-    some_is (vs, rest) (head_said body) (read ∙ head_there body t) in
+    let same : (vs, rest) ≡ head_said body = some_is (vs, rest) (head_said body) (read ∙ head_there body t) in
     let values : vs ≡ values_at typed_widths body = ap (λ (x : List ℕ × List Bool). x.0) same in
     let v = values_there typed_widths body (is_body_parts body t).1 in
     let fit = subst (λ (us : List ℕ). FieldsFit (in_widths head_widths us))
@@ -398,8 +378,7 @@ part_read body vs rest k h read t parts typed head e =
 
 pub message_written : (m : messages.Message) (c : Contents) (one after : List Bool) →
     messages.IsTrafficMessage m → c ≡ head_contents (messages.kind_of m.body) m.head →
-    one ≡ spelling head_shape c → after ≡ one ++ messages.bits_of m.body →
-    after ≡ messages.traffic_message_body m
+    one ≡ spelling head_shape c → after ≡ one ++ messages.bits_of m.body → after ≡ messages.traffic_message_body m
 message_written m c one after is contents a b =
     b ∙ ap (λ (r : List Bool). r ++ messages.bits_of m.body)
     (a ∙ (head_written (messages.kind_of m.body) m.head c is.kind.0 is.head contents).1)

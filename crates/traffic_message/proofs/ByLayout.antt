@@ -21,20 +21,16 @@ parameters_back c is =
     sym (map-places-all (λ k. get_or c.fixed k 0) c.fixed 10 0 is.fixed.all (λ k lt. refl)) in
     rw (values, no_columns c.columns is.columns) (plain_back in_traffic_widths [] 0 None c is)
 
-update_back : (c : Contents) → IsOf updates.update_shape c →
-    updates.update_contents (updates.update_from c) ≡ c
+update_back : (c : Contents) → IsOf updates.update_shape c → updates.update_contents (updates.update_from c) ≡ c
 update_back c is =
     let values : get_or c.fixed 0 0 ∷ [] ≡ c.fixed = one_value c.fixed is.fixed.all in
-    rw (values, first_column 9 c.columns is.columns)
-    (plain_back (4 ∷ []) (9 ∷ []) 1 (Some 7) c is)
+    rw (values, first_column 9 c.columns is.columns) (plain_back (4 ∷ []) (9 ∷ []) 1 (Some 7) c is)
 
-group_back : (group : Option (List ℕ)) (following : ℕ) →
-    IsGroup Flagged search_widths group following →
+group_back : (group : Option (List ℕ)) (following : ℕ) → IsGroup Flagged search_widths group following →
     handoff.search_group (handoff.search_from group) ≡ group
 unfolding handoff.search_of places
 group_back None following is = refl
-group_back (Some vs) following is =
-    ap Some (sym (map-places-all (λ k. get_or vs k 0) vs 5 0 is.all (λ k lt. refl)))
+group_back (Some vs) following is = ap Some (sym (map-places-all (λ k. get_or vs k 0) vs 5 0 is.all (λ k lt. refl)))
 
 direction_back : (c : Contents) → IsOf handoff.direction_shape c →
     handoff.direction_contents (handoff.direction_from c) ≡ c
@@ -45,8 +41,7 @@ direction_back c is =
     let group = group_back c.group (length (after_group handoff.direction_shape c)) is.group in
     rw (values, group, all_columns 9 1 8 c.columns is.columns) refl
 
-search_made : (search : Option Search) →
-    handoff.search_from (handoff.search_group search) ≡ search
+search_made : (search : Option Search) → handoff.search_from (handoff.search_group search) ≡ search
 unfolding handoff.search_of
 search_made None = refl
 search_made (Some search) = refl
@@ -58,19 +53,15 @@ direction_made m = rw (search_made m.search) refl
 -- THE RECORDS
 pub neighbor_fits : (m : UpdateFields) (i : ℕ) → updates.IsNeighborUpdate m → i < length m.pns →
     get_or m.pns i 0 < 2 ^ 9
-neighbor_fits m i is h =
-    (record_fit (9 ∷ []) (length m.pns) i (m.pns ∷ [] ∷ [] ∷ []) h is.records).0
+neighbor_fits m i is h = (record_fit (9 ∷ []) (length m.pns) i (m.pns ∷ [] ∷ [] ∷ []) h is.records).0
 
-pub combs_paired : (m : DirectionFields) → handoff.IsHandoffDirection m →
-    length m.combs ≡ length m.pns
+pub combs_paired : (m : DirectionFields) → handoff.IsHandoffDirection m → length m.combs ≡ length m.pns
 combs_paired m is = ap (λ (ls : List ℕ). get_or ls 1 0) is.columns
 
-pub rows_paired : (m : DirectionFields) → handoff.IsHandoffDirection m →
-    length m.rows ≡ length m.pns
+pub rows_paired : (m : DirectionFields) → handoff.IsHandoffDirection m → length m.rows ≡ length m.pns
 rows_paired m is = ap (λ (ls : List ℕ). get_or ls 2 0) is.columns
 
-pub record_fits : (m : DirectionFields) (i : ℕ) → handoff.IsHandoffDirection m →
-    i < length m.pns →
+pub record_fits : (m : DirectionFields) (i : ℕ) → handoff.IsHandoffDirection m → i < length m.pns →
     (get_or m.pns i 0 < 2 ^ 9) × (get_or m.combs i 0 < 2 ^ 1) × (get_or m.rows i 0 < 2 ^ 8)
 record_fits m i is h =
     let fit = record_fit (9 ∷ 1 ∷ 8 ∷ []) (length m.pns) i (m.pns ∷ m.combs ∷ m.rows ∷ []) h is.records in
@@ -139,8 +130,7 @@ spelled_as f c b bits made same =
 -- WHAT THE CODE READS AND WRITES
 pub reads_by_form : (kind encryption : ℕ) (bits : List Bool) (f : BodyForm) (s : MessageShape)
     (read : Option Contents) → f ≡ layouts.form_at kind encryption bits → s ≡ layouts.traffic_shape_of f →
-    read ≡ reading s bits →
-    mapped (layouts.body_from f kind) read ≡ part_reading kind encryption bits
+    read ≡ reading s bits → mapped (layouts.body_from f kind) read ≡ part_reading kind encryption bits
 unfolding part_reading
 reads_by_form kind encryption bits f s read form layout e =
     ap (mapped (layouts.body_from f kind)) (e ∙ ap (λ (r : MessageShape). reading r bits) layout)
@@ -160,8 +150,7 @@ unfolding is_lawful
 head_lawful = refl
 
 pub head_written : (k : ℕ) (h : Head) (c : Contents) → k < 2 ^ 8 → FieldsFit (head_fields h) →
-    c ≡ layouts.head_contents k h →
-    IsOf layouts.head_shape c
+    c ≡ layouts.head_contents k h → IsOf layouts.head_shape c
     × (spelling layouts.head_shape c ≡ spelled (in_widths layouts.typed_widths (k ∷ head_values h)))
 head_written k h c small fit contents =
     let vs = k ∷ head_values h in

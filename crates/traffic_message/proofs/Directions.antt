@@ -7,13 +7,11 @@ use Rattle.traffic_message.proofs.Common.{Search, List, None, Some, drop, ℕ, c
 use Rattle.traffic_message.specs.Handoff as handoff
 
 -- with search parameters, and without
-place_set : (bits : List Bool) → (number_at 9 1 bits == 1) ≡ true →
-    handoff.hard_place bits ≡ 34
+place_set : (bits : List Bool) → (number_at 9 1 bits == 1) ≡ true → handoff.hard_place bits ≡ 34
 unfolding handoff.hard_place
 place_set bits t = rw t refl
 
-place_clear : (bits : List Bool) → (number_at 9 1 bits == 1) ≡ false →
-    handoff.hard_place bits ≡ 10
+place_clear : (bits : List Bool) → (number_at 9 1 bits == 1) ≡ false → handoff.hard_place bits ≡ 10
 unfolding handoff.hard_place
 place_clear bits f = rw f refl
 
@@ -24,8 +22,7 @@ search_bits s = spelled (group_fields Flagged search_widths (handoff.search_grou
 -- From HARD_INCLUDED on the bits are those after the search parameters: where SEARCH_INCLUDED, at
 -- bit 9, is 0 there are none and it is bit 10, and where it is 1 they take 24 bits and it is bit
 -- 34.
-after_search : (s : Option Search) (bits following : List Bool) →
-    drop 9 bits ≡ search_bits s ++ following →
+after_search : (s : Option Search) (bits following : List Bool) → drop 9 bits ≡ search_bits s ++ following →
     drop (handoff.hard_place bits) bits ≡ following
 after_search None bits following is =
     let first : drop 9 bits ≡ binary 1 0 ++ following =
@@ -37,15 +34,13 @@ after_search None bits following is =
 after_search (Some s) bits following is =
     let vs = handoff.search_values s in
     let fs = spelled (in_widths search_widths vs) in
-    let first : drop 9 bits ≡ binary 1 1 ++ (fs ++ following) =
-    is ∙ append_assoc (binary 1 1) fs following in
+    let first : drop 9 bits ≡ binary 1 1 ++ (fs ++ following) = is ∙ append_assoc (binary 1 1) fs following in
     let bit : number_at 9 1 bits ≡ 1 =
     ap (λ (r : List Bool). number (take 1 r)) first
     ∙ number_front 1 1 (fs ++ following) (omega arith) in
     let place = place_set bits (ap (λ (n : ℕ). n == 1) bit) in
     rw place (sym (dropped 25 9 bits) ∙ ap (drop 25) is
-    ∙ drop_at (binary 1 1 ++ fs) following 25
-    (length-in_widths (1 ∷ search_widths) (1 ∷ vs) refl))
+    ∙ drop_at (binary 1 1 ++ fs) following 25 (length-in_widths (1 ∷ search_widths) (1 ∷ vs) refl))
 
 abbrev records : DirectionFields → List Bool
 records m = spelled (record_fields (9 ∷ 1 ∷ 8 ∷ []) (length m.pns) (m.pns ∷ m.combs ∷ m.rows ∷ []))
@@ -59,8 +54,7 @@ after_hard m = binary 3 (length m.extra / 8) ++ (m.extra ++ (records m ++ m.rest
 
 -- In the bits of a direction HARD_INCLUDED is 0 where the definition looks for it: the action time
 -- and the sequence number take the first 9 bits, the search parameters follow, and it comes next.
-hard_at : (m : DirectionFields) →
-    drop (handoff.hard_place (bits m)) (bits m) ≡ binary 1 0 ++ after_hard m
+hard_at : (m : DirectionFields) → drop (handoff.hard_place (bits m)) (bits m) ≡ binary 1 0 ++ after_hard m
 unfolding spelling
 hard_at m =
     let times = spelled (in_widths time_widths (handoff.time_values m)) in

@@ -17,15 +17,13 @@ parts_joined size false bits =
     ap (λ (r : List Bool). take size bits ++ r) (append-nil (drop size bits))
     ∙ take-append-drop size bits
 
-pub mixed_parts : (bits : List Bool) → get_or bits 0 false ≡ true →
-    joined (split_9600 bits) ≡ drop 4 bits
+pub mixed_parts : (bits : List Bool) → get_or bits 0 false ≡ true → joined (split_9600 bits) ≡ drop 4 bits
 unfolding split_9600
 mixed_parts bits set =
     let size = primary_bits (get_or bits 2 false) (get_or bits 3 false) in
     rw set (parts_joined size (get_or bits 1 false) (drop 4 bits))
 
-pub plain_parts : (bits : List Bool) → get_or bits 0 false ≡ false →
-    joined (split_9600 bits) ≡ drop 1 bits
+pub plain_parts : (bits : List Bool) → get_or bits 0 false ≡ false → joined (split_9600 bits) ≡ drop 1 bits
 unfolding split_9600
 plain_parts bits clear = rw clear (append-nil (drop 1 bits))
 
@@ -49,8 +47,7 @@ pub plain_split : (bits : List Bool) (mm : Bool) (p : List Bool) → length bits
 unfolding split_9600
 plain_split bits mm p long read clear is =
     let f : get_or bits 0 false ≡ false = get_or_from_slice_get bits 0 mm false read ∙ clear in
-    let all : p ≡ drop 1 bits =
-    is ∙ take_all 171 (drop 1 bits) (omega (arith, long, length-drop 1 bits)) in
+    let all : p ≡ drop 1 bits = is ∙ take_all 171 (drop 1 bits) (omega (arith, long, length-drop 1 bits)) in
     rw (f, all) refl
 
 -- A full frame whose first bit is 1 is taken apart as the definition does: its traffic type and
@@ -59,8 +56,7 @@ plain_split bits mm p long read clear is =
 pub mixed_split : (bits : List Bool) (mm tt tm1 tm0 : Bool) (size : ℕ) (p o : List Bool) →
     length bits ≡ 172 → slice_get bits 0 ≡ Some mm → slice_get bits 1 ≡ Some tt →
     slice_get bits 2 ≡ Some tm1 → slice_get bits 3 ≡ Some tm0 → mm ≡ true →
-    size ≡ primary_bits tm1 tm0 → p ≡ take size (drop 4 bits) →
-    o ≡ take (168 - size) (drop (4 + size) bits) →
+    size ≡ primary_bits tm1 tm0 → p ≡ take size (drop 4 bits) → o ≡ take (168 - size) (drop (4 + size) bits) →
     record { primary = p; signal = cond tt None (Some o); secondary = cond tt (Some o) None }
     ≡ split_9600 bits
 unfolding split_9600
@@ -70,7 +66,6 @@ mixed_split bits mm tt tm1 tm0 size p o long r0 r1 r2 r3 set is first last =
     let f2 : get_or bits 2 false ≡ tm1 = get_or_from_slice_get bits 2 tm1 false r2 in
     let f3 : get_or bits 3 false ≡ tm0 = get_or_from_slice_get bits 3 tm0 false r3 in
     let all : o ≡ drop size (drop 4 bits) =
-    last ∙ take_all (168 - size) (drop (4 + size) bits)
-    (omega (arith, long, length-drop (4 + size) bits))
+    last ∙ take_all (168 - size) (drop (4 + size) bits) (omega (arith, long, length-drop (4 + size) bits))
     ∙ sym (dropped size 4 bits) in
     rw (f0, f1, f2, f3, ← is, first, all) refl

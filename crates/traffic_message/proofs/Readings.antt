@@ -5,15 +5,13 @@ use Rattle.traffic_message.proofs.Bodies.{message_again, message_there}
 use Rattle.traffic_message.specs.Reading as reading
 
 -- BODIES
-pub body_found : (body : List Bool) (result : Option Message) →
-    result ≡ reading.traffic_body_reading body →
+pub body_found : (body : List Bool) (result : Option Message) → result ≡ reading.traffic_body_reading body →
     IfSome result (λ m. IsTrafficMessage m × (body ≡ traffic_message_body m))
 body_found body None e = tt
 body_found body (Some m) e = message_there body m (sym e)
 
 pub body_only : (body : List Bool) (result : Option Message) (m : Message) →
-    result ≡ reading.traffic_body_reading body → IsTrafficMessage m → body ≡ traffic_message_body m →
-    result ≡ Some m
+    result ≡ reading.traffic_body_reading body → IsTrafficMessage m → body ≡ traffic_message_body m → result ≡ Some m
 body_only body result m e is same = e ∙ ap reading.traffic_body_reading same ∙ message_again m is
 
 -- CAPSULES

@@ -40,5 +40,4 @@ search_widths = 4 ∷ 6 ∷ 6 ∷ 4 ∷ 4 ∷ []
 
 -- their names
 abbrev pub search_names : List (List ℕ)
-search_names =
-    codes "wina" ∷ codes "tadd" ∷ codes "tdrop" ∷ codes "tcomp" ∷ codes "ttdrop" ∷ []
+search_names = codes "wina" ∷ codes "tadd" ∷ codes "tdrop" ∷ codes "tcomp" ∷ codes "ttdrop" ∷ []

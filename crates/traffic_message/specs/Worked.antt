@@ -177,10 +177,7 @@ no_neighbor = refl
 
 -- encrypted, it is passed on as it is
 secret : traffic_body_reading (binary 24 0x080088)
-    ≡ Some (record {
-      head = record no_head { encryption = 1 };
-      body = Other 8 (binary 7 8);
-    })
+    ≡ Some (record { head = record no_head { encryption = 1 }; body = Other 8 (binary 7 8) })
 unfolding no_head traffic_body_reading is_traffic_body head_at head_of part_reading reading
     fields_at group_at presence_at octets_at number_part part_at records_at binary
 secret = refl

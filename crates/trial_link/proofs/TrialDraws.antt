@@ -36,8 +36,7 @@ pub length-bits_drawn : (state n : ℕ) → length (bits_drawn state n) ≡ n
 unfolding bits_drawn
 length-bits_drawn state n = length-map-places (λ k. drawn (past_draws state k) % 2 == 1) n
 
-pub frames_more : (state n : ℕ) →
-    past_frames state (n + 1) ≡ past_frame (past_frames state n)
+pub frames_more : (state n : ℕ) → past_frames state (n + 1) ≡ past_frame (past_frames state n)
 unfolding past_frames
 frames_more state n = let e : n + 1 ≡ suc n = omega arith in ap (past_frames state) e
 

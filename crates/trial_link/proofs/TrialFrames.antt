@@ -30,17 +30,14 @@ with_last plan before line frames =
 abbrev pub on_frames : CellPlan → List TrafficPlan → TrafficLine → List TrafficFrame → Draft
 on_frames plan before line frames = draft_at (with_last plan before line frames) (Frames One)
 
-frame_next : (plan : CellPlan) (stage : Stage) (f : TrafficFrame) →
-    after_frame stage f.rate ≡ Some (Frames One) →
+frame_next : (plan : CellPlan) (stage : Stage) (f : TrafficFrame) → after_frame stage f.rate ≡ Some (Frames One) →
     with_next (draft_at plan stage) (statements.Frame f)
     ≡ Some (draft_at (record plan { traffic = with_frame plan.traffic f }) (Frames One))
 unfolding with_next
-frame_next plan stage f is =
-    ap (option_map (draft_at (record plan { traffic = with_frame plan.traffic f }))) is
+frame_next plan stage f is = ap (option_map (draft_at (record plan { traffic = with_frame plan.traffic f }))) is
 
 frame_added : (plan : CellPlan) (before : List TrafficPlan) (line : TrafficLine)
-    (got : List TrafficFrame) (f : TrafficFrame) (stage : Stage) →
-    after_frame stage f.rate ≡ Some (Frames One) →
+    (got : List TrafficFrame) (f : TrafficFrame) (stage : Stage) → after_frame stage f.rate ≡ Some (Frames One) →
     with_next (draft_at (with_last plan before line got) stage) (statements.Frame f)
     ≡ Some (on_frames plan before line (got ++ f ∷ []))
 frame_added plan before line got f stage is =
@@ -55,8 +52,7 @@ frames_lead : (plan : CellPlan) (before : List TrafficPlan) (line : TrafficLine)
     AreToldFrames frames → Leads (on_frames plan before line (got ++ frames)) (lines_of more) last →
     Leads (on_frames plan before line got) (lines_of (map statements.Frame frames ++ more)) last
 frames_lead plan before line got [] more last are rest =
-    subst (λ (fs : List TrafficFrame). Leads (on_frames plan before line fs) (lines_of more) last)
-    (append-nil got) rest
+    subst (λ (fs : List TrafficFrame). Leads (on_frames plan before line fs) (lines_of more) last) (append-nil got) rest
 frames_lead plan before line got (f ∷ frames) more last are rest =
     first_leads (on_frames plan before line got) (on_frames plan before line (got ++ f ∷ [])) last
     (statements.Frame f) (map statements.Frame frames ++ more) (frame_writable f are.0 are.1)
@@ -67,21 +63,18 @@ frames_lead plan before line got (f ∷ frames) more last are rest =
 
 -- ---- a channel
 
-traffic_next : (plan : CellPlan) (stage : Stage) (line : TrafficLine) →
-    after_traffic stage ≡ Some FirstFrame →
+traffic_next : (plan : CellPlan) (stage : Stage) (line : TrafficLine) → after_traffic stage ≡ Some FirstFrame →
     with_next (draft_at plan stage) (statements.Traffic line)
     ≡ Some (draft_at (with_last plan plan.traffic line []) FirstFrame)
 unfolding with_next
-traffic_next plan stage line is =
-    ap (option_map (draft_at (with_last plan plan.traffic line []))) is
+traffic_next plan stage line is = ap (option_map (draft_at (with_last plan plan.traffic line []))) is
 
 -- a traffic channel with its frames: one channel more
 pub channel_leads : (plan : CellPlan) (stage : Stage) (line : TrafficLine)
     (frames : List TrafficFrame) (more : List Statement) (last : Draft) →
     after_traffic stage ≡ Some FirstFrame → IsWritableTraffic line → AreToldFrames frames →
     0 < length frames → Leads (on_frames plan plan.traffic line frames) (lines_of more) last →
-    Leads (draft_at plan stage)
-    (lines_of (statements.Traffic line ∷ (map statements.Frame frames ++ more))) last
+    Leads (draft_at plan stage) (lines_of (statements.Traffic line ∷ (map statements.Frame frames ++ more))) last
 channel_leads plan stage line [] more last is told are some rest = absurd (omega (arith, some))
 channel_leads plan stage line (f ∷ frames) more last is told are some rest =
     let opened = draft_at (with_last plan plan.traffic line []) FirstFrame in
@@ -89,15 +82,13 @@ channel_leads plan stage line (f ∷ frames) more last is told are some rest =
     (map statements.Frame (f ∷ frames) ++ more) told (traffic_next plan stage line is)
     (first_leads opened (on_frames plan plan.traffic line (f ∷ [])) last (statements.Frame f)
     (map statements.Frame frames ++ more) (frame_writable f are.0 are.1)
-    (frame_added plan plan.traffic line [] f FirstFrame
-    (ap (λ (set : RateSet). Some (Frames set)) are.2))
+    (frame_added plan plan.traffic line [] f FirstFrame (ap (λ (set : RateSet). Some (Frames set)) are.2))
     (frames_lead plan plan.traffic line (f ∷ []) frames more last are.3 rest))
 
 -- ---- how long its lines are
 
 -- a line, and those after it
-pub lines_long : (statement : Statement) (more : List Statement) →
-    length (lines_of (statement ∷ more))
+pub lines_long : (statement : Statement) (more : List Statement) → length (lines_of (statement ∷ more))
     ≡ length (statement_text statement) + 1 + length (lines_of more)
 lines_long statement more =
     omega (
@@ -107,8 +98,7 @@ lines_long statement more =
     )
 
 frames_short : (frames : List TrafficFrame) (more : List Statement) → AreToldFrames frames →
-    length (lines_of (map statements.Frame frames ++ more))
-    ≤ 353 * length frames + length (lines_of more)
+    length (lines_of (map statements.Frame frames ++ more)) ≤ 353 * length frames + length (lines_of more)
 frames_short [] more are = omega arith
 frames_short (f ∷ frames) more are =
     omega (
@@ -132,8 +122,7 @@ channel_short line frames more is are =
 
 -- ---- frames that are drawn
 
-drawn_are : (state : ℕ) (ks : List ℕ) →
-    AreToldFrames (map (λ k. frame_drawn (past_frames state k)) ks)
+drawn_are : (state : ℕ) (ks : List ℕ) → AreToldFrames (map (λ k. frame_drawn (past_frames state k)) ks)
 drawn_are state [] = tt
 drawn_are state (k ∷ ks) =
     let from = past_frames state k in (
@@ -150,5 +139,4 @@ frames_drawn_are state n = drawn_are state (places n)
 
 pub frames_drawn-long : (state n : ℕ) → length (frames_drawn state n) ≡ n
 unfolding frames_drawn places
-frames_drawn-long state n =
-    length-map-range_with_len (λ k. frame_drawn (past_frames state k)) 0 n
+frames_drawn-long state n = length-map-range_with_len (λ k. frame_drawn (past_frames state k)) 0 n

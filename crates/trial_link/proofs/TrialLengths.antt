@@ -14,8 +14,7 @@ written_cell_short cell is =
     fields_short cell_statement.rows (cell_statement.said cell) refl (cell_writable cell is).ranged in
     omega (arith, short)
 
-pub written_traffic_short : (line : TrafficLine) → IsWritableTraffic line →
-    length (written_traffic line) ≤ 200
+pub written_traffic_short : (line : TrafficLine) → IsWritableTraffic line → length (written_traffic line) ≤ 200
 unfolding written_traffic
 written_traffic_short line is =
     let short : length (written_traffic line) ≤ 148 =

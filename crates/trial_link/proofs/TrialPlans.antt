@@ -55,8 +55,7 @@ page_is_body : (pn : ℕ) → is_body (trial_page pn).body ≡ true
 unfolding is_body admits trial_page binary
 page_is_body pn = refl
 
-page_fits : (pn : ℕ) → page_stage R9600 0 (trial_page pn)
-    ≡ Some (Pages R9600 (count_after R9600 0 (trial_page pn)))
+page_fits : (pn : ℕ) → page_stage R9600 0 (trial_page pn) ≡ Some (Pages R9600 (count_after R9600 0 (trial_page pn)))
 unfolding page_stage bits_left fill trial_page binary
 page_fits pn = refl
 
@@ -124,8 +123,7 @@ with_page cell = record (with_sync cell) {
   } ∷ [];
 }
 
-cell_next : (cell : CellIdentity) →
-    with_next empty_draft (statements.Cell cell) ≡ Some (draft_at (with_cell cell) Link)
+cell_next : (cell : CellIdentity) → with_next empty_draft (statements.Cell cell) ≡ Some (draft_at (with_cell cell) Link)
 unfolding with_next
 cell_next cell = refl
 
@@ -224,16 +222,13 @@ third_stated = record {
 
 abbrev with_first : ℕ → CellPlan
 with_first number =
-    with_last (with_page (trial_cell number)) [] (followed_line (trial_serial_number number))
-    (trial_frames number)
+    with_last (with_page (trial_cell number)) [] (followed_line (trial_serial_number number)) (trial_frames number)
 
 abbrev with_second : ℕ → CellPlan
-with_second number =
-    with_last (with_first number) (with_first number).traffic second_line (other_frame ∷ [])
+with_second number = with_last (with_first number) (with_first number).traffic second_line (other_frame ∷ [])
 
 abbrev with_third : ℕ → CellPlan
-with_third number =
-    with_last (with_second number) (with_second number).traffic third_line (other_frame ∷ [])
+with_third number = with_last (with_second number) (with_second number).traffic third_line (other_frame ∷ [])
 
 same_plan : (number : ℕ) → with_third number ≡ trial_plan number
 unfolding trial_plan
@@ -241,12 +236,10 @@ same_plan number = refl
 
 -- the statements of the traffic channels
 abbrev third_statements : List Statement
-third_statements =
-    statements.Traffic third_line ∷ (map statements.Frame (other_frame ∷ []) ++ [])
+third_statements = statements.Traffic third_line ∷ (map statements.Frame (other_frame ∷ []) ++ [])
 
 abbrev second_statements : List Statement
-second_statements =
-    statements.Traffic second_line ∷ (map statements.Frame (other_frame ∷ []) ++ third_statements)
+second_statements = statements.Traffic second_line ∷ (map statements.Frame (other_frame ∷ []) ++ third_statements)
 
 abbrev first_statements : ℕ → List Statement
 first_statements number =
@@ -287,10 +280,8 @@ trial_stated number =
     let cell = trial_cell number in
     let last = draft_at (with_third number) (Frames One) in
     ap stated_plan (trial_text-is number)
-    ∙ leads_to_plan (lines_of (head_statements cell (first_statements number))) last
-    (with_third number)
-    (head_leads cell (first_statements number) last (trial_cell_stated number)
-    (traffic_leads number))
+    ∙ leads_to_plan (lines_of (head_statements cell (first_statements number))) last (with_third number)
+    (head_leads cell (first_statements number) last (trial_cell_stated number) (traffic_leads number))
     refl
     ∙ ap (λ (p : CellPlan). Ok p) (same_plan number)
 

@@ -77,8 +77,7 @@ frames_drawn state n = map (λ k. frame_drawn (past_frames state k)) (places n)
 
 -- the state of the long code at the cell's time: of 42 bits, and not 0
 abbrev pub state_of_draws : ℕ → ℕ → ℕ
-state_of_draws high low =
-    if high * 1024 + low % 1024 == 0 then 1 else high * 1024 + low % 1024
+state_of_draws high low = if high * 1024 + low % 1024 == 0 then 1 else high * 1024 + low % 1024
 
 -- the cell: PILOT_PN, the time, and the long code's state; the checks of all messages are
 -- complemented

@@ -18,8 +18,7 @@ first_draw = refl
 last_number : drawn 18446744073709551615 ≡ 0xbbb38751
 last_number = refl
 
-cell_of_0 : written_cell (trial_cell 0)
-    ≡ codes "cell pn=382 time=436792849 lc=26bd9e08ae9 checks=3"
+cell_of_0 : written_cell (trial_cell 0) ≡ codes "cell pn=382 time=436792849 lc=26bd9e08ae9 checks=3"
 unfolding written_cell trial_cell past_draws state_digits encode_with digits
 cell_of_0 = refl
 

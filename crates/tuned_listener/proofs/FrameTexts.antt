@@ -4,14 +4,12 @@ use Rattle.tuned_listener.proofs.Common.{Mark, SoftFrame, slot_after, slot_more,
 use Rattle.tuned_listener.proofs.Common.{TunedText, Listed, RateSetTwo}
 
 -- what frames leave of a slot
-pub kept_after : (kept xs ys : List SoftFrame) →
-    slot_after kept (xs ++ ys) ≡ slot_after (slot_after kept xs) ys
+pub kept_after : (kept xs ys : List SoftFrame) → slot_after kept (xs ++ ys) ≡ slot_after (slot_after kept xs) ys
 unfolding slot_after
 kept_after kept [] ys = refl
 kept_after kept (frame ∷ xs) ys = kept_after (slot_more kept frame) xs ys
 
-pub kept_after_one : (kept : List SoftFrame) (frame : SoftFrame) →
-    slot_after kept (frame ∷ []) ≡ slot_more kept frame
+pub kept_after_one : (kept : List SoftFrame) (frame : SoftFrame) → slot_after kept (frame ∷ []) ≡ slot_more kept frame
 unfolding slot_after
 kept_after_one kept frame = refl
 
@@ -21,8 +19,7 @@ kept_after_none kept = refl
 
 module _ (form : TunedText) (check : CheckForm) (m : Mark) where
   -- the text of frames, and of those after them
-  pub texts_joined : (kept xs ys : List SoftFrame) →
-      frames_text form check m kept (xs ++ ys)
+  pub texts_joined : (kept xs ys : List SoftFrame) → frames_text form check m kept (xs ++ ys)
       ≡ frames_text form check m kept xs ++ frames_text form check m (slot_after kept xs) ys
   unfolding frames_text slot_after
   texts_joined kept [] ys = refl
@@ -30,11 +27,9 @@ module _ (form : TunedText) (check : CheckForm) (m : Mark) where
       let slot = slot_more kept frame in
       let first = tuned_frame_text form check m slot frame in
       ap (λ (text : List ℕ). first ++ text) (texts_joined slot xs ys)
-      ∙ sym (append_assoc first (frames_text form check m slot xs)
-      (frames_text form check m (slot_after slot xs) ys))
+      ∙ sym (append_assoc first (frames_text form check m slot xs) (frames_text form check m (slot_after slot xs) ys))
 
-  pub text_of_one : (kept : List SoftFrame) (frame : SoftFrame) →
-      frames_text form check m kept (frame ∷ [])
+  pub text_of_one : (kept : List SoftFrame) (frame : SoftFrame) → frames_text form check m kept (frame ∷ [])
       ≡ tuned_frame_text form check m (slot_more kept frame) frame
   unfolding frames_text
   text_of_one kept frame = append-nil (tuned_frame_text form check m (slot_more kept frame) frame)

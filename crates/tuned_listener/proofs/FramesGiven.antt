@@ -12,8 +12,7 @@ module _ {t : Tuning} {channel : Channel} {m : Mark} {r : ChannelReceiver} {n : 
     (has : HasGiven t channel m r n) where
   -- what is received of the frame that comes next
   pub frame_is : (samples : List Sample) (raw turned : List ℤ) (power : Option PowerControl) →
-      raw ≡ softs samples r.frames.fingers Data r.frames.clock.start →
-      turned
+      raw ≡ softs samples r.frames.fingers Data r.frames.clock.start → turned
       ≡ unscrambled
       (scrambling (after r.frames.scrambling.state (24576 * r.frames.clock.have)) r.frames.scrambling.mask) raw →
       power ≡ power_of channel m r.frames.clock.have raw →
@@ -50,8 +49,7 @@ module _ {t : Tuning} {channel : Channel} {m : Mark} {r : ChannelReceiver} {n : 
   none_due d = omega (arith, d.0, given)
 
   -- if the next frame ends later, the frames that end within n samples are those before it
-  all_given : (samples : List Sample) → n < r.frames.clock.end →
-      frames_within t channel m samples n
+  all_given : (samples : List Sample) → n < r.frames.clock.end → frames_within t channel m samples n
       ≡ map (soft_frame t channel m samples)
       (filter (is_in_file t.count (channel_stream t channel m)) (places r.frames.clock.next))
   unfolding frames_within
@@ -73,10 +71,8 @@ module _ {t : Tuning} {channel : Channel} {m : Mark} {r : ChannelReceiver} {n : 
       (λ k below. outside_low s has.clocked.timed k (omega (arith, below, first))))
 
   -- n' samples instead of n, up to the end of the next frame
-  given_more : (n' : ℕ) → n ≤ n' → n' ≤ t.count → n' ≤ r.frames.clock.end →
-      HasGiven t channel m r n'
-  given_more n' more most ends =
-      at_clock has r.frames.clock n' (clock_more has.clocked n' none_due more most ends)
+  given_more : (n' : ℕ) → n ≤ n' → n' ≤ t.count → n' ≤ r.frames.clock.end → HasGiven t channel m r n'
+  given_more n' more most ends = at_clock has r.frames.clock n' (clock_more has.clocked n' none_due more most ends)
 
   come_due : IsDueAt t.count (frame_come r.frames.clock)
   come_due = (
@@ -86,22 +82,19 @@ module _ {t : Tuning} {channel : Channel} {m : Mark} {r : ChannelReceiver} {n : 
         absurd (cc),
   )
 
-  come : r.frames.clock.end ≡ n →
-      IsAt t.count (channel_stream t channel m) (frame_come r.frames.clock) n
+  come : r.frames.clock.end ≡ n → IsAt t.count (channel_stream t channel m) (frame_come r.frames.clock) n
   come ended = clock_come has.clocked none_due ended
 
   -- the next frame has ended, and is given
   frame_given : r.frames.clock.end ≡ n → HasGiven t channel m (frame_passed r) n
   frame_given ended = at_clock has _ n (clock_heard (come ended) come_due)
 
-  here_inside : r.frames.clock.end ≡ n →
-      is_in_file t.count (channel_stream t channel m) r.frames.clock.next ≡ true
+  here_inside : r.frames.clock.end ≡ n → is_in_file t.count (channel_stream t channel m) r.frames.clock.next ≡ true
   here_inside ended = due_inside (come ended) come_due
 
 -- BEFORE ANY FRAME ENDS
 pub none_given : (t : Tuning) (channel : Channel) (m : Mark) (r : ChannelReceiver) (taken : ℕ) →
-    AreNear (channel_stream t channel m).fingers →
-    r.frames.clock
+    AreNear (channel_stream t channel m).fingers → r.frames.clock
     ≡ clock_from (channel_stream t channel m).fingers Data false (channel_stream t channel m).first
     (first_frame (channel_stream t channel m).fingers (channel_stream t channel m).first) →
     r.frames.fingers ≡ (channel_stream t channel m).fingers →
@@ -135,23 +128,20 @@ module _ {t : Tuning} {channel : Channel} {m : Mark} {r : ChannelReceiver} (hear
       sym (all_given has given (heard ++ more) waits)
       ∙ frames_sooner t channel m heard more (length heard) (omega arith)
 
-  on : length heard + length more ≤ r.frames.clock.end →
-      HasGiven t channel m r (length (heard ++ more))
+  on : length heard + length more ≤ r.frames.clock.end → HasGiven t channel m r (length (heard ++ more))
   on ends =
       given_more has given (length (heard ++ more)) (omega (arith, long)) (omega (arith, long, most))
       (omega (arith, long, ends))
 
   -- without a frame
-  pub step_none : length heard + length more < r.frames.clock.end →
-      HasGiven t channel m r (length (heard ++ more))
+  pub step_none : length heard + length more < r.frames.clock.end → HasGiven t channel m r (length (heard ++ more))
       × (soft_frames t channel m (heard ++ more) ≡ soft_frames t channel m heard)
   step_none later =
       let following = on (omega (arith, later)) in
       (following, all_given following given (heard ++ more) (omega (arith, long, later)) ∙ given_sooner)
 
   -- with the frame that ends there
-  pub step_frame : length heard + length more ≡ r.frames.clock.end →
-      HasGiven t channel m r (length (heard ++ more))
+  pub step_frame : length heard + length more ≡ r.frames.clock.end → HasGiven t channel m r (length (heard ++ more))
       × HasGiven t channel m (frame_passed r) (length (heard ++ more))
       × (soft_frames t channel m (heard ++ more)
       ≡ soft_frames t channel m heard ++ soft_frame t channel m (heard ++ more) r.frames.clock.have ∷ [])

@@ -31,8 +31,7 @@ module _ (softs : List ℤ) (small : (frame : ℕ) → frame < 4 →
       omega (arith, parted, here, later, more)
 
   -- those of a frame's span
-  pub spans_small : (frame : ℕ) → frame < 4 →
-      sum_by unsigned_abs (slot_span_softs softs frame) ≤ 4611686018427387904
+  pub spans_small : (frame : ℕ) → frame < 4 → sum_by unsigned_abs (slot_span_softs softs frame) ≤ 4611686018427387904
   spans_small zero below = let few = frames_small 0 2 (omega arith) in omega (arith, few)
   spans_small (suc zero) below = let few = frames_small 0 3 (omega arith) in omega (arith, few)
   spans_small (suc (suc zero)) below =
@@ -51,13 +50,11 @@ kept_softs w slot holds all long =
     sym (take_all (384 * w.kept) w.softs whole) ∙ holds.softs_are
 
 -- where a mark's data rate stands for one, it is this one
-rate_told : (prat : ℕ) (rate : Rate) →
-    (if nat_lt prat 2 then Some (paging_rate prat) else None) ≡ Some rate →
+rate_told : (prat : ℕ) (rate : Rate) → (if nat_lt prat 2 then Some (paging_rate prat) else None) ≡ Some rate →
     (nat_lt prat 2 ≡ true) × (paging_rate prat ≡ rate)
 rate_told prat rate is = by_test (nat_lt prat 2) refl is
   where
-    by_test : (b : Bool) → nat_lt prat 2 ≡ b →
-        (if b then Some (paging_rate prat) else None) ≡ Some rate →
+    by_test : (b : Bool) → nat_lt prat 2 ≡ b → (if b then Some (paging_rate prat) else None) ≡ Some rate →
         (nat_lt prat 2 ≡ true) × (paging_rate prat ≡ rate)
     by_test true low told = (low, cc)
     by_test false high told = absurd (cc)
@@ -66,8 +63,7 @@ rate_told prat rate is = by_test (nat_lt prat 2) refl is
 pub slot_told : (w : SlotWriter) (key cycle : ℕ) (check : CheckForm) (m : Mark)
     (slot : List SoftFrame) (frame : SoftFrame) (time : ℕ) (rate : Rate) (bits : List Bool) →
     HoldsSlot w slot → w.kept ≡ 4 → length w.softs ≡ 1536 → time ≡ m.time + frame.number / 4 →
-    is_monitored time key cycle ≡ true →
-    (if nat_lt m.prat 2 then Some (paging_rate m.prat) else None) ≡ Some rate →
+    is_monitored time key cycle ≡ true → (if nat_lt m.prat 2 then Some (paging_rate m.prat) else None) ≡ Some rate →
     bits ≡ slot_bits rate w.softs →
     slot_text key cycle check m slot frame ≡ slot_lines frame.end time (slot_pages check rate bits)
 slot_told w key cycle check m slot frame time rate bits holds all long at awake told is =

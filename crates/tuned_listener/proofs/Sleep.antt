@@ -19,8 +19,7 @@ parts_agree : {A : Type 0} (one other : List A) (place off count rest : ℕ) →
 parts_agree {A} one other place off count rest same =
     sym (cut one) ∙ ap (λ (xs : List A). take count (drop off xs)) same ∙ cut other
   where
-    cut : (xs : List A) →
-        take count (drop off (take (off + (count + rest)) (drop place xs)))
+    cut : (xs : List A) → take count (drop off (take (off + (count + rest)) (drop place xs)))
         ≡ take count (drop (place + off) xs)
     cut xs =
         ap (take count) (drop-take off (count + rest) (drop place xs))
@@ -64,8 +63,7 @@ module _ (t : Tuning) (near : AreNear (sync_stream t).fingers) (m : Mark) (one o
     softs_same i few =
         let close = (and_parts (all_near stream.fingers) (has_reference stream.fingers)
         (paging_near t near number m)).0 in
-        let start : m.sample + 98304 * slot + 24576 * i ≡ frame_start stream (frame_of_slot slot i) =
-        omega arith in
+        let start : m.sample + 98304 * slot + 24576 * i ≡ frame_start stream (frame_of_slot slot i) = omega arith in
         ap (λ (f : SoftFrame). f.descrambled)
         (frame_same t (Paging number) m one other (frame_of_slot slot i)
         (subst (λ (u : ℕ). AgreeIn one other Data u stream.fingers) start
@@ -82,8 +80,7 @@ module _ (t : Tuning) (near : AreNear (sync_stream t).fingers) (m : Mark) (one o
 
   -- ---- the mark
   -- it is set by samples before it
-  set_before : mark t one (length one) ≡ Some m → m.sample ≤ length one →
-      mark t one m.sample ≡ Some m
+  set_before : mark t one (length one) ≡ Some m → m.sample ≤ length one → mark t one m.sample ≡ Some m
   set_before marked few = by_mark (mark t one m.sample) refl
     where
       by_mark : (found : Option Mark) → mark t one m.sample ≡ found → found ≡ Some m

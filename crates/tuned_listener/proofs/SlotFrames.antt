@@ -8,15 +8,13 @@ use Rattle.tuned_listener.proofs.Common.{slot_more, SlotWriter}
 -- ---- the frames of a slot
 
 -- its first frame begins it
-slot_begun : (slot : List SoftFrame) (frame : SoftFrame) → frame.number % 4 ≡ 0 →
-    slot_more slot frame ≡ frame ∷ []
+slot_begun : (slot : List SoftFrame) (frame : SoftFrame) → frame.number % 4 ≡ 0 → slot_more slot frame ≡ frame ∷ []
 slot_begun slot frame is = rw (eq-eqb (frame.number % 4) 0 is) refl
 
 -- another one goes after those before it
 slot_goes_on : (slot : List SoftFrame) (frame : SoftFrame) → (frame.number % 4 == 0) ≡ false →
     frame.number % 4 ≡ length slot → slot_more slot frame ≡ slot ++ frame ∷ []
-slot_goes_on slot frame other is =
-    rw (other, eq-eqb (frame.number % 4) (length slot) is) refl
+slot_goes_on slot frame other is = rw (other, eq-eqb (frame.number % 4) (length slot) is) refl
 
 -- ---- what is kept of them
 
@@ -26,13 +24,11 @@ module _ (place size : ℕ) (softs fresh : List ℤ) (room : 384 * place ≤ len
   abbrev put : List ℤ
   put = put_mid (384 * place) size softs fresh
 
-  put_before : (frame : ℕ) → frame < place →
-      take 384 (drop (384 * frame) put) ≡ take 384 (drop (384 * frame) softs)
+  put_before : (frame : ℕ) → frame < place → take 384 (drop (384 * frame) put) ≡ take 384 (drop (384 * frame) softs)
   put_before frame below =
       let within : 384 * frame + 384 ≤ 384 * place = omega (arith, below) in
       sym (drop-take (384 * frame) 384 put)
-      ∙ ap (drop (384 * frame))
-      (take-put_mid_below (384 * place) size softs fresh (384 * frame + 384) within room)
+      ∙ ap (drop (384 * frame)) (take-put_mid_below (384 * place) size softs fresh (384 * frame + 384) within room)
       ∙ drop-take (384 * frame) 384 softs
 
   put_here : take 384 (drop (384 * place) put) ≡ fresh
@@ -42,8 +38,7 @@ module _ (place size : ℕ) (softs fresh : List ℤ) (room : 384 * place ≤ len
       ∙ between-put_mid (384 * place) size softs fresh (384 * place + 384) room (long ∙ count)
 
   put_front : take (384 * (place + 1)) put ≡ take (384 * place) softs ++ fresh
-  put_front =
-      take-put_mid (384 * place) size softs fresh (384 * (place + 1)) (omega (arith, long)) room
+  put_front = take-put_mid (384 * place) size softs fresh (384 * (place + 1)) (omega (arith, long)) room
 
   -- they stay small
   pub put_small : ((frame : ℕ) → frame < place →
@@ -62,8 +57,7 @@ pub ready_put : (w w' : SlotWriter) (place size : ℕ) (fresh given : List ℤ) 
     (place ≡ 0) ⊎ (place ≡ w.kept) → fresh ≡ given → length fresh ≡ 384 →
     384 * place ≤ length w.softs → sum_by unsigned_abs given ≤ frame_most →
     w'.decoder ≡ w.decoder → w'.cycle ≡ w.cycle → w'.kept ≡ place + 1 →
-    w'.softs ≡ put_mid (384 * place) size w.softs fresh → place ≤ 3 → IsReadyForSlots w →
-    IsReadyForSlots w'
+    w'.softs ≡ put_mid (384 * place) size w.softs fresh → place ≤ 3 → IsReadyForSlots w → IsReadyForSlots w'
 ready_put w w' place size fresh given which is long room small decoder cycle kept softs most ready =
     let before : (frame : ℕ) → frame < place →
     sum_by unsigned_abs (take 384 (drop (384 * frame) w.softs)) ≤ frame_most = λ frame below.

@@ -41,8 +41,7 @@ module _ (check : CheckForm) (rate : Rate) (bits : List Bool) where
   unfolding capsules_in
   capsules_first n fits =
       let size = half_frame_body rate in
-      let each = λ (i : ℕ). option_to_list
-      (half_frame_capsule_ending size (take (i + 1) (take n bits))) in
+      let each = λ (i : ℕ). option_to_list (half_frame_capsule_ending size (take (i + 1) (take n bits))) in
       ap (λ (k : ℕ). flat_map each (places k)) (length-take-le n bits fits)
       ∙ flat_map_ext_places each ending n
       (λ k below. ap (λ (xs : List Bool). option_to_list (half_frame_capsule_ending size xs))
@@ -59,8 +58,7 @@ module _ (check : CheckForm) (rate : Rate) (bits : List Bool) where
   pages_none = pages_first 0 (omega arith)
 
   -- all bits have those of the slot
-  pub pages_all : (n : ℕ) → length bits ≤ n →
-      slot_pages check rate (take n bits) ≡ slot_pages check rate bits
+  pub pages_all : (n : ℕ) → length bits ≤ n → slot_pages check rate (take n bits) ≡ slot_pages check rate bits
   pages_all n most = ap (slot_pages check rate) (take_all n bits most)
 
   module _ (i : ℕ) (bit : Bool) (read : slice_get bits i ≡ Some bit) (page : Option Page)
@@ -78,14 +76,12 @@ module _ (check : CheckForm) (rate : Rate) (bits : List Bool) where
         ∙ flat_map-append reading (flat_map ending (places i)) (ending i)
         ∙ ap (λ (ms : List PagingMessage). ms ++ flat_map reading (ending i))
         (sym (pages_first i (omega (arith, within))))
-        ∙ ap (λ (xs : List Bool). first ++ pages_ending check (half_frame_body rate) xs)
-        (taken_more bits i bit read)
+        ∙ ap (λ (xs : List Bool). first ++ pages_ending check (half_frame_body rate) xs) (taken_more bits i bit read)
         ∙ ap (λ (n : ℕ). first ++ pages_ending check n (take i bits ++ bit ∷ [])) (sym size_is)
         ∙ ap (λ (ms : List PagingMessage). first ++ ms) (sym is)
 
     -- they stand at the front of those of all bits
-    pages_begin : (rest : List PagingMessage)
-        × (slot_pages check rate bits ≡ (first ++ page_list page) ++ rest)
+    pages_begin : (rest : List PagingMessage) × (slot_pages check rate bits ≡ (first ++ page_list page) ++ rest)
     pages_begin =
         let within : i < length bits = slice_get_within bits i bit read in
         let n : ℕ = length bits in
@@ -112,8 +108,7 @@ module _ (check : CheckForm) (rate : Rate) (bits : List Bool) where
 
     module _ (at : ℕ) where
       -- what the bit has was written
-      pub lines_more : (old mid new : Option (List ℕ)) →
-          Appends old mid (flat_map (paging_line at) first) →
+      pub lines_more : (old mid new : Option (List ℕ)) → Appends old mid (flat_map (paging_line at) first) →
           Appends mid new (flat_map (paging_line at) (page_list page)) →
           Appends old new (flat_map (paging_line at) (slot_pages check rate (take (i + 1) bits)))
       lines_more old mid new lines line =
@@ -124,8 +119,7 @@ module _ (check : CheckForm) (rate : Rate) (bits : List Bool) where
           (flat_map (paging_line at) (page_list page)) lines line)
 
       -- a write failed in the middle of it
-      pub lines_cut : (old mid new : Option (List ℕ)) →
-          Appends old mid (flat_map (paging_line at) first) →
+      pub lines_cut : (old mid new : Option (List ℕ)) → Appends old mid (flat_map (paging_line at) first) →
           AppendsPrefix mid new (flat_map (paging_line at) (page_list page)) →
           AppendsPrefix old new (flat_map (paging_line at) (slot_pages check rate bits))
       lines_cut old mid new lines part =
@@ -135,7 +129,6 @@ module _ (check : CheckForm) (rate : Rate) (bits : List Bool) where
           subst (AppendsPrefix old new)
           (sym (ap (flat_map (paging_line at)) parted
           ∙ flat_map-append (paging_line at) (first ++ page_list page) rest
-          ∙ ap (λ (text : List ℕ). text ++ last)
-          (flat_map-append (paging_line at) first (page_list page))))
+          ∙ ap (λ (text : List ℕ). text ++ last) (flat_map-append (paging_line at) first (page_list page))))
           (prefix_before old new (flat_map (paging_line at) first ++ line) last
           (prefix_after old mid new (flat_map (paging_line at) first) line lines part))

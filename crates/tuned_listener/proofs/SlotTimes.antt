@@ -36,8 +36,7 @@ module _ (key cycle : ℕ) (check : CheckForm) (m : Mark) where
   lines_of_four slot a b c d =
       slot_lines d.end (m.time + slot)
       (slot_pages check (paging_rate m.prat)
-      (slot_bits (paging_rate m.prat)
-      (flat_map (λ (f : SoftFrame). f.descrambled) (a ∷ b ∷ c ∷ d ∷ []))))
+      (slot_bits (paging_rate m.prat) (flat_map (λ (f : SoftFrame). f.descrambled) (a ∷ b ∷ c ∷ d ∷ []))))
 
   -- one frame more
   text_of_next : (kept slot : List SoftFrame) (frame : SoftFrame) (frames : List SoftFrame) →
@@ -50,20 +49,17 @@ module _ (key cycle : ℕ) (check : CheckForm) (m : Mark) where
       ++ frames_text (Slots key cycle) check m s frames) more
 
   -- a slot's first frames, and its last
-  more_first : (kept : List SoftFrame) (a : SoftFrame) (slot : ℕ) → a.number ≡ 4 * slot →
-      slot_more kept a ≡ a ∷ []
+  more_first : (kept : List SoftFrame) (a : SoftFrame) (slot : ℕ) → a.number ≡ 4 * slot → slot_more kept a ≡ a ∷ []
   more_first kept a slot is =
       let rest : a.number % 4 ≡ 0 = omega (arith, is) in
       rw rest refl
 
-  more_second : (a b : SoftFrame) (slot : ℕ) → b.number ≡ 4 * slot + 1 →
-      slot_more (a ∷ []) b ≡ a ∷ b ∷ []
+  more_second : (a b : SoftFrame) (slot : ℕ) → b.number ≡ 4 * slot + 1 → slot_more (a ∷ []) b ≡ a ∷ b ∷ []
   more_second a b slot is =
       let rest : b.number % 4 ≡ 1 = omega (arith, is) in
       rw rest refl
 
-  more_third : (a b c : SoftFrame) (slot : ℕ) → c.number ≡ 4 * slot + 2 →
-      slot_more (a ∷ b ∷ []) c ≡ a ∷ b ∷ c ∷ []
+  more_third : (a b c : SoftFrame) (slot : ℕ) → c.number ≡ 4 * slot + 2 → slot_more (a ∷ b ∷ []) c ≡ a ∷ b ∷ c ∷ []
   more_third a b c slot is =
       let rest : c.number % 4 ≡ 2 = omega (arith, is) in
       rw rest refl
@@ -83,26 +79,22 @@ module _ (key cycle : ℕ) (check : CheckForm) (m : Mark) where
 
   -- the text of a slot, whatever was kept, and of what lies after it
   text_of_four : (kept : List SoftFrame) (a b c d : SoftFrame) (frames : List SoftFrame) (slot : ℕ) →
-      a.number ≡ 4 * slot → b.number ≡ 4 * slot + 1 → c.number ≡ 4 * slot + 2 →
-      d.number ≡ 4 * slot + 3 →
+      a.number ≡ 4 * slot → b.number ≡ 4 * slot + 1 → c.number ≡ 4 * slot + 2 → d.number ≡ 4 * slot + 3 →
       texts kept (a ∷ b ∷ c ∷ d ∷ frames)
-      ≡ (if is_awake key cycle m slot then lines_of_four slot a b c d else [])
-      ++ texts (a ∷ b ∷ c ∷ d ∷ []) frames
+      ≡ (if is_awake key cycle m slot then lines_of_four slot a b c d else []) ++ texts (a ∷ b ∷ c ∷ d ∷ []) frames
   text_of_four kept a b c d frames slot first second third last =
       text_of_next kept (a ∷ []) a (b ∷ c ∷ d ∷ frames) (more_first kept a slot first)
       ∙ text_of_next (a ∷ []) (a ∷ b ∷ []) b (c ∷ d ∷ frames) (more_second a b slot second)
       ∙ text_of_next (a ∷ b ∷ []) (a ∷ b ∷ c ∷ []) c (d ∷ frames) (more_third a b c slot third)
       ∙ text_of_next (a ∷ b ∷ c ∷ []) (a ∷ b ∷ c ∷ d ∷ []) d frames (more_last a b c d slot last)
-      ∙ ap (λ (xs : List ℕ). xs ++ texts (a ∷ b ∷ c ∷ d ∷ []) frames)
-      (text_of_last a b c d slot last)
+      ∙ ap (λ (xs : List ℕ). xs ++ texts (a ∷ b ∷ c ∷ d ∷ []) frames) (text_of_last a b c d slot last)
 
   -- a slot whose last frame is missing has none
   text_of_none : (kept : List SoftFrame) → texts kept [] ≡ []
   unfolding frames_text
   text_of_none kept = refl
 
-  text_of_one : (kept : List SoftFrame) (a : SoftFrame) (slot : ℕ) → a.number ≡ 4 * slot →
-      texts kept (a ∷ []) ≡ []
+  text_of_one : (kept : List SoftFrame) (a : SoftFrame) (slot : ℕ) → a.number ≡ 4 * slot → texts kept (a ∷ []) ≡ []
   unfolding frames_text
   text_of_one kept a slot first = text_of_next kept (a ∷ []) a [] (more_first kept a slot first)
 
@@ -125,27 +117,22 @@ module _ (key cycle : ℕ) (check : CheckForm) (m : Mark) where
   module _ (frame : ℕ → SoftFrame) (numbered : (k : ℕ) → (frame k).number ≡ k) where
     abbrev lines_at : ℕ → List ℕ
     lines_at slot =
-        lines_of_four slot (frame (4 * slot + 0)) (frame (4 * slot + 1)) (frame (4 * slot + 2))
-        (frame (4 * slot + 3))
+        lines_of_four slot (frame (4 * slot + 0)) (frame (4 * slot + 1)) (frame (4 * slot + 2)) (frame (4 * slot + 3))
 
     -- The text of frames in a row, from the first one of a slot on, is that of the whole slots in
     -- which the handset is awake. By induction over the slots: the fourth frame completes a slot,
     -- and the one to three frames that may be left at the end complete none.
-    slot_by_slot : (kept : List SoftFrame) (k n slot slots more : ℕ) → k ≡ 4 * slot →
-        n ≡ 4 * slots + more → more < 4 →
+    slot_by_slot : (kept : List SoftFrame) (k n slot slots more : ℕ) → k ≡ 4 * slot → n ≡ 4 * slots + more → more < 4 →
         texts kept (map frame (range_with_len k n))
         ≡ flat_map lines_at (filter (is_awake key cycle m) (range_with_len slot slots))
     slot_by_slot kept k zero slot zero more is long few = text_of_none kept
-    slot_by_slot kept k (suc zero) slot zero more is long few =
-        text_of_one kept (frame k) slot (numbered k ∙ is)
+    slot_by_slot kept k (suc zero) slot zero more is long few = text_of_one kept (frame k) slot (numbered k ∙ is)
     slot_by_slot kept k (suc (suc zero)) slot zero more is long few =
-        text_of_two kept (frame k) (frame (k + 1)) slot (numbered k ∙ is)
-        (omega (arith, numbered (k + 1), is))
+        text_of_two kept (frame k) (frame (k + 1)) slot (numbered k ∙ is) (omega (arith, numbered (k + 1), is))
     slot_by_slot kept k (suc (suc (suc zero))) slot zero more is long few =
         text_of_three kept (frame k) (frame (k + 1)) (frame (k + 1 + 1)) slot (numbered k ∙ is)
         (omega (arith, numbered (k + 1), is)) (omega (arith, numbered (k + 1 + 1), is))
-    slot_by_slot kept k (suc (suc (suc (suc n)))) slot zero more is long few =
-        absurd (omega (arith, long, few))
+    slot_by_slot kept k (suc (suc (suc (suc n)))) slot zero more is long few = absurd (omega (arith, long, few))
     slot_by_slot kept k (suc (suc (suc (suc n)))) slot (suc slots) more is long few =
         let first : frame k ≡ frame (4 * slot + 0) = ap frame (omega (arith, is)) in
         let second : frame (k + 1) ≡ frame (4 * slot + 1) = ap frame (omega (arith, is)) in
@@ -169,8 +156,7 @@ module _ (key cycle : ℕ) (check : CheckForm) (m : Mark) where
     frames_by_slots : (n : ℕ) →
         texts [] (map frame (places n)) ≡ flat_map lines_at (filter (is_awake key cycle m) (places (n / 4)))
     unfolding places
-    frames_by_slots n =
-        slot_by_slot [] 0 n 0 (n / 4) (n % 4) (omega arith) (omega arith) (omega arith)
+    frames_by_slots n = slot_by_slot [] 0 n 0 (n / 4) (n % 4) (omega arith) (omega arith) (omega arith)
 
 -- ---- frames within n samples
 -- A test that passes with a number each smaller one, and is passed by none from some number on, is
@@ -221,10 +207,7 @@ module _ (p : ℕ → Bool) (down : (j k : ℕ) → j < k → p k ≡ true → p
             ] in
             let (count, is) = front bound following in (
               count,
-              record {
-                passes = is.passes;
-                kept = ranges.filter_enough p (suc bound) bound past following ∙ is.kept;
-              },
+              record { passes = is.passes; kept = ranges.filter_enough p (suc bound) bound past following ∙ is.kept },
             )
       ]
 
@@ -253,13 +236,11 @@ module _ (t : Tuning) (near : AreNear (sync_stream t).fingers) (samples : List S
 
     begun : all_begun m.sample stream.fingers ≡ true
     begun =
-        close_begun m.sample stream.fingers (near_are_close stream.fingers close).close
-        (omega (arith, mark_is_late))
+        close_begun m.sample stream.fingers (near_are_close stream.fingers close).close (omega (arith, mark_is_late))
 
     timed : IsTimed t.count stream 0
     timed = let from_first : low_in stream ≡ 0 = rw begun refl in
-        subst (λ (low : ℕ). IsTimed t.count stream low) from_first
-        (timed_in t.count stream close)
+        subst (λ (low : ℕ). IsTimed t.count stream low) from_first (timed_in t.count stream close)
 
     -- whether a frame is among those that end within the samples
     abbrev is_known : ℕ → Bool
@@ -268,11 +249,9 @@ module _ (t : Tuning) (near : AreNear (sync_stream t).fingers) (samples : List S
     own_end : (k : ℕ) → known_at t.count stream k ≡ stream_end stream k
     own_end k = known_own stream timed k refl
 
-    known_parts : (k : ℕ) → is_known k ≡ true →
-        (stream_end stream k ≤ t.count) × (stream_end stream k ≤ samples_of)
+    known_parts : (k : ℕ) → is_known k ≡ true → (stream_end stream k ≤ t.count) × (stream_end stream k ≤ samples_of)
     known_parts k is =
-        let parts = and_parts (is_in_file t.count stream k)
-        (nat_le (known_at t.count stream k) samples_of) is in
+        let parts = and_parts (is_in_file t.count stream k) (nat_le (known_at t.count stream k) samples_of) is in
         let ends = leb-true (known_at t.count stream k) samples_of parts.1 in
         ((inside_to stream timed k parts.0).1, omega (arith, ends, own_end k))
 
@@ -282,8 +261,7 @@ module _ (t : Tuning) (near : AreNear (sync_stream t).fingers) (samples : List S
         let sooner = ends_lt stream timed j k less in
         and_from (is_in_file t.count stream j) (nat_le (known_at t.count stream j) samples_of)
         (inside_from stream timed j (omega arith) (omega (arith, sooner, ends.0)))
-        (le-leb (known_at t.count stream j) samples_of
-        (omega (arith, own_end j, sooner, ends.1)))
+        (le-leb (known_at t.count stream j) samples_of (omega (arith, own_end j, sooner, ends.1)))
 
     known_past : (k : ℕ) → paging_bound samples_of ≤ k → is_known k ≡ false
     known_past k past =
@@ -298,8 +276,7 @@ module _ (t : Tuning) (near : AreNear (sync_stream t).fingers) (samples : List S
 
     module _ (count : ℕ) (is : IsFront is_known (paging_bound samples_of) count) where
       -- they are numbered in a row from 0 on
-      in_a_row : soft_frames t (Paging number) m samples
-          ≡ map (soft_frame t (Paging number) m samples) (places count)
+      in_a_row : soft_frames t (Paging number) m samples ≡ map (soft_frame t (Paging number) m samples) (places count)
       unfolding frames_within
       in_a_row = ap (map (soft_frame t (Paging number) m samples)) is.kept
 
@@ -310,8 +287,7 @@ module _ (t : Tuning) (near : AreNear (sync_stream t).fingers) (samples : List S
           ≡ nat_le (4 * slot + i + 1) count
       frame_known slot i = is.passes (4 * slot + i)
 
-      slot_known : (slot : ℕ) →
-          is_slot_within t.count stream samples_of slot ≡ nat_le (slot + 1) (count / 4)
+      slot_known : (slot : ℕ) → is_slot_within t.count stream samples_of slot ≡ nat_le (slot + 1) (count / 4)
       unfolding places
       slot_known slot =
           elim (cases_lt slot (count / 4)) [
@@ -365,8 +341,7 @@ module _ (t : Tuning) (near : AreNear (sync_stream t).fingers) (samples : List S
         heard_is : (slot : ℕ) → heard slot ≡ (is_awake key cycle m slot && nat_le (slot + 1) (count / 4))
         heard_is slot =
             rw (slot_known slot)
-            (and_joined (is_monitored (m.time + slot) key cycle) (nat_lt m.prat 2)
-            (nat_le (slot + 1) (count / 4)))
+            (and_joined (is_monitored (m.time + slot) key cycle) (nat_lt m.prat 2) (nat_le (slot + 1) (count / 4)))
           where
             and_joined : (a b c : Bool) → (a && b && c) ≡ ((a && b) && c)
             and_joined true b c = refl
@@ -378,29 +353,25 @@ module _ (t : Tuning) (near : AreNear (sync_stream t).fingers) (samples : List S
             ∙ and_right (is_awake key cycle m slot) (nat_le (slot + 1) (count / 4))
             (lt-leb (slot + 1) (count / 4) (omega (arith, past)))
 
-        slots_heard : filter heard (places (slot_bound samples_of))
-            ≡ filter (is_awake key cycle m) (places (count / 4))
+        slots_heard : filter heard (places (slot_bound samples_of)) ≡ filter (is_awake key cycle m) (places (count / 4))
         slots_heard =
             ranges.filter_enough heard (slot_bound samples_of) (count / 4)
             (λ slot past. heard_past slot (omega (arith, past, count_most))) heard_past
             ∙ ranges.filter_ext_places heard (is_awake key cycle m) (count / 4)
             (λ slot below.
-            let all : nat_le (slot + 1) (count / 4) ≡ true =
-            le-leb (slot + 1) (count / 4) (omega (arith, below)) in
+            let all : nat_le (slot + 1) (count / 4) ≡ true = le-leb (slot + 1) (count / 4) (omega (arith, below)) in
             heard_is slot ∙ and_all (is_awake key cycle m slot) (nat_le (slot + 1) (count / 4)) all)
           where
             and_all : (a b : Bool) → b ≡ true → (a && b) ≡ a
             and_all true b all = all
             and_all false b all = refl
 
-        text_by_times : frames_text (Slots key cycle) t.check30 m []
-            (soft_frames t (Paging number) m samples)
+        text_by_times : frames_text (Slots key cycle) t.check30 m [] (soft_frames t (Paging number) m samples)
             ≡ lines_by_times key cycle t number m samples
         unfolding places
         text_by_times =
             ap (frames_text (Slots key cycle) t.check30 m []) in_a_row
-            ∙ frames_by_slots key cycle t.check30 m (soft_frame t (Paging number) m samples)
-            (λ k. refl) count
+            ∙ frames_by_slots key cycle t.check30 m (soft_frame t (Paging number) m samples) (λ k. refl) count
             ∙ ap (flat_map (lines_of_slot t.check30 m samples stream)) (sym slots_heard)
 
 pub written_by_times : IsWrittenByTimes
@@ -417,13 +388,11 @@ needs_mark key cycle t number samples unmarked =
 
 -- both in one: what is written are the lines after the mark, where one is set
 pub written_of_slots : (key cycle : ℕ) (t : Tuning) (number : ℕ) (samples : List Sample) →
-    AreNear (sync_stream t).fingers →
-    tuned_text (Slots key cycle) t (Paging number) samples
+    AreNear (sync_stream t).fingers → tuned_text (Slots key cycle) t (Paging number) samples
     ≡ lines_of_slots key cycle t number samples
 written_of_slots key cycle t number samples near = by_mark (mark t samples (length samples)) refl
   where
     by_mark : (set : Option Mark) → mark t samples (length samples) ≡ set →
-        tuned_text (Slots key cycle) t (Paging number) samples
-        ≡ lines_if_marked key cycle t number samples set
+        tuned_text (Slots key cycle) t (Paging number) samples ≡ lines_if_marked key cycle t number samples set
     by_mark None unset = needs_mark key cycle t number samples unset
     by_mark (Some m) set = written_by_times key cycle t number m samples near set

@@ -76,8 +76,7 @@ module _ (t : Tuning) (channel : Channel) (m : Mark) {low : ℕ}
             let e = ap frames.known same in
             known n j there.0 (omega (arith, e, here.1))
       ] in
-      let (rest, parted) =
-      filter_front (is_by frames n) (is_by frames n') 0 (paging_bound n') wider front in
+      let (rest, parted) = filter_front (is_by frames n) (is_by frames n') 0 (paging_bound n') wider front in
       let longer : filter (is_by frames n) (places (paging_bound n))
       ≡ filter (is_by frames n) (places (paging_bound n')) =
       ranges.filter_enough (is_by frames n) (paging_bound n) (paging_bound n') past
@@ -123,8 +122,7 @@ shown_text form t channel m heard shown =
 
 -- what it keeps then
 abbrev kept_with : Tuning → Channel → Mark → List Sample → Option SoftFrame → List SoftFrame
-kept_with t channel m heard shown =
-    slot_after (kept_of t channel m heard) (option_to_list shown)
+kept_with t channel m heard shown = slot_after (kept_of t channel m heard) (option_to_list shown)
 
 module _ (t : Tuning) (channel : Channel) (m : Mark) (form : TunedText) where
   module _ (heard : List Sample) (shown : Option SoftFrame) where
@@ -134,28 +132,22 @@ module _ (t : Tuning) (channel : Channel) (m : Mark) (form : TunedText) where
         (slot_more (kept_of t channel m heard) frame) frame) →
         Appends old new (shown_text form t channel m heard shown)
     frame_written frame old new is written =
-        subst (λ (x : Option SoftFrame). Appends old new (shown_text form t channel m heard x))
-        (sym is)
-        (subst (Appends old new)
-        (sym (text_of_one form t.check30 m (kept_of t channel m heard) frame)) written)
+        subst (λ (x : Option SoftFrame). Appends old new (shown_text form t channel m heard x)) (sym is)
+        (subst (Appends old new) (sym (text_of_one form t.check30 m (kept_of t channel m heard) frame)) written)
 
     pub frame_cut : (frame : SoftFrame) (old new : Option (List ℕ)) → shown ≡ Some frame →
         AppendsPrefix old new (tuned_frame_text form t.check30 m
         (slot_more (kept_of t channel m heard) frame) frame) →
         AppendsPrefix old new (shown_text form t channel m heard shown)
     frame_cut frame old new is part =
-        subst (λ (x : Option SoftFrame). AppendsPrefix old new
-        (shown_text form t channel m heard x)) (sym is)
-        (subst (AppendsPrefix old new)
-        (sym (text_of_one form t.check30 m (kept_of t channel m heard) frame)) part)
+        subst (λ (x : Option SoftFrame). AppendsPrefix old new (shown_text form t channel m heard x)) (sym is)
+        (subst (AppendsPrefix old new) (sym (text_of_one form t.check30 m (kept_of t channel m heard) frame)) part)
 
     pub none_written : (old : Option (List ℕ)) → shown ≡ None →
         Appends old old (shown_text form t channel m heard shown)
     none_written old is =
-        subst (λ (x : Option SoftFrame). Appends old old (shown_text form t channel m heard x))
-        (sym is)
-        (subst (Appends old old)
-        (sym (text_of_none form t.check30 m (kept_of t channel m heard))) (Appends-nil old))
+        subst (λ (x : Option SoftFrame). Appends old old (shown_text form t channel m heard x)) (sym is)
+        (subst (Appends old old) (sym (text_of_none form t.check30 m (kept_of t channel m heard))) (Appends-nil old))
 
     -- what a writer keeps of a slot then
     pub frame_kept : (frame : SoftFrame) (writer : FrameWriter) → shown ≡ Some frame →
@@ -166,8 +158,7 @@ module _ (t : Tuning) (channel : Channel) (m : Mark) (form : TunedText) where
         (sym (ap (kept_with t channel m heard) is
         ∙ kept_after_one (kept_of t channel m heard) frame))
 
-    pub none_kept : (writer : FrameWriter) → shown ≡ None →
-        HoldsFrames writer t.check30 (kept_of t channel m heard) →
+    pub none_kept : (writer : FrameWriter) → shown ≡ None → HoldsFrames writer t.check30 (kept_of t channel m heard) →
         HoldsFrames writer t.check30 (kept_with t channel m heard shown)
     none_kept writer is =
         subst (HoldsFrames writer t.check30)
@@ -192,8 +183,7 @@ module _ (t : Tuning) (channel : Channel) (m : Mark) (form : TunedText) where
       -- the frames that have ended then
       frames_then : soft_frames t channel m (heard ++ take (taken + step.taken) samples)
           ≡ soft_frames t channel m so_many ++ option_to_list step.frame
-      frames_then =
-          ap (soft_frames t channel m) (sym joined) ∙ does.gives t channel m so_many so_far.tuned
+      frames_then = ap (soft_frames t channel m) (sym joined) ∙ does.gives t channel m so_many so_far.tuned
 
       -- the text of a step's frame
       step_text : text_from form t channel m heard
@@ -203,8 +193,7 @@ module _ (t : Tuning) (channel : Channel) (m : Mark) (form : TunedText) where
           let text = shown_text form t channel m so_many step.frame in
           sym (append_assoc (text_from form t channel m heard) so_far.text text)
           ∙ ap (λ (bytes : List ℕ). bytes ++ text) so_far.all
-          ∙ sym (texts_joined form t.check30 m [] (soft_frames t channel m so_many)
-          (option_to_list step.frame))
+          ∙ sym (texts_joined form t.check30 m [] (soft_frames t channel m so_many) (option_to_list step.frame))
           ∙ ap (frames_text form t.check30 m []) (sym frames_then)
 
       -- what is kept of a slot after it
@@ -215,11 +204,9 @@ module _ (t : Tuning) (channel : Channel) (m : Mark) (form : TunedText) where
           ∙ ap (slot_after []) (sym frames_then)
 
       -- it was written
-      pub writes_more : (writer' : FrameWriter) →
-          Appends mid new (shown_text form t channel m so_many step.frame) →
+      pub writes_more : (writer' : FrameWriter) → Appends mid new (shown_text form t channel m so_many step.frame) →
           HoldsFrames writer' t.check30 (kept_with t channel m so_many step.frame) →
-          WritesFrames t channel m form other writer' heard
-          (heard ++ take (taken + step.taken) samples) old new
+          WritesFrames t channel m form other writer' heard (heard ++ take (taken + step.taken) samples) old new
       writes_more writer' written holds =
           let text = shown_text form t channel m so_many step.frame in
           record {
@@ -237,8 +224,7 @@ module _ (t : Tuning) (channel : Channel) (m : Mark) (form : TunedText) where
           let now = heard ++ take (taken + step.taken) samples in
           let last = drop (taken + step.taken) samples in
           let text = shown_text form t channel m so_many step.frame in
-          let (rest, later) =
-          text_goes_on t channel m tuned.given.clocked.timed form now last in
+          let (rest, later) = text_goes_on t channel m tuned.given.clocked.timed form now last in
           let whole_samples : now ++ last ≡ heard ++ samples =
           append_assoc heard (take (taken + step.taken) samples) last
           ∙ ap (λ (xs : List Sample). heard ++ xs) (take-append-drop (taken + step.taken) samples) in
@@ -251,13 +237,11 @@ module _ (t : Tuning) (channel : Channel) (m : Mark) (form : TunedText) where
           ∙ append_assoc before (so_far.text ++ text) rest
           ∙ ap (λ (bytes : List ℕ). before ++ bytes) (append_assoc so_far.text text rest) in
           let cut : AppendsPrefix old new all =
-          prefix_after old mid new so_far.text (text ++ rest) so_far.written
-          (prefix_before mid new text rest part) in
+          prefix_after old mid new so_far.text (text ++ rest) so_far.written (prefix_before mid new text rest part) in
           record {
             text = take cut.count all;
             written = cut.appended;
-            begins = subst (λ (bytes : List ℕ). StartsWith bytes (before ++ take cut.count all))
-                (sym whole)
+            begins = subst (λ (bytes : List ℕ). StartsWith bytes (before ++ take cut.count all)) (sym whole)
                 (begins_more before all (take cut.count all) (taken_begins all cut.count cut.fits));
           }
 

@@ -19,14 +19,11 @@ module _ (t : Tuning) (channel : Channel) (heard : List Sample) (hearer : Hearer
     (from : ListensFrom t channel hearer heard) where
   -- a handset ahead of the mark
   pub waits : (mobile : Mobile) (for_channel : Channel) (phase : ℕ) (near : Near) →
-      hearer ≡ Ahead mobile for_channel phase near →
-      WaitsFor t channel mobile for_channel phase near heard
-  waits mobile for_channel phase near is =
-      subst (λ (h : Hearer). ListensFrom t channel h heard) is from
+      hearer ≡ Ahead mobile for_channel phase near → WaitsFor t channel mobile for_channel phase near heard
+  waits mobile for_channel phase near is = subst (λ (h : Hearer). ListensFrom t channel h heard) is from
 
   -- or a receiver after it
-  pub receives : (m : Mark) (tuner : Tuner) → hearer ≡ After m tuner →
-      ListensAfter t channel m tuner heard
+  pub receives : (m : Mark) (tuner : Tuner) → hearer ≡ After m tuner → ListensAfter t channel m tuner heard
   receives m tuner is = subst (λ (h : Hearer). ListensFrom t channel h heard) is from
 
 -- which is sound
@@ -93,8 +90,7 @@ holds_nothing t channel writer check near same holds =
 module _ (t : Tuning) (channel : Channel) (form : TunedText) (l : TunedListener)
     (heard : List Sample) (is : ListensTuned t channel form l heard) where
   -- another takes its place, for the same text
-  pub listens_on : (l' : TunedListener) (heard' : List Sample) →
-      tuned_text_of l'.writer ≡ tuned_text_of l.writer →
+  pub listens_on : (l' : TunedListener) (heard' : List Sample) → tuned_text_of l'.writer ≡ tuned_text_of l.writer →
       HoldsFrames l'.writer t.check30 (slot_after [] (after_mark t channel heard')) →
       ListensFrom t channel l'.hearer heard' → ListensTuned t channel form l' heard'
   listens_on l' heard' text holds from = record {
@@ -110,16 +106,14 @@ module _ (t : Tuning) (channel : Channel) (form : TunedText) (l : TunedListener)
       ListensFrom t channel l'.hearer heard' → ListensTuned t channel form l' heard'
   listens_silent l' heard' writer silent =
       listens_on l' heard' (ap tuned_text_of writer)
-      (subst (λ (w : FrameWriter). HoldsFrames w t.check30 (slot_after [] (after_mark t channel heard')))
-      (sym writer)
+      (subst (λ (w : FrameWriter). HoldsFrames w t.check30 (slot_after [] (after_mark t channel heard'))) (sym writer)
       (subst (λ (fs : List SoftFrame). HoldsFrames l.writer t.check30 (slot_after [] fs)) (sym silent)
       is.holds))
 
   -- a handset hears on ahead of the mark
   pub listens_ahead : (l' : TunedListener) (mobile : Mobile) (for_channel : Channel) (phase : ℕ)
       (near : Near) (samples : List Sample) (taken : ℕ) → taken ≡ length samples →
-      l'.writer ≡ l.writer → l'.hearer ≡ Ahead mobile for_channel phase near →
-      mark t heard (length heard) ≡ None →
+      l'.writer ≡ l.writer → l'.hearer ≡ Ahead mobile for_channel phase near → mark t heard (length heard) ≡ None →
       WaitsFor t channel mobile for_channel phase near (heard ++ samples) →
       ListensTuned t channel form l' (heard ++ take taken samples)
   listens_ahead l' mobile for_channel phase near samples taken all writer ahead unmarked hears =
@@ -129,8 +123,7 @@ module _ (t : Tuning) (channel : Channel) (form : TunedText) (l : TunedListener)
       let silent = frames_unmarked t channel now hears.ahead.unmarked
       ∙ sym (frames_unmarked t channel heard unmarked) in
       subst (ListensTuned t channel form l') (sym joined)
-      (listens_silent l' now writer silent
-      (subst (λ (h : Hearer). ListensFrom t channel h now) (sym ahead) hears))
+      (listens_silent l' now writer silent (subst (λ (h : Hearer). ListensFrom t channel h now) (sym ahead) hears))
 
   -- a receiver of frames takes the place of a handset where the mark is set
   pub listens_after : (l' : TunedListener) (m : Mark) (heard' : List Sample) →
@@ -153,23 +146,18 @@ silent_at_mark t channel form m heard heard' unmarked marked none =
 
 -- nor does one end ahead of it
 pub silent_ahead : (t : Tuning) (channel : Channel) (form : TunedText)
-    (heard samples : List Sample) (taken : ℕ) → taken ≡ length samples →
-    mark t heard (length heard) ≡ None →
+    (heard samples : List Sample) (taken : ℕ) → taken ≡ length samples → mark t heard (length heard) ≡ None →
     mark t (heard ++ samples) (length (heard ++ samples)) ≡ None →
     tuned_text form t channel (heard ++ take taken samples) ≡ tuned_text form t channel heard
 silent_ahead t channel form heard samples taken all before following =
-    ap (λ (xs : List Sample). tuned_text form t channel (heard ++ xs))
-    (take_all taken samples (omega (arith, all)))
+    ap (λ (xs : List Sample). tuned_text form t channel (heard ++ xs)) (take_all taken samples (omega (arith, all)))
     ∙ text_unmarked form t channel (heard ++ samples) following
     ∙ sym (text_unmarked form t channel heard before)
 
 -- ---- what is there
 
 pub lawful_channel : (channel : Channel) → ∥ IsLawful channel ∥₁ → IsLawful channel
-lawful_channel (Paging number) is = (
-  there_le 1 number is (λ x. x.0),
-  there_le number 7 is (λ x. x.1),
-)
+lawful_channel (Paging number) is = (there_le 1 number is (λ x. x.0), there_le number 7 is (λ x. x.1))
 lawful_channel (Traffic traffic) is =
     let row = there_le (traffic.row + 1) 64 is (λ x. let low = x.0 in omega (arith, low)) in (
       omega (arith, row),
@@ -179,8 +167,7 @@ lawful_channel (Traffic traffic) is =
 there_small : (slots : SlotWriter) → ∥ IsReadyForSlots slots ∥₁ → (frame : ℕ) → frame < slots.kept →
     sum_by unsigned_abs (take 384 (drop (384 * frame) slots.softs)) ≤ frame_most
 there_small slots is frame inside =
-    there_le (sum_by unsigned_abs (take 384 (drop (384 * frame) slots.softs))) frame_most is
-    (λ x. x.small frame inside)
+    there_le (sum_by unsigned_abs (take 384 (drop (384 * frame) slots.softs))) frame_most is (λ x. x.small frame inside)
 
 ready_slots : (slots : SlotWriter) → ∥ IsReadyForSlots slots ∥₁ → IsReadyForSlots slots
 ready_slots slots is = record {
@@ -214,8 +201,7 @@ module _ (t : Tuning) (channel : Channel) (form : TunedText) (l : TunedListener)
     marked = mark_kept t is.close heard samples m from.marked
 
     -- what the writer keeps, by the frames from the mark on
-    pub keeps_after : HoldsFrames l.writer t.check30
-        (slot_after [] (soft_frames t channel m heard))
+    pub keeps_after : HoldsFrames l.writer t.check30 (slot_after [] (soft_frames t channel m heard))
     keeps_after =
         subst (λ (fs : List SoftFrame). HoldsFrames l.writer t.check30 (slot_after [] fs))
         (frames_marked t channel heard m from.marked) is.holds
@@ -232,13 +218,11 @@ module _ (t : Tuning) (channel : Channel) (form : TunedText) (l : TunedListener)
     tells_frames_after l' tuner' text after writes =
         let wrote = subst (λ (f : TunedText). WritesFrames t channel m f tuner' l'.writer heard now
         old new) is.form_is (writes t channel heard from.tuned keeps_after) in
-        let there : ListensFrom t channel (After m tuner') now =
-        record { marked = marked; tuned = wrote.tuned } in
+        let there : ListensFrom t channel (After m tuner') now = record { marked = marked; tuned = wrote.tuned } in
         record {
           text = wrote.text;
           written = wrote.written;
-          all = ap (λ (bytes : List ℕ). bytes ++ wrote.text)
-              (text_marked form t channel heard m from.marked)
+          all = ap (λ (bytes : List ℕ). bytes ++ wrote.text) (text_marked form t channel heard m from.marked)
               ∙ wrote.all
               ∙ sym (text_marked form t channel now m marked);
           listens =
@@ -261,11 +245,9 @@ module _ (t : Tuning) (channel : Channel) (form : TunedText) (l : TunedListener)
           text = wrote.text;
           written = wrote.written;
           begins =
-              subst (λ (all : List ℕ). StartsWith all
-              (tuned_text form t channel heard ++ wrote.text))
+              subst (λ (all : List ℕ). StartsWith all (tuned_text form t channel heard ++ wrote.text))
               (sym (text_marked form t channel now m marked))
-              (subst (λ (front : List ℕ). StartsWith (text_from form t channel m now)
-              (front ++ wrote.text))
+              (subst (λ (front : List ℕ). StartsWith (text_from form t channel m now) (front ++ wrote.text))
               (sym (text_marked form t channel heard m from.marked)) wrote.begins);
         }
 
@@ -298,10 +280,8 @@ module _ (t : Tuning) (channel : Channel) (form : TunedText) (heard samples next
       ∙ ap (λ (xs : List Sample). heard ++ (take taken samples ++ xs)) left
       ∙ ap (λ (xs : List Sample). heard ++ xs) (take-append-drop taken samples)
 
-  pub tells_after : (l : TunedListener) →
-      TellsTuned t channel form l (heard ++ take taken samples)
-      ((heard ++ take taken samples) ++ next) old new →
-      TellsTuned t channel form l heard (heard ++ samples) old new
+  pub tells_after : (l : TunedListener) → TellsTuned t channel form l (heard ++ take taken samples)
+      ((heard ++ take taken samples) ++ next) old new → TellsTuned t channel form l heard (heard ++ samples) old new
   tells_after l tells = record {
     text = tells.text;
     written = tells.written;
@@ -312,15 +292,13 @@ module _ (t : Tuning) (channel : Channel) (form : TunedText) (heard samples next
   }
 
   pub cut_after : TellsTunedPart t channel form (heard ++ take taken samples)
-      ((heard ++ take taken samples) ++ next) old new →
-      TellsTunedPart t channel form heard (heard ++ samples) old new
+      ((heard ++ take taken samples) ++ next) old new → TellsTunedPart t channel form heard (heard ++ samples) old new
   cut_after tells = record {
     text = tells.text;
     written = tells.written;
     begins =
         subst (λ (xs : List Sample). StartsWith (tuned_text form t channel xs)
         (tuned_text form t channel heard ++ tells.text)) joined
-        (subst (λ (front : List ℕ). StartsWith
-        (tuned_text form t channel ((heard ++ take taken samples) ++ next))
+        (subst (λ (front : List ℕ). StartsWith (tuned_text form t channel ((heard ++ take taken samples) ++ next))
         (front ++ tells.text)) silent tells.begins);
   }

@@ -28,8 +28,7 @@ there_eq a b there follows =
 -- a handset's fingers are near
 pub stands_near : (t : Tuning) (mobile : Mobile) (heard : List Sample) (given : List Event) →
     StandsFor t mobile heard given → AreNear (sync_stream t).fingers
-stands_near t mobile heard given stands =
-    subst AreNear stands.sync.receives.fingers_are mobile.sound.hears.channel.near
+stands_near t mobile heard given stands = subst AreNear stands.sync.receives.fingers_are mobile.sound.hears.channel.near
 
 module _ (t : Tuning) (near : AreNear (sync_stream t).fingers) where
   -- more samples set the same
@@ -85,11 +84,7 @@ module _ (before after : Mobile) (next : List Sample) (step : Step)
         HasNoMark t after (heard ++ take step.taken next)
     no_mark_more t heard has =
         let is = does.stands t heard has.given has.stands in
-        record {
-          given = has.given ++ event_list step.event;
-          stands = is;
-          unset = unset t heard has.given has.unset is;
-        }
+        record { given = has.given ++ event_list step.event; stands = is; unset = unset t heard has.given has.unset is }
 
     pub untold_more : IsUntold before → IsUntold after
     untold_more untold =
@@ -108,8 +103,7 @@ module _ (before after : Mobile) (next : List Sample) (step : Step)
       ListensAhead t after (heard ++ samples)
   ahead_all t heard samples taken left none all told has =
       let now = heard ++ take taken samples in
-      let taken_all : take step.taken next ≡ next =
-      take_all step.taken next (omega (arith, all)) in
+      let taken_all : take step.taken next ≡ next = take_all step.taken next (omega (arith, all)) in
       let whole : now ++ take step.taken next ≡ heard ++ samples =
       ap (λ (xs : List Sample). now ++ xs) (taken_all ∙ left)
       ∙ append_assoc heard (take taken samples) (drop taken samples)
@@ -155,8 +149,7 @@ module _ (before after : Mobile) (next : List Sample) (step : Step)
         subst (λ (e : Option Event). StandsFor t after now (given ++ event_list e)) (sym gave)
         (does.stands t was.heard given was.has.stands) in
         let ends : at_of event ≡ length was.heard + step.taken =
-        subst (λ (e : Option Event). IfSome e
-        (λ (x : Event). at_of x ≡ length was.heard + step.taken)) (sym gave)
+        subst (λ (e : Option Event). IfSome e (λ (x : Event). at_of x ≡ length was.heard + step.taken)) (sym gave)
         (does.ends t was.heard given was.has.stands) in
         let long : length now ≡ length was.heard + step.taken =
         length-append was.heard (take step.taken next)
@@ -169,8 +162,7 @@ module _ (before after : Mobile) (next : List Sample) (step : Step)
         StandsFor t after heard (given ++ event ∷ []) → at_of event ≡ length heard →
         list_any sets_mark given ≡ false → length heard ≤ m.sample) →
         samples_taken after ≤ m.sample
-    mark_is_ahead untold ahead =
-        there_le (samples_taken after) m.sample untold (early step.event refl ahead)
+    mark_is_ahead untold ahead = there_le (samples_taken after) m.sample untold (early step.event refl ahead)
 
   -- it is set by the samples taken
   pub marked_here : (t : Tuning) (heard samples : List Sample) (taken : ℕ) (m : Mark) →

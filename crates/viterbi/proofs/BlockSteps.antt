@@ -10,16 +10,13 @@ use Rattle.viterbi.proofs.Codes.{code_gains}
 use Rattle.viterbi.proofs.Blocks.{passed, kept}
 
 -- THE TABLES
-all_tests : (p : ℕ → Bool) (xs : List ℕ) (i d : ℕ) → i < length xs → list_all p xs ≡ true →
-    p (get_or xs i d) ≡ true
+all_tests : (p : ℕ → Bool) (xs : List ℕ) (i d : ℕ) → i < length xs → list_all p xs ≡ true → p (get_or xs i d) ≡ true
 all_tests p [] i d h all = absurd (omega (arith, h))
 all_tests p (x ∷ xs) zero d h all = (and_parts (p x) (list_all p xs) all).0
 all_tests p (x ∷ xs) (suc i) d h all =
-    all_tests p xs i d (omega (arith, h))
-    (and_parts (p x) (list_all p xs) all).1
+    all_tests p xs i d (omega (arith, h)) (and_parts (p x) (list_all p xs) all).1
 
-all_below : (p : ℕ → Bool) (n : ℕ) → list_all p (range_with_len 0 n) ≡ true → (t : ℕ) → t < n →
-    p t ≡ true
+all_below : (p : ℕ → Bool) (n : ℕ) → list_all p (range_with_len 0 n) ≡ true → (t : ℕ) → t < n → p t ≡ true
 all_below p n all t b =
     let place : 0 + t ≡ t = omega arith in
     sym (ap p (get_or-range_with_len 0 n t 0 b ∙ place))
@@ -45,8 +42,7 @@ pattern_small k b = let e = all_below small_pattern 32 all_small k b in grind (a
 pub lane_small : (j : ℕ) → j < 32 → get_or lane_codes j 0 < 4
 lane_small j b = let e = all_below small_lane 32 all_lanes j b in grind (arith, nat_tests, e)
 
-pub code_at : (k l : ℕ) → l < 8 →
-    lane_code_of (8 * k + l) ≡ get_or lane_codes (8 * get_or patterns k 0 + l) 0
+pub code_at : (k l : ℕ) → l < 8 → lane_code_of (8 * k + l) ≡ get_or lane_codes (8 * get_or patterns k 0 + l) 0
 code_at k l b =
     let block : (8 * k + l) / 8 ≡ k = omega (arith, b) in
     let lane : (8 * k + l) % 8 ≡ l = omega (arith, b) in
@@ -76,8 +72,7 @@ lanes_made f s four small is j b =
     let c = get_or lane_codes j 0 in
     let few = lane_small j b in
     let size : unsigned_abs (gain_by f s c) < 2 ^ 63 = omega (arith, small, gain_size f s c) in
-    get_or-map (λ c. to_z w64 (of_z w64 (get_or four c (pos 0)))) lane_codes j 0 (pos 0)
-    (omega (arith, b, lanes_long))
+    get_or-map (λ c. to_z w64 (of_z w64 (get_or four c (pos 0)))) lane_codes j 0 (pos 0) (omega (arith, b, lanes_long))
     ∙ rw (is c few) (to_z-of_z w64 (gain_by f s c) (fits_signed_from_abs w64 (gain_by f s c) size))
 
 -- A lane of gains has the gain at its own place: the lanes are the n of the 32 gains that begin at
@@ -87,8 +82,7 @@ pub gains_read : (n : ℕ) (xs : List ℤ) (at l : ℕ) → length xs ≡ 32 →
     get_or (passed (chunk 0 n (take (32 - at) (drop at xs)))) l (pos 0) ≡ get_or xs (at + l) (pos 0)
 gains_read n xs at l long room b fits =
     let part = take (32 - at) (drop at xs) in
-    let size : length part ≡ 32 - at = length-take-le (32 - at) (drop at xs)
-    (omega (arith, length-drop at xs, long)) in
+    let size : length part ≡ 32 - at = length-take-le (32 - at) (drop at xs) (omega (arith, length-drop at xs, long)) in
     let lanes = chunk 0 n part in
     let many : length lanes ≡ n = length-chunk 0 n part (omega (arith, size, room)) in
     let read : get_or lanes l (pos 0) ≡ get_or xs (at + l) (pos 0) =
@@ -96,8 +90,7 @@ gains_read n xs at l long room b fits =
     ∙ ap (λ (i : ℕ). get_or part i (pos 0)) (omega arith)
     ∙ get_or-take (32 - at) (drop at xs) l (pos 0) (omega (arith, room, b))
     ∙ get_or-drop at xs l (pos 0) in
-    get_or-map (to_z w64) (map (of_z w64) lanes) l 0 (pos 0)
-    (omega (arith, b, many, length-map lanes (of_z w64)))
+    get_or-map (to_z w64) (map (of_z w64) lanes) l 0 (pos 0) (omega (arith, b, many, length-map lanes (of_z w64)))
     ∙ ap (to_z w64) (get_or-map (of_z w64) lanes l (pos 0) 0 (omega (arith, b, many)))
     ∙ ap (λ (z : ℤ). to_z w64 (of_z w64 z)) read
     ∙ to_z-of_z w64 _ fits
@@ -108,15 +101,13 @@ fits_between (pos n) low high = record { sfits = omega (arith, ints, high) }
 fits_between (negsuc n) low high = record { sfits = omega (arith, ints, low) }
 
 -- a metric that is no greater than the top, less the top
-pub less_fits : (x top : ℤ) (g : ℕ) → x ≤ℤ top → unsigned_abs (top -ℤ x) + g ≤ 2 ^ 63 →
-    FitsSigned w64 (x -ℤ top)
+pub less_fits : (x top : ℤ) (g : ℕ) → x ≤ℤ top → unsigned_abs (top -ℤ x) + g ≤ 2 ^ 63 → FitsSigned w64 (x -ℤ top)
 less_fits x top g most near =
     fits_between (x -ℤ top) (omega (arith, ints, most, near)) (omega (arith, ints, most, near))
 
 -- and with what a bit adds
 pub moved_fits : (x top gain : ℤ) (g : ℕ) → x ≤ℤ top → unsigned_abs (top -ℤ x) + g ≤ 2 ^ 63 →
-    unsigned_abs gain ≤ g → g ≤ 2 ^ 62 →
-    FitsSigned w64 ((x -ℤ top) +ℤ gain) × FitsSigned w64 ((x -ℤ top) -ℤ gain)
+    unsigned_abs gain ≤ g → g ≤ 2 ^ 62 → FitsSigned w64 ((x -ℤ top) +ℤ gain) × FitsSigned w64 ((x -ℤ top) -ℤ gain)
 moved_fits x top gain g most near size few = (
   fits_between ((x -ℤ top) +ℤ gain) (omega (arith, ints, most, near, size, few))
       (omega (arith, ints, most, near, size, few)),
@@ -139,13 +130,11 @@ each2_from made (x ∷ xs) (y ∷ ys) (suc n) p q h = (
       (λ l b. h (suc l) (omega (arith, b))),
 )
 
-pub passed_is : (xs : List ℤ) → ((l : ℕ) → l < length xs → FitsSigned w64 (get_or xs l (pos 0))) →
-    passed xs ≡ xs
+pub passed_is : (xs : List ℤ) → ((l : ℕ) → l < length xs → FitsSigned w64 (get_or xs l (pos 0))) → passed xs ≡ xs
 passed_is xs h = kept xs (Each1-from_get_or (λ x. FitsSigned w64 x) xs (pos 0) h)
 
 -- lanes of a column, as they are handed on and less the top
-pub less_lanes : (column xs : List ℤ) (top : ℤ) (at : ℕ) → at + 15 ≤ length column →
-    FitsSigned w64 top →
+pub less_lanes : (column xs : List ℤ) (top : ℤ) (at : ℕ) → at + 15 ≤ length column → FitsSigned w64 top →
     ((t : ℕ) → t < length column → FitsSigned w64 (get_or column t (pos 0))) →
     ((t : ℕ) → t < length column → FitsSigned w64 (get_or column t (pos 0) -ℤ top)) →
     AreEveryOther (λ x. x) column at xs → (passed xs ≡ xs) × Each1 (λ x. Fit x top (x -ℤ top)) xs
@@ -161,12 +150,10 @@ less_lanes column xs top at room fits each less h =
     )
 
 -- and what is made of them, handed on again
-pub less_read : (column xs made : List ℤ) (top : ℤ) (at : ℕ) → at + 15 ≤ length column →
-    FitsSigned w64 top →
+pub less_read : (column xs made : List ℤ) (top : ℤ) (at : ℕ) → at + 15 ≤ length column → FitsSigned w64 top →
     ((t : ℕ) → t < length column → FitsSigned w64 (get_or column t (pos 0))) →
     ((t : ℕ) → t < length column → FitsSigned w64 (get_or column t (pos 0) -ℤ top)) →
-    AreEveryOther (λ x. x) column at xs →
-    made ≡ map (λ x. x -ℤ to_z w64 (of_z w64 top)) (passed xs) →
+    AreEveryOther (λ x. x) column at xs → made ≡ map (λ x. x -ℤ to_z w64 (of_z w64 top)) (passed xs) →
     AreEveryOther (λ x. x -ℤ top) column at (passed made)
 less_read column xs made top at room top_fits each less h made_of =
     rw (passed_is made fits) (record { long = size; each = here }) where
@@ -185,8 +172,7 @@ less_read column xs made top at room top_fits each less h made_of =
 
       fits : (l : ℕ) → l < length made → FitsSigned w64 (get_or made l (pos 0))
       fits l b =
-          rw (here l (omega (arith, b, size)))
-          (less (at + 2 * l) (omega (arith, b, size, room)))
+          rw (here l (omega (arith, b, size))) (less (at + 2 * l) (omega (arith, b, size, room)))
 
 place_even : (k l : ℕ) → k < 32 → l < 8 → 2 * ((8 * k + l) % 128) + 0 ≡ 16 * (k % 16) + 2 * l
 place_even k l p b = omega (arith, p, b)
@@ -255,15 +241,13 @@ taken_less true x y top = refl
 taken_less false x y top = refl
 
 pub block_chosen : (column : List ℤ) (top f s : ℤ) (k l : ℕ) (forced : Bool) (a b g : ℤ) (bit : Bool) →
-    a +ℤ g ≡ metric_from column f s (8 * k + l) 0 -ℤ top →
-    b -ℤ g ≡ metric_from column f s (8 * k + l) 1 -ℤ top →
+    a +ℤ g ≡ metric_from column f s (8 * k + l) 0 -ℤ top → b -ℤ g ≡ metric_from column f s (8 * k + l) 1 -ℤ top →
     bit ≡ wants forced (a +ℤ g) (b -ℤ g) → bit ≡ choice_into forced column f s (8 * k + l)
 unfolding choice_into
 block_chosen column top f s k l forced a b g bit p q is = is ∙ rw (p, q) (wants_same forced _ _ top)
 
 pub block_metric : (column : List ℤ) (top f s : ℤ) (k l : ℕ) (forced : Bool) (a b g m : ℤ) →
-    a +ℤ g ≡ metric_from column f s (8 * k + l) 0 -ℤ top →
-    b -ℤ g ≡ metric_from column f s (8 * k + l) 1 -ℤ top →
+    a +ℤ g ≡ metric_from column f s (8 * k + l) 0 -ℤ top → b -ℤ g ≡ metric_from column f s (8 * k + l) 1 -ℤ top →
     m ≡ taken_of (wants forced (a +ℤ g) (b -ℤ g)) (a +ℤ g) (b -ℤ g) →
     m ≡ metric_into forced column f s (8 * k + l) -ℤ top
 unfolding choice_into metric_into
@@ -272,22 +256,18 @@ block_metric column top f s k l forced a b g m p q is =
     ∙ rw (p, q)
     (rw (wants_same forced (metric_from column f s (8 * k + l) 0) (metric_from column f s (8 * k + l) 1)
     top)
-    (taken_less
-    (wants forced (metric_from column f s (8 * k + l) 0) (metric_from column f s (8 * k + l) 1)) _ _ top))
+    (taken_less (wants forced (metric_from column f s (8 * k + l) 0) (metric_from column f s (8 * k + l) 1)) _ _ top))
 
 -- LANES THAT ARE HANDED ON
 pub lane_gain : (gains g : List ℤ) (f s : ℤ) (k : ℕ) → k < 32 →
     ((j : ℕ) → j < 32 → get_or gains j (pos 0) ≡ gain_by f s (get_or lane_codes j 0)) →
-    ((l : ℕ) → l < 8 → get_or g l (pos 0) ≡ get_or gains (8 * get_or patterns k 0 + l) (pos 0)) →
-    (l : ℕ) → l < 8 →
+    ((l : ℕ) → l < 8 → get_or g l (pos 0) ≡ get_or gains (8 * get_or patterns k 0 + l) (pos 0)) → (l : ℕ) → l < 8 →
     get_or g l (pos 0) ≡ gain_by f s (get_or lane_codes (8 * get_or patterns k 0 + l) 0)
 lane_gain gains g f s k p made read l b = let few = pattern_small k p in read l b
     ∙ made (8 * get_or patterns k 0 + l) (omega (arith, few, b))
 
-pub gain_fits : (f s : ℤ) (c : ℕ) → unsigned_abs f + unsigned_abs s ≤ 2 ^ 62 →
-    FitsSigned w64 (gain_by f s c)
-gain_fits f s c pair =
-    fits_signed_from_abs w64 _ (let size = gain_size f s c in omega (arith, pair, size))
+pub gain_fits : (f s : ℤ) (c : ℕ) → unsigned_abs f + unsigned_abs s ≤ 2 ^ 62 → FitsSigned w64 (gain_by f s c)
+gain_fits f s c pair = fits_signed_from_abs w64 _ (let size = gain_size f s c in omega (arith, pair, size))
 
 -- A block's metrics and gains fit into their lanes, and so do their sums and differences: each
 -- metric is near the top, which is taken off it, and a gain is no greater than both soft values
@@ -296,8 +276,7 @@ pub lanes_fit : (column a g : List ℤ) (top f s : ℤ) (k at : ℕ) → at + 15
     CanStep column top f s → AreEveryOther (λ x. x -ℤ top) column at a → length g ≡ 8 →
     ((l : ℕ) → l < 8 →
     get_or g l (pos 0) ≡ gain_by f s (get_or lane_codes (8 * get_or patterns k 0 + l) 0)) →
-    (passed a ≡ a)
-    × ((passed g ≡ g) × (Each2 (λ x y. Fit x y (x +ℤ y)) a g × Each2 (λ x y. Fit x y (x -ℤ y)) a g))
+    (passed a ≡ a) × ((passed g ≡ g) × (Each2 (λ x y. Fit x y (x +ℤ y)) a g × Each2 (λ x y. Fit x y (x -ℤ y)) a g))
 lanes_fit column a g top f s k at room can h n gains = (
   passed_is a (λ l b. a_fits l (omega (arith, b, h.long))),
   (
@@ -311,22 +290,18 @@ lanes_fit column a g top f s k at room can h n gains = (
   a_fits : (l : ℕ) → l < 8 → FitsSigned w64 (get_or a l (pos 0))
   a_fits l b =
       rw (h.each l b)
-      (less_fits (get_or column (at + 2 * l) (pos 0)) top _
-      (can.most (at + 2 * l) (omega (arith, b, room)))
+      (less_fits (get_or column (at + 2 * l) (pos 0)) top _ (can.most (at + 2 * l) (omega (arith, b, room)))
       (can.near (at + 2 * l) (omega (arith, b, room))))
 
   g_fits : (l : ℕ) → l < 8 → FitsSigned w64 (get_or g l (pos 0))
   g_fits l b =
-      rw (gains l b)
-      (gain_fits f s (get_or lane_codes (8 * get_or patterns k 0 + l) 0) can.pair)
+      rw (gains l b) (gain_fits f s (get_or lane_codes (8 * get_or patterns k 0 + l) 0) can.pair)
 
-  both : (l : ℕ) → l < 8 →
-      FitsSigned w64 (get_or a l (pos 0) +ℤ get_or g l (pos 0))
+  both : (l : ℕ) → l < 8 → FitsSigned w64 (get_or a l (pos 0) +ℤ get_or g l (pos 0))
       × FitsSigned w64 (get_or a l (pos 0) -ℤ get_or g l (pos 0))
   both l b =
       rw (h.each l b, gains l b)
-      (moved_fits (get_or column (at + 2 * l) (pos 0)) top _ _
-      (can.most (at + 2 * l) (omega (arith, b, room)))
+      (moved_fits (get_or column (at + 2 * l) (pos 0)) top _ _ (can.most (at + 2 * l) (omega (arith, b, room)))
       (can.near (at + 2 * l) (omega (arith, b, room)))
       (gain_size f s (get_or lane_codes (8 * get_or patterns k 0 + l) 0)) can.pair)
 
@@ -337,10 +312,8 @@ pub record BlockLanes (column : List ℤ) (top f s : ℤ) (k : ℕ) (a o g : Lis
   pub gain_kept : passed g ≡ g
   pub even_fit : Each2 (λ x y. Fit x y (x +ℤ y)) a g
   pub odd_fit : Each2 (λ x y. Fit x y (x -ℤ y)) o g
-  pub even_is : (l : ℕ) → l < 8 →
-      get_or a l (pos 0) +ℤ get_or g l (pos 0) ≡ metric_from column f s (8 * k + l) 0 -ℤ top
-  pub odd_is : (l : ℕ) → l < 8 →
-      get_or o l (pos 0) -ℤ get_or g l (pos 0) ≡ metric_from column f s (8 * k + l) 1 -ℤ top
+  pub even_is : (l : ℕ) → l < 8 → get_or a l (pos 0) +ℤ get_or g l (pos 0) ≡ metric_from column f s (8 * k + l) 0 -ℤ top
+  pub odd_is : (l : ℕ) → l < 8 → get_or o l (pos 0) -ℤ get_or g l (pos 0) ≡ metric_from column f s (8 * k + l) 1 -ℤ top
 
 -- The lanes of a block hold what the step of its eight states needs: the metrics of the even and of
 -- the odd states, and gains of the block's pattern, all of which fit into 64 bits, so sums and
@@ -353,10 +326,8 @@ pub block_lanes : (column gains a o g : List ℤ) (top f s : ℤ) (k : ℕ) → 
     ((l : ℕ) → l < 8 → get_or g l (pos 0) ≡ get_or gains (8 * get_or patterns k 0 + l) (pos 0)) →
     BlockLanes column top f s k a o g
 block_lanes column gains a o g top f s k few fits can long made evens odds lanes =
-    let evens_are : AreEveryOther (λ x. x -ℤ top) column (16 * (k % 16)) a =
-    rw (to_z-of_z w64 top fits) at evens in
-    let odds_are : AreEveryOther (λ x. x -ℤ top) column (16 * (k % 16) + 1) o =
-    rw (to_z-of_z w64 top fits) at odds in
+    let evens_are : AreEveryOther (λ x. x -ℤ top) column (16 * (k % 16)) a = rw (to_z-of_z w64 top fits) at evens in
+    let odds_are : AreEveryOther (λ x. x -ℤ top) column (16 * (k % 16) + 1) o = rw (to_z-of_z w64 top fits) at odds in
     let gain = lane_gain gains g f s k few made lanes in
     let even = lanes_fit column a g top f s k (16 * (k % 16)) (omega arith) can evens_are long gain
     in

@@ -12,11 +12,9 @@ made_fit made (x ∷ xs) (y ∷ ys) h = (h.0.1.1, made_fit made xs ys h.1)
 pub made_at : (made : ℤ → ℤ → ℤ) (xs ys : List ℤ) (l : ℕ) → length xs ≡ 8 → length ys ≡ 8 → l < 8 →
     get_or (zip2 made xs ys) l (pos 0) ≡ made (get_or xs l (pos 0)) (get_or ys l (pos 0))
 made_at made xs ys l p q b =
-    get_or-zip2 made xs ys l (pos 0) (pos 0) (pos 0)
-    (omega (arith, p, b)) (omega (arith, q, b))
+    get_or-zip2 made xs ys l (pos 0) (pos 0) (pos 0) (omega (arith, p, b)) (omega (arith, q, b))
 
-pub zip_long : {C : Type 0} (f : ℤ → ℤ → C) (xs ys : List ℤ) → length xs ≡ 8 → length ys ≡ 8 →
-    length (zip2 f xs ys) ≡ 8
+pub zip_long : {C : Type 0} (f : ℤ → ℤ → C) (xs ys : List ℤ) → length xs ≡ 8 → length ys ≡ 8 → length (zip2 f xs ys) ≡ 8
 zip_long f xs ys p q = length-zip2 f xs ys (p ∙ sym q) ∙ p
 
 abbrev pub even_of : List ℤ → List ℤ → List ℤ
@@ -27,14 +25,12 @@ odd_of b gain = zip2 (λ x y. x -ℤ y) b gain
 
 -- what is made of both
 pub block_at : {C : Type 0} (f : ℤ → ℤ → C) (d : C) (a b gain : List ℤ) (l : ℕ) → length a ≡ 8 →
-    length b ≡ 8 → length gain ≡ 8 → l < 8 →
-    get_or (zip2 f (even_of a gain) (odd_of b gain)) l d
+    length b ≡ 8 → length gain ≡ 8 → l < 8 → get_or (zip2 f (even_of a gain) (odd_of b gain)) l d
     ≡ f (get_or a l (pos 0) +ℤ get_or gain l (pos 0)) (get_or b l (pos 0) -ℤ get_or gain l (pos 0))
 block_at f d a b gain l p q r h =
     let m = zip_long (λ (x y : ℤ). x +ℤ y) a gain p r in
     let n = zip_long (λ (x y : ℤ). x -ℤ y) b gain q r in
-    get_or-zip2 f (even_of a gain) (odd_of b gain) l (pos 0) (pos 0) d (omega (arith, m, h))
-    (omega (arith, n, h))
+    get_or-zip2 f (even_of a gain) (odd_of b gain) l (pos 0) (pos 0) d (omega (arith, m, h)) (omega (arith, n, h))
     ∙ rw (made_at (λ x y. x +ℤ y) a gain l p r h, made_at (λ x y. x -ℤ y) b gain l q r h) refl
 
 pub block_long : {C : Type 0} (f : ℤ → ℤ → C) (a b gain : List ℤ) → length a ≡ 8 → length b ≡ 8 →
@@ -43,8 +39,7 @@ block_long f a b gain p q r =
     zip_long f (even_of a gain) (odd_of b gain) (zip_long (λ (x y : ℤ). x +ℤ y) a gain p r)
     (zip_long (λ (x y : ℤ). x -ℤ y) b gain q r)
 
-pub kept : (xs : List ℤ) → Each1 (λ x. FitsSigned w64 x) xs → map (to_z w64) (map (of_z w64) xs)
-    ≡ xs
+pub kept : (xs : List ℤ) → Each1 (λ x. FitsSigned w64 x) xs → map (to_z w64) (map (of_z w64) xs) ≡ xs
 kept [] h = refl
 kept (x ∷ xs) h = λ i. to_z-of_z w64 x h.0 i ∷ kept xs h.1 i
 
@@ -66,8 +61,7 @@ passed xs = map (to_z w64) (map (of_z w64) xs)
 
 -- lanes that were handed on
 pub made_is : (made : ℤ → ℤ → ℤ) (m a gain : List ℤ) → length a ≡ 8 → length gain ≡ 8 →
-    Each2 (λ x y. Fit x y (made x y)) a gain → m ≡ zip2 made (passed a) (passed gain) →
-    passed m ≡ zip2 made a gain
+    Each2 (λ x y. Fit x y (made x y)) a gain → m ≡ zip2 made (passed a) (passed gain) → passed m ≡ zip2 made a gain
 made_is made m a gain p r h is =
     let e : length a ≡ length gain = p ∙ sym r in
     let m_is : m ≡ zip2 made a gain =

@@ -26,12 +26,10 @@ fits_at t b =
     sym (ap fits (get_or-range_with_len 0 256 t 0 b ∙ place))
     ∙ of_all fits (range_with_len 0 256) t 0 (omega (arith, b, length-range_with_len 0 256)) all_fit
   where
-    of_all : (p : ℕ → Bool) (xs : List ℕ) (i d : ℕ) → i < length xs → list_all p xs ≡ true →
-        p (get_or xs i d) ≡ true
+    of_all : (p : ℕ → Bool) (xs : List ℕ) (i d : ℕ) → i < length xs → list_all p xs ≡ true → p (get_or xs i d) ≡ true
     of_all p [] i d h all = absurd (omega (arith, h))
     of_all p (x ∷ xs) zero d h all = (and_parts (p x) (list_all p xs) all).0
-    of_all p (x ∷ xs) (suc i) d h all = of_all p xs i d (omega (arith, h))
-        (and_parts (p x) (list_all p xs) all).1
+    of_all p (x ∷ xs) (suc i) d h all = of_all p xs i d (omega (arith, h)) (and_parts (p x) (list_all p xs) all).1
 
 same : (a b : Bool) → eq a b ≡ true → a ≡ b
 same true true h = refl
@@ -47,8 +45,7 @@ both_turned : (a b : ℤ) → (pos 0 -ℤ a) +ℤ (pos 0 -ℤ b) ≡ pos 0 -ℤ 
 both_turned a b = omega (arith, ints)
 
 -- the gain by a state's code, and where the oldest bit is 1 the same with the sign turned
-pub code_gains : (f s : ℤ) (t : ℕ) → t < 256 →
-    (gain_of f s (low_bits 9 (2 * t + 0)) ≡ gain_by f s (lane_code_of t))
+pub code_gains : (f s : ℤ) (t : ℕ) → t < 256 → (gain_of f s (low_bits 9 (2 * t + 0)) ≡ gain_by f s (lane_code_of t))
     × (gain_of f s (low_bits 9 (2 * t + 1)) ≡ pos 0 -ℤ gain_by f s (lane_code_of t))
 unfolding gain_of gain_by
 code_gains f s t b =
@@ -58,16 +55,14 @@ code_gains f s t b =
     let p2 = (and_parts _ _ p1).1 in
     let e1 : bit_of c 1 ≡ symbol g1 (low_bits 9 (2 * t + 0)) 0 = same _ _ (and_parts _ _ p2).0 in
     let p3 = (and_parts _ _ p2).1 in
-    let o0 : not (bit_of c 0) ≡ symbol g0 (low_bits 9 (2 * t + 1)) 0 =
-    same _ _ (and_parts _ _ p3).0 in
+    let o0 : not (bit_of c 0) ≡ symbol g0 (low_bits 9 (2 * t + 1)) 0 = same _ _ (and_parts _ _ p3).0 in
     let o1 : not (bit_of c 1) ≡ symbol g1 (low_bits 9 (2 * t + 1)) 0 =
     same _ _ (and_parts _ _ p3).1 in (
       sym (ap (λ (x : Bool). (f *ℤ sign x) +ℤ (s *ℤ sign (bit_of c 1))) e0
           ∙ ap (λ (y : Bool).
           (f *ℤ sign (symbol g0 (low_bits 9 (2 * t + 0)) 0)) +ℤ (s *ℤ sign y)) e1),
       sym (ap (λ (x : Bool). (f *ℤ sign x) +ℤ (s *ℤ sign (not (bit_of c 1)))) o0
-          ∙ ap (λ (y : Bool).
-          (f *ℤ sign (symbol g0 (low_bits 9 (2 * t + 1)) 0)) +ℤ (s *ℤ sign y)) o1)
+          ∙ ap (λ (y : Bool). (f *ℤ sign (symbol g0 (low_bits 9 (2 * t + 1)) 0)) +ℤ (s *ℤ sign y)) o1)
           ∙ ap (λ (z : ℤ). z +ℤ (s *ℤ sign (not (bit_of c 1)))) (turned_sign f (bit_of c 0))
           ∙ ap (λ (z : ℤ). (pos 0 -ℤ (f *ℤ sign (bit_of c 0))) +ℤ z) (turned_sign s (bit_of c 1))
           ∙ both_turned (f *ℤ sign (bit_of c 0)) (s *ℤ sign (bit_of c 1)),

@@ -8,8 +8,7 @@ use Rattle.viterbi.proofs.Standing.{Stands, step_stands, stands_same, next_size}
 
 pub column_stands : (softs : List ℤ) (ends : Ends) (k : ℕ) (taken top : ℤ) (metrics next : List ℤ)
     (columns : List (List ℕ)) (choices : List ℕ) →
-    2 * k + 2 ≤ length softs → k < length columns → length metrics ≡ 256 →
-    Stands softs ends k taken metrics columns →
+    2 * k + 2 ≤ length softs → k < length columns → length metrics ≡ 256 → Stands softs ends k taken metrics columns →
     ((t : ℕ) → t < 256 →
     get_or next t (pos 0) ≡ metric_into (forced_at ends k) metrics (get_or softs (2 * k) (pos 0))
     (get_or softs (2 * k + 1) (pos 0)) t -ℤ top) →
@@ -25,8 +24,7 @@ column_stands softs ends k taken top metrics next columns choices room within wh
     apart : (j : ℕ) → j < k → ¬ (j ≡ k)
     apart j b e = omega (arith, b, e)
 
-pub pairs_more : (softs : List ℤ) (k : ℕ) → 2 * k + 2 ≤ length softs →
-    sum_by unsigned_abs (take (2 * (k + 1)) softs)
+pub pairs_more : (softs : List ℤ) (k : ℕ) → 2 * k + 2 ≤ length softs → sum_by unsigned_abs (take (2 * (k + 1)) softs)
     ≡ sum_by unsigned_abs (take (2 * k) softs)
     + (unsigned_abs (get_or softs (2 * k) (pos 0)) + unsigned_abs
     (get_or softs (2 * k + 1) (pos 0)))
@@ -41,8 +39,7 @@ pub size_more : (softs : List ℤ) (k t : ℕ) (taken top : ℤ) (forced : Bool)
     (x : ℤ) → 2 * k + 2 ≤ length softs → length metrics ≡ 256 →
     ((u : ℕ) → u < 256 →
     unsigned_abs (get_or metrics u (pos 0) +ℤ taken) ≤ sum_by unsigned_abs (take (2 * k) softs)) →
-    x ≡ metric_into forced metrics (get_or softs (2 * k) (pos 0)) (get_or softs (2 * k + 1) (pos 0))
-    t -ℤ top →
+    x ≡ metric_into forced metrics (get_or softs (2 * k) (pos 0)) (get_or softs (2 * k + 1) (pos 0)) t -ℤ top →
     unsigned_abs (x +ℤ (taken +ℤ top)) ≤ sum_by unsigned_abs (take (2 * (k + 1)) softs)
 size_more softs k t taken top forced metrics x room whole small is =
     rw (pairs_more softs k room)
@@ -61,8 +58,7 @@ pub run_codeword : (softs : List ℤ) (ends : Ends) (bit : ℕ) (taken : ℤ) (m
     (columns lent : List (List ℕ)) (count end from start : ℕ) (bits : List Bool) →
     bit ≡ length softs / 2 → 16 ≤ length softs → length softs % 2 ≡ 0 → length softs / 2 ≤ 576 →
     length lent ≡ 576 → lent ≡ columns → held ≡ metrics → count ≡ end_count ends →
-    Stands softs ends bit taken metrics columns →
-    IsFirstGreatest (λ t. get_or held t (pos 0)) count end →
+    Stands softs ends bit taken metrics columns → IsFirstGreatest (λ t. get_or held t (pos 0)) count end →
     from ≡ path_origin (take (length softs / 2) lent) (length (take (length softs / 2) lent)) end →
     start ≡ reverse_bits_onto 8 from 0 →
     bits ≡ path (take (length softs / 2) lent) (length (take (length softs / 2) lent)) end →
@@ -74,8 +70,7 @@ run_codeword softs ends bit taken metrics held columns lent count end from start
     let n = length softs / 2 in
     let size : length (take n lent) ≡ n = length-take-le n lent (omega (arith, most, whole)) in
     let from_end : from ≡ path_origin (take n lent) n end = rw size at from_is in
-    codeword_found softs ends n taken metrics (take n lent) end start bits (omega (arith, least))
-    (omega (arith, even))
+    codeword_found softs ends n taken metrics (take n lent) end start bits (omega (arith, least)) (omega (arith, even))
     (subst (λ (r : List (List ℕ)). Stands softs ends n taken metrics (take n r)) (sym same_columns)
     (first_columns softs ends bit n taken metrics columns all h))
     (rw (same_metrics, counted) at first)

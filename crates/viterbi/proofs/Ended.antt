@@ -37,24 +37,21 @@ first_starts Zero (suc t) b = λ z. absurd (none (eqb-true (suc t) 0 ((zero_star
     none e = omega (arith, e)
 first_starts Free t b = record { begins = tt; start = binary-turned t; none = refl; nothing = refl }
 
-first_agrees : (columns : List (List ℕ)) (ends : Ends) (t : ℕ) →
-    Agrees columns 0 t (pos 0) (first_of ends t)
+first_agrees : (columns : List (List ℕ)) (ends : Ends) (t : ℕ) → Agrees columns 0 t (pos 0) (first_of ends t)
 unfolding first_of path path_origin
 first_agrees columns Zero zero = (refl, (refl, binary-turned 0))
 first_agrees columns Zero (suc t) = tt
 first_agrees columns Free t = (refl, (refl, binary-turned t))
 
 pub stands_first : (softs : List ℤ) (ends : Ends) (metrics : List ℤ) (columns : List (List ℕ)) →
-    ((t : ℕ) → t < 256 → get_or metrics t (pos 0) ≡ pos 0) →
-    Stands softs ends 0 (pos 0) metrics columns
+    ((t : ℕ) → t < 256 → get_or metrics t (pos 0) ≡ pos 0) → Stands softs ends 0 (pos 0) metrics columns
 stands_first softs ends metrics columns zeros = record {
   column = map (first_of ends) (range_with_len 0 256);
   survive = survive_start softs ends (map (first_of ends) (range_with_len 0 256))
       (λ t b. subst (Start ends t) (sym (reads t b)) (first_starts ends t b));
   agree = λ t b. rw (reads t b, zeros t b) (first_agrees columns ends t);
 } where
-  reads : (t : ℕ) → t < 256 → get_or (map (first_of ends) (range_with_len 0 256)) t None
-      ≡ first_of ends t
+  reads : (t : ℕ) → t < 256 → get_or (map (first_of ends) (range_with_len 0 256)) t None ≡ first_of ends t
   reads t b = get_or-map-range_with_len (first_of ends) 0 256 t t None b (omega arith)
 
 -- AFTER THE LAST BIT
@@ -69,8 +66,7 @@ pub record IsTraced (softs : List ℤ) (ends : Ends) (n t : ℕ) (metric : ℤ) 
 
 traced_of : (softs : List ℤ) (ends : Ends) (n t : ℕ) (metric : ℤ) (columns : List (List ℕ))
     (o : Option Survivor) → forced_at ends n ≡ false →
-    IsBestOf softs (Into ends n (low_bits 8 t)) o → Agrees columns n t metric o →
-    IsTraced softs ends n t metric columns
+    IsBestOf softs (Into ends n (low_bits 8 t)) o → Agrees columns n t metric o → IsTraced softs ends n t metric columns
 traced_of softs ends n t metric columns None free h a = absurd (has_survivor softs ends n t free h)
 traced_of softs ends n t metric columns (Some s) free h a =
     record { s = s; best = h; score = a.0; bits = a.1.0; start = a.1.1 }
@@ -91,8 +87,7 @@ most_stays x y taken h = omega (arith, ints, h)
 
 -- the first of the greatest metrics of the end states is the best codeword's
 pub ends_best : (softs : List ℤ) (ends : Ends) (n : ℕ) (taken : ℤ) (metrics : List ℤ)
-    (columns : List (List ℕ)) (end : ℕ) → forced_at ends n ≡ false →
-    Stands softs ends n taken metrics columns →
+    (columns : List (List ℕ)) (end : ℕ) → forced_at ends n ≡ false → Stands softs ends n taken metrics columns →
     IsFirstGreatest (λ t. get_or metrics t (pos 0)) (end_count ends) end → (b : end < 256)
     (s : IsTraced softs ends n end (get_or metrics end (pos 0) +ℤ taken) columns) →
     IsBest softs (IntoBelow ends n (end_count ends)) s.s
@@ -118,8 +113,7 @@ ends_best softs ends n taken metrics columns end free h g b s = record {
   -- The codeword of the chosen end state is at least as good as any that ends in state u, since
   -- that one is at most as good as the survivor of u: before the chosen state all metrics are
   -- lesser, after it none is greater, and at a tie the codeword of the lesser state comes first.
-  against : (w : Codeword) (u : ℕ) → u < end_count ends → Into ends n (low_bits 8 u) w →
-      AtLeast (score_of softs) a w
+  against : (w : Codeword) (u : ℕ) → u < end_count ends → Into ends n (low_bits 8 u) w → AtLeast (score_of softs) a w
   against w u below into =
       let few = end_count_le ends in
       let small : u < 256 = omega (arith, below, few) in
@@ -149,8 +143,7 @@ ends_best softs ends n taken metrics columns end free h g b s = record {
 -- the decoder's codeword and its score
 pub codeword_found : (softs : List ℤ) (ends : Ends) (n : ℕ) (taken : ℤ) (metrics : List ℤ)
     (columns : List (List ℕ)) (end start : ℕ) (bits : List Bool) → 8 ≤ n → 2 * n ≡ length softs →
-    Stands softs ends n taken metrics columns →
-    IsFirstGreatest (λ t. get_or metrics t (pos 0)) (end_count ends) end →
+    Stands softs ends n taken metrics columns → IsFirstGreatest (λ t. get_or metrics t (pos 0)) (end_count ends) end →
     start ≡ reverse_bits_onto 8 (path_origin columns n end) 0 → bits ≡ path columns n end →
     IsBestCodeword softs ends (spelled_codeword (record { start = start; bits = bits }))
     × (get_or metrics end (pos 0) +ℤ taken

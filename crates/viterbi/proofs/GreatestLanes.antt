@@ -25,14 +25,12 @@ either P x y p q = by_test (int_lt x y) where
   by_test true = q
   by_test false = p
 
-fit_at : (xs : List ℤ) (l : ℕ) → l < length xs → Each1 (λ x. FitsSigned w64 x) xs →
-    FitsSigned w64 (get_or xs l (pos 0))
+fit_at : (xs : List ℤ) (l : ℕ) → l < length xs → Each1 (λ x. FitsSigned w64 x) xs → FitsSigned w64 (get_or xs l (pos 0))
 fit_at xs l b h = Each1-get_or (λ x. FitsSigned w64 x) xs l (pos 0) b h
 
 pub are_greater : (xs ys m : List ℤ) → length xs ≡ 8 → length ys ≡ 8 →
     Each1 (λ x. FitsSigned w64 x) xs → Each1 (λ x. FitsSigned w64 x) ys →
-    m ≡ zip2 (λ x y. taken_of (int_lt x y) x y) (passed xs) (passed ys) →
-    AreGreater xs ys (passed m)
+    m ≡ zip2 (λ x y. taken_of (int_lt x y) x y) (passed xs) (passed ys) → AreGreater xs ys (passed m)
 are_greater xs ys m p q f g is = rw (kept m fit) (record {
   long = long;
   fit = fit;
@@ -47,8 +45,7 @@ are_greater xs ys m p q f g is = rw (kept m fit) (record {
   long : length m ≡ 8
   long = ap length plain ∙ length-zip2 (λ x y. taken_of (int_lt x y) x y) xs ys (p ∙ sym q) ∙ p
 
-  here : (l : ℕ) → l < 8 →
-      get_or m l (pos 0) ≡ greater_of (get_or xs l (pos 0)) (get_or ys l (pos 0))
+  here : (l : ℕ) → l < 8 → get_or m l (pos 0) ≡ greater_of (get_or xs l (pos 0)) (get_or ys l (pos 0))
   here l b =
       ap (λ (r : List ℤ). get_or r l (pos 0)) plain
       ∙ get_or-zip2 (λ x y. taken_of (int_lt x y) x y) xs ys l (pos 0) (pos 0) (pos 0)
@@ -66,8 +63,7 @@ pub record AreTops (value : ℕ → ℤ) (k : ℕ) (most : List ℤ) : Type 0 wh
   pub long : length most ≡ 8
   pub fit : Each1 (λ x. FitsSigned w64 x) most
   pub over : (t : ℕ) → t < 256 → t / 8 % 16 < k → value t ≤ℤ get_or most (t % 8) (pos 0)
-  pub least : (bound : ℤ) → ((t : ℕ) → t < 256 → value t ≤ℤ bound) → (l : ℕ) → l < 8 →
-      get_or most l (pos 0) ≤ℤ bound
+  pub least : (bound : ℤ) → ((t : ℕ) → t < 256 → value t ≤ℤ bound) → (l : ℕ) → l < 8 → get_or most l (pos 0) ≤ℤ bound
 
 above_end : (z : ℤ) → FitsSigned w64 z → negsuc 9223372036854775807 ≤ℤ z
 above_end (pos n) h = omega (arith, ints)
@@ -76,8 +72,7 @@ above_end (negsuc n) h = let s = h.sfits in omega (arith, ints, s)
 int_le_trans : (x y z : ℤ) → x ≤ℤ y → y ≤ℤ z → x ≤ℤ z
 int_le_trans x y z p q = omega (arith, ints, p, q)
 
-pub tops_first : (value : ℕ → ℤ) → FitsSigned w64 (value 0) →
-    AreTops value 0 (replicate 8 (negsuc 9223372036854775807))
+pub tops_first : (value : ℕ → ℤ) → FitsSigned w64 (value 0) → AreTops value 0 (replicate 8 (negsuc 9223372036854775807))
 tops_first value fits = record {
   long = refl;
   fit = Each1-from_get_or (λ x. FitsSigned w64 x) (replicate 8 (negsuc 9223372036854775807)) (pos 0)
@@ -89,10 +84,8 @@ tops_first value fits = record {
       (int_le_trans _ (value 0) bound (above_end (value 0) fits) (all 0 (omega arith)));
 }
 
-pub tops_more : (value : ℕ → ℤ) (k : ℕ) (most m n inner next : List ℤ) → k < 16 →
-    AreTops value k most →
-    AreGreater m n inner → AreGreater most inner next →
-    ((l : ℕ) → l < 8 → get_or m l (pos 0) ≡ value (8 * k + l)) →
+pub tops_more : (value : ℕ → ℤ) (k : ℕ) (most m n inner next : List ℤ) → k < 16 → AreTops value k most →
+    AreGreater m n inner → AreGreater most inner next → ((l : ℕ) → l < 8 → get_or m l (pos 0) ≡ value (8 * k + l)) →
     ((l : ℕ) → l < 8 → get_or n l (pos 0) ≡ value (8 * (16 + k) + l)) → AreTops value (k + 1) next
 tops_more value k most m n inner next few before wings all here there = record {
   long = all.long;
@@ -106,8 +99,7 @@ tops_more value k most m n inner next few before wings all here there = record {
   -- The lane's greatest value is at least that of each state that is done: a state of one of the
   -- two new blocks is compared in this step, and any other was compared before.
   by_block : (t : ℕ) → t < 256 → t / 8 % 16 < k + 1 → (t / 8 ≡ k) ⊎ (¬ (t / 8 ≡ k)) →
-      (t / 8 ≡ 16 + k) ⊎ (¬ (t / 8 ≡ 16 + k)) →
-      value t ≤ℤ get_or next (t % 8) (pos 0)
+      (t / 8 ≡ 16 + k) ⊎ (¬ (t / 8 ≡ 16 + k)) → value t ≤ℤ get_or next (t % 8) (pos 0)
   by_block t b done (inl lower) q =
       let place : 8 * k + t % 8 ≡ t = omega (arith, lower) in
       let lane : t % 8 < 8 = omega arith in

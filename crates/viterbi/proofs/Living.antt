@@ -37,15 +37,13 @@ tail_of : (k t : ℕ) → drop k (joined_to k t) ≡ low_bits 8 t
 unfolding joined_to
 tail_of k t = drop_at (replicate k false) (low_bits 8 t) k (length-replicate k false)
 
-codeword_into : (ends : Ends) (k t : ℕ) → forced_at ends k ≡ false →
-    Into ends k (low_bits 8 t) (codeword_to k t)
+codeword_into : (ends : Ends) (k t : ℕ) → forced_at ends k ≡ false → Into ends k (low_bits 8 t) (codeword_to k t)
 unfolding codeword_to
 codeword_into ends k t h = record {
   start_long = length-take-le 8 (joined_to k t) (omega (arith, joined_size k t));
   bits_long = bits_size k t;
   begins = starts ends k t h;
-  reached = ap (λ (n : ℕ). drop n (take 8 (joined_to k t) ++ drop 8 (joined_to k t)))
-      (bits_size k t)
+  reached = ap (λ (n : ℕ). drop n (take 8 (joined_to k t) ++ drop 8 (joined_to k t))) (bits_size k t)
       ∙ ap (drop k) (take-append-drop 8 (joined_to k t))
       ∙ tail_of k t;
 }
@@ -72,11 +70,9 @@ differ true p q = grind (arith, q)
 differ false p q = grind (arith, p)
 
 alive_of : (softs : List ℤ) (ends : Ends) (k t : ℕ) (forced : Bool) (o0 o1 : Option Survivor) →
-    forced_at ends k ≡ forced →
-    IsBestOf softs (Into ends k (low_bits 8 (2 * t + 0))) o0 →
+    forced_at ends k ≡ forced → IsBestOf softs (Into ends k (low_bits 8 (2 * t + 0))) o0 →
     IsBestOf softs (Into ends k (low_bits 8 (2 * t + 1))) o1 → Alive forced o0 o1
-alive_of softs ends k t false None o1 f h0 h1 =
-    h0 (codeword_to k (2 * t + 0)) (codeword_into ends k (2 * t + 0) f)
+alive_of softs ends k t false None o1 f h0 h1 = h0 (codeword_to k (2 * t + 0)) (codeword_into ends k (2 * t + 0) f)
 alive_of softs ends k t false (Some s) None f h0 h1 =
     h1 (codeword_to k (2 * t + 1)) (codeword_into ends k (2 * t + 1) f)
 alive_of softs ends k t false (Some s) (Some s') f h0 h1 = tt
@@ -87,8 +83,7 @@ alive_of softs Zero k t true o0 (Some s) f h0 h1 =
     differ _ (odd_is t) (oldest_zero k (2 * t + 1) (spelled_codeword s.codeword) few h1.kind)
 
 pub alive : (softs : List ℤ) (ends : Ends) (k : ℕ) (column : List (Option Survivor)) →
-    Survive softs ends k column → (t : ℕ) →
-    Alive (forced_at ends k) (get_or column (2 * (t % 128) + 0) None)
+    Survive softs ends k column → (t : ℕ) → Alive (forced_at ends k) (get_or column (2 * (t % 128) + 0) None)
     (get_or column (2 * (t % 128) + 1) None)
 alive softs ends k column survive t =
     alive_of softs ends k (t % 128) (forced_at ends k) _ _ refl

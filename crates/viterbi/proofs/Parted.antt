@@ -14,8 +14,7 @@ one n column at j room b =
     get_or-map (of_z w64) (chunk at n column) j (pos 0) 0 (omega (arith, b, long))
     ∙ ap (of_z w64) (get_or-chunk at n column j (pos 0) b)
 
-size_of : (n : ℕ) (column : List ℤ) (at : ℕ) → at + n ≤ length column →
-    length (map (of_z w64) (chunk at n column)) ≡ n
+size_of : (n : ℕ) (column : List ℤ) (at : ℕ) → at + n ≤ length column → length (map (of_z w64) (chunk at n column)) ≡ n
 size_of n column at room = length-map (chunk at n column) (of_z w64) ∙ length-chunk at n column room
 
 -- Lane `j` of two vectors of a column from `at` on is the column's value `at + j`, since the second

@@ -54,8 +54,7 @@ moved by xs = map (λ x. x +ℤ by) xs
 moved_read : (by : ℤ) (xs : List ℤ) (u : ℕ) → length xs ≡ 256 → u < 256 →
     get_or (moved by xs) u (pos 0) ≡ get_or xs u (pos 0) +ℤ by
 moved_read by xs u whole b =
-    get_or-map (λ x. x +ℤ by) xs u (pos 0) (pos 0)
-    (omega (arith, whole, b))
+    get_or-map (λ x. x +ℤ by) xs u (pos 0) (pos 0) (omega (arith, whole, b))
 
 sum_moved : (x by gain : ℤ) → (x +ℤ by) +ℤ gain ≡ (x +ℤ gain) +ℤ by
 sum_moved x by gain = omega (arith, ints)
@@ -106,38 +105,31 @@ back_again : (x taken top : ℤ) → (x -ℤ top) +ℤ (taken +ℤ top) ≡ x +�
 back_again x taken top = omega (arith, ints)
 
 -- a metric of the next column and what was taken off
-pub next_score : (taken top : ℤ) (xs : List ℤ) (forced : Bool) (f s x : ℤ) (t : ℕ) →
-    length xs ≡ 256 →
-    x ≡ metric_into forced xs f s t -ℤ top →
-    x +ℤ (taken +ℤ top) ≡ metric_into forced (moved taken xs) f s t
+pub next_score : (taken top : ℤ) (xs : List ℤ) (forced : Bool) (f s x : ℤ) (t : ℕ) → length xs ≡ 256 →
+    x ≡ metric_into forced xs f s t -ℤ top → x +ℤ (taken +ℤ top) ≡ metric_into forced (moved taken xs) f s t
 next_score taken top xs forced f s x t whole is =
     ap (λ (z : ℤ). z +ℤ (taken +ℤ top)) is
     ∙ back_again (metric_into forced xs f s t) taken top
     ∙ sym (metric_moved taken xs forced f s t whole)
 
 -- metrics within a bound stay so
-pub next_size : (taken top : ℤ) (xs : List ℤ) (forced : Bool) (f s x : ℤ) (bound t : ℕ) →
-    length xs ≡ 256 →
-    ((u : ℕ) → u < 256 → unsigned_abs (get_or xs u (pos 0) +ℤ taken) ≤ bound) →
-    x ≡ metric_into forced xs f s t -ℤ top →
+pub next_size : (taken top : ℤ) (xs : List ℤ) (forced : Bool) (f s x : ℤ) (bound t : ℕ) → length xs ≡ 256 →
+    ((u : ℕ) → u < 256 → unsigned_abs (get_or xs u (pos 0) +ℤ taken) ≤ bound) → x ≡ metric_into forced xs f s t -ℤ top →
     unsigned_abs (x +ℤ (taken +ℤ top)) ≤ bound + (unsigned_abs f + unsigned_abs s)
 next_size taken top xs forced f s x bound t whole small is =
     rw (next_score taken top xs forced f s x t whole is)
-    (metric_size forced (moved taken xs) f s bound t
-    (λ u b. rw (moved_read taken xs u whole b) (small u b)))
+    (metric_size forced (moved taken xs) f s bound t (λ u b. rw (moved_read taken xs u whole b) (small u b)))
 
 -- there are survivors that the metrics, what was taken off them, and the first k columns give
 pub record Stands (softs : List ℤ) (ends : Ends) (k : ℕ) (taken : ℤ) (metrics : List ℤ)
     (columns : List (List ℕ)) : Type 0 where
   pub column : List (Option Survivor)
   pub survive : Survive softs ends k column
-  pub agree : (t : ℕ) → t < 256 →
-      Agrees columns k t (get_or metrics t (pos 0) +ℤ taken) (get_or column t None)
+  pub agree : (t : ℕ) → t < 256 → Agrees columns k t (get_or metrics t (pos 0) +ℤ taken) (get_or column t None)
 
 -- one bit more
 pub step_stands : (softs : List ℤ) (ends : Ends) (k : ℕ) (taken top : ℤ) (metrics next : List ℤ)
-    (columns columns' : List (List ℕ)) →
-    2 * k + 2 ≤ length softs → length metrics ≡ 256 →
+    (columns columns' : List (List ℕ)) → 2 * k + 2 ≤ length softs → length metrics ≡ 256 →
     Stands softs ends k taken metrics columns → Same k columns columns' →
     ((t : ℕ) → t < 256 →
     get_or next t (pos 0) ≡ metric_into (forced_at ends k) metrics (get_or softs (2 * k) (pos 0))
@@ -150,8 +142,7 @@ step_stands softs ends k taken top metrics next columns columns' room whole h sa
     record {
       column = map (survivor_into h.column first second) (range_with_len 0 256);
       survive =
-          λ t b. subst
-          (λ (o : Option Survivor). IsBestOf softs (Into ends (suc k) (low_bits 8 t)) o)
+          λ t b. subst (λ (o : Option Survivor). IsBestOf softs (Into ends (suc k) (low_bits 8 t)) o)
           (sym (reads t b)) (survivor_into_best softs ends k h.column room h.survive t b);
       agree = λ t b.
           rw (
@@ -172,11 +163,9 @@ step_stands softs ends k taken top metrics next columns columns' room whole h sa
       second : ℤ
       second = get_or softs (2 * k + 1) (pos 0)
 
-      reads : (t : ℕ) → t < 256 →
-          get_or (map (survivor_into h.column first second) (range_with_len 0 256)) t None
+      reads : (t : ℕ) → t < 256 → get_or (map (survivor_into h.column first second) (range_with_len 0 256)) t None
           ≡ survivor_into h.column first second t
-      reads t b = get_or-map-range_with_len (survivor_into h.column first second) 0 256 t t None b
-          (omega arith)
+      reads t b = get_or-map-range_with_len (survivor_into h.column first second) 0 256 t t None b (omega arith)
 
 -- of other columns only the first k matter
 pub stands_same : (softs : List ℤ) (ends : Ends) (k : ℕ) (taken : ℤ) (metrics : List ℤ)

@@ -4,8 +4,7 @@ use Rattle.viterbi.proofs.Common.{IsGreatest}
 
 -- with what was taken off before, it is a score like the others
 pub top_size : (xs : List ℤ) (top taken : ℤ) (bound : ℕ) → length xs ≡ 256 → IsGreatest xs top →
-    ((t : ℕ) → t < 256 → unsigned_abs (get_or xs t (pos 0) +ℤ taken) ≤ bound) →
-    unsigned_abs (top +ℤ taken) ≤ bound
+    ((t : ℕ) → t < 256 → unsigned_abs (get_or xs t (pos 0) +ℤ taken) ≤ bound) → unsigned_abs (top +ℤ taken) ≤ bound
 top_size xs top taken bound whole h small =
     between (get_or xs 0 (pos 0)) (small 0 (omega arith)) (h.most 0 (omega (arith, whole)))
     (h.least (pos bound -ℤ taken)
@@ -21,10 +20,8 @@ sum_turned : (x y : ℤ) → x +ℤ y ≡ y +ℤ x
 sum_turned x y = omega (arith, ints)
 
 pub taken_size : (xs : List ℤ) (top taken : ℤ) (bound : ℕ) → length xs ≡ 256 → IsGreatest xs top →
-    ((t : ℕ) → t < 256 → unsigned_abs (get_or xs t (pos 0) +ℤ taken) ≤ bound) →
-    unsigned_abs (taken +ℤ top) ≤ bound
-taken_size xs top taken bound whole h small =
-    rw (sum_turned taken top) (top_size xs top taken bound whole h small)
+    ((t : ℕ) → t < 256 → unsigned_abs (get_or xs t (pos 0) +ℤ taken) ≤ bound) → unsigned_abs (taken +ℤ top) ≤ bound
+taken_size xs top taken bound whole h small = rw (sum_turned taken top) (top_size xs top taken bound whole h small)
 
 -- and near enough to the greatest
 pub tops_near : (xs : List ℤ) (top taken : ℤ) (bound more t : ℕ) → length xs ≡ 256 →

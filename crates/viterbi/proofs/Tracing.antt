@@ -18,8 +18,7 @@ path-back columns n j t before bits size room is =
     let place : drop j (set bits j (nat_le 128 t)) ≡ nat_le 128 t ∷ drop (suc j) bits =
     rw next at (drop-set bits j (nat_le 128 t) room) in
     rw (size, place, is)
-    (sym (append_assoc (path columns j (state_before columns j t)) (nat_le 128 t ∷ [])
-    (drop (suc j) bits)))
+    (sym (append_assoc (path columns j (state_before columns j t)) (nat_le 128 t ∷ []) (drop (suc j) bits)))
 
 path-none : (columns : List (List ℕ)) (t : ℕ) → path columns 0 t ≡ []
 unfolding path
@@ -41,6 +40,5 @@ all_left columns n m t bits is few = rw (is, drop_all n bits few) (append-nil (p
 pub origin_left : (columns : List (List ℕ)) (n t : ℕ) → n ≡ 0 → t ≡ path_origin columns n t
 origin_left columns n t is = rw is (sym (origin-none columns t))
 
-pub none_left : (columns : List (List ℕ)) (n t : ℕ) (bits : List Bool) → n ≡ 0 →
-    path columns n t ++ drop n bits ≡ bits
+pub none_left : (columns : List (List ℕ)) (n t : ℕ) (bits : List Bool) → n ≡ 0 → path columns n t ++ drop n bits ≡ bits
 none_left columns n t bits is = rw (is, path-none columns t) refl

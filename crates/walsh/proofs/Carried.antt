@@ -37,8 +37,7 @@ i_part = record { sums = λ x y. refl; differences = λ x y. refl }
 q_part : IsPart (λ v. v.q)
 q_part = record { sums = λ x y. refl; differences = λ x y. refl }
 
-part_of : (part : Pair → ℤ) → IsPart part → (b : Bool) (x y z w : Pair) →
-    part (if b then minus x y else plus z w) ≡
+part_of : (part : Pair → ℤ) → IsPart part → (b : Bool) (x y z w : Pair) → part (if b then minus x y else plus z w) ≡
     (if b then part x -ℤ part y else part z +ℤ part w)
 part_of part p true x y z w = p.differences x y
 part_of part p false x y z w = p.sums z w
@@ -51,14 +50,12 @@ unfolding butterfly
 part_more part p bit n old new next few less is h =
     let count : bit + 1 ≡ suc bit = add-one bit in
     ap part is
-    ∙ part_of part p (bit_of n bit) (entry new (n - 2 ^ bit)) (entry new n) (entry new n)
-    (entry new (n + 2 ^ bit))
+    ∙ part_of part p (bit_of n bit) (entry new (n - 2 ^ bit)) (entry new n) (entry new n) (entry new (n + 2 ^ bit))
     ∙ partial-more bit n (λ k. part (entry old k)) (λ k. part (entry new k)) few less h ∙
     ap (λ (s : ℕ). partial s (λ k. part (entry old k)) n) (sym count)
 
 pub goes_on : (bit : ℕ) (old new next : List Pair) → bit < 6 → length next ≡ 64 →
-    IsCarried bit old new → IsStage bit new next → EntriesAreWithin (2 ^ (41 + bit)) next →
-    IsCarried (bit + 1) old next
+    IsCarried bit old new → IsStage bit new next → EntriesAreWithin (2 ^ (41 + bit)) next → IsCarried (bit + 1) old next
 goes_on bit old new next p long h stage small =
     let bound : 40 + (bit + 1) ≡ 41 + bit = omega arith in
     record {
@@ -68,22 +65,18 @@ goes_on bit old new next p long h stage small =
       small = rw bound small;
     }
 
-part_is : (part : Pair → ℤ) (old new : List Pair) → part origin ≡ pos 0 → length old ≡ 64 →
-    length new ≡ 64 →
+part_is : (part : Pair → ℤ) (old new : List Pair) → part origin ≡ pos 0 → length old ≡ 64 → length new ≡ 64 →
     ((n : ℕ) → n < 64 → part (entry new n) ≡ partial 6 (λ k. part (entry old k)) n) →
     map part new ≡ transform (map part old)
 unfolding transform
 part_is part old new none long long' h =
-    map-places-all (λ n. walsh_sum_from n 0 (map part old)) (map part new) 64 (pos 0)
-    (length-map new part ∙ long')
+    map-places-all (λ n. walsh_sum_from n 0 (map part old)) (map part new) 64 (pos 0) (length-map new part ∙ long')
     (λ n less.
     at new n ∙ h n less ∙
-    partial-same 6 n (λ k. part (entry old k)) (λ k. get_or (map part old) k (pos 0))
-    (λ k. sym (at old k))
+    partial-same 6 n (λ k. part (entry old k)) (λ k. get_or (map part old) k (pos 0)) (λ k. sym (at old k))
     ∙ partial-all n (map part old) less (length-map old part ∙ long)) where
       at : (values : List Pair) (k : ℕ) → get_or (map part values) k (pos 0) ≡ part (entry values k)
-      at values k =
-          ap (get_or (map part values) k) (sym none) ∙ get_or-map part values k origin
+      at values k = ap (get_or (map part values) k) (sym none) ∙ get_or-map part values k origin
 
 pub in_phase_is : (old new : List Pair) → length old ≡ 64 → IsCarried 6 old new →
     in_phase new ≡ transform (in_phase old)
@@ -94,7 +87,6 @@ pub quadrature_is : (old new : List Pair) → length old ≡ 64 → IsCarried 6 
 quadrature_is old new long h = part_is (λ v. v.q) old new refl long h.long h.q_is
 
 -- one entry of the transform, for callers
-pub get_or-transform : (xs : List ℤ) (n : ℕ) → n < 64 →
-    get_or (transform xs) n (pos 0) ≡ walsh_sum_from n 0 xs
+pub get_or-transform : (xs : List ℤ) (n : ℕ) → n < 64 → get_or (transform xs) n (pos 0) ≡ walsh_sum_from n 0 xs
 unfolding transform
 get_or-transform xs n h = get_or-map-places (λ n. walsh_sum_from n 0 xs) 64 n (pos 0) h

@@ -75,8 +75,7 @@ high_facts bit n h =
     let room : nat_le (2 ^ bit) n ≡ true = first_of_both _ _ h in
     let rest = second_of_both (nat_le (2 ^ bit) n) _ h in
     let last = second_of_both (not (bit_of (n - 2 ^ bit) bit)) _ rest in
-    let third : nat_eq (n % 2 ^ (suc bit)) (2 ^ bit + n % 2 ^ bit) ≡ true =
-    first_of_both _ _ last in
+    let third : nat_eq (n % 2 ^ (suc bit)) (2 ^ bit + n % 2 ^ bit) ≡ true = first_of_both _ _ last in
     let fourth : nat_eq ((n - 2 ^ bit) % 2 ^ bit) (n % 2 ^ bit) ≡ true =
     second_of_both (nat_eq (n % 2 ^ (suc bit)) (2 ^ bit + n % 2 ^ bit)) _ last in
     record {
@@ -98,16 +97,14 @@ high bit n p q e =
 
 -- the code's `n & (1 << bit) == 0`
 all_tested :
-    agree_below
-    (λ bit. agree_below (λ n. nat_eq (bit_and n (2 ^ bit)) 0) (λ n. not (bit_of n bit)) 64)
+    agree_below (λ bit. agree_below (λ n. nat_eq (bit_and n (2 ^ bit)) 0) (λ n. not (bit_of n bit)) 64)
     (λ bit. true) 6 ≡ true
 all_tested = refl
 
 tested : (bit n : ℕ) → bit < 6 → n < 64 → nat_eq (bit_and n (2 ^ bit)) 0 ≡ not (bit_of n bit)
 tested bit n p q =
     agree_below_at (λ n. nat_eq (bit_and n (2 ^ bit)) 0) (λ n. not (bit_of n bit)) 64 n
-    (agree_below_at
-    (λ bit. agree_below (λ n. nat_eq (bit_and n (2 ^ bit)) 0) (λ n. not (bit_of n bit)) 64)
+    (agree_below_at (λ bit. agree_below (λ n. nat_eq (bit_and n (2 ^ bit)) 0) (λ n. not (bit_of n bit)) 64)
     (λ bit. true) 6 bit all_tested p) q
 
 pub shifted : (bit : ℕ) → bit < 6 → 1 * 2 ^ bit % 18446744073709551616 ≡ 2 ^ bit

@@ -13,8 +13,7 @@ odd n k = nat_eq (count_ones (bit_and n k) % 2) 1
 
 odd-walsh : (n k : ℕ) → n < 64 → odd n k ≡ walsh n k
 unfolding odd
-odd-walsh n k h =
-    ap (λ (m : ℕ). nat_eq m 1) (sym (and_mask (count_ones (bit_and n k)) 1)) ∙ walsh-ones n k h
+odd-walsh n k h = ap (λ (m : ℕ). nat_eq m 1) (sym (and_mask (count_ones (bit_and n k)) 1)) ∙ walsh-ones n k h
 
 one_and : (a b : ℕ) → a < 2 → b < 2 → count_ones (bit_and a b) ≡ a * b
 unfolding count_ones
@@ -93,8 +92,7 @@ far_term s r base j x h k =
     rw (place, odd-far s r j h k)
 
 both_term : (s r base j : ℕ) (x : ℕ → ℤ) → r < 2 ^ s → j < 2 ^ s →
-    sign (odd (2 ^ s + r) (2 ^ s + j)) *ℤ x (base + (2 ^ s + j)) ≡
-    neg_ℤ (sign (odd r j) *ℤ x (base + 2 ^ s + j))
+    sign (odd (2 ^ s + r) (2 ^ s + j)) *ℤ x (base + (2 ^ s + j)) ≡ neg_ℤ (sign (odd r j) *ℤ x (base + 2 ^ s + j))
 both_term s r base j x h k =
     let place : base + (2 ^ s + j) ≡ base + 2 ^ s + j = omega arith in
     rw (place, odd-both s r j h k) (sign_not (odd r j) (x (base + 2 ^ s + j)))
@@ -111,16 +109,14 @@ block_sum s r base x h =
     (sum_same (2 ^ s) (λ j. sign (odd r (2 ^ s + j)) *ℤ x (base + (2 ^ s + j)))
     (λ j. sign (odd r j) *ℤ x (base + 2 ^ s + j)) (λ j k. far_term s r base j x h k))
 
-block_difference : (s r base : ℕ) (x : ℕ → ℤ) → r < 2 ^ s →
-    block (2 ^ s + 2 ^ s) base (2 ^ s + r) x ≡
+block_difference : (s r base : ℕ) (x : ℕ → ℤ) → r < 2 ^ s → block (2 ^ s + 2 ^ s) base (2 ^ s + r) x ≡
     block (2 ^ s) base r x -ℤ block (2 ^ s) (base + 2 ^ s) r x
 block_difference s r base x h =
     let near : sum_below (2 ^ s) (λ j. sign (odd (2 ^ s + r) j) *ℤ x (base + j)) ≡
     block (2 ^ s) base r x =
     sum_same (2 ^ s) (λ j. sign (odd (2 ^ s + r) j) *ℤ x (base + j))
     (λ j. sign (odd r j) *ℤ x (base + j)) (λ j k. near_term s r base j x h k) in
-    let far : sum_below (2 ^ s)
-    (λ j. sign (odd (2 ^ s + r) (2 ^ s + j)) *ℤ x (base + (2 ^ s + j))) ≡
+    let far : sum_below (2 ^ s) (λ j. sign (odd (2 ^ s + r) (2 ^ s + j)) *ℤ x (base + (2 ^ s + j))) ≡
     neg_ℤ (block (2 ^ s) (base + 2 ^ s) r x) =
     sum_same (2 ^ s) (λ j. sign (odd (2 ^ s + r) (2 ^ s + j)) *ℤ x (base + (2 ^ s + j)))
     (λ j. neg_ℤ (sign (odd r j) *ℤ x (base + 2 ^ s + j))) (λ j k. both_term s r base j x h k)
@@ -166,8 +162,7 @@ sum_more s n x f is here there =
     let r = n % 2 ^ s in
     let small : r < 2 ^ s = omega (arith, pow_pos s) in
     let within : r ≤ n = omega (arith, pow_pos s) in
-    let base : n + 2 ^ s - (n + 2 ^ s) % 2 ^ s ≡ n - r + 2 ^ s =
-    omega (arith, is.partner_in_block, within) in
+    let base : n + 2 ^ s - (n + 2 ^ s) % 2 ^ s ≡ n - r + 2 ^ s = omega (arith, is.partner_in_block, within) in
     let there_is : f (n + 2 ^ s) ≡ block (2 ^ s) (n - r + 2 ^ s) r x = there ∙
     rw (base, is.partner_in_block) in
     let all : block (2 ^ (suc s)) (n - n % 2 ^ (suc s)) (n % 2 ^ (suc s)) x ≡
@@ -200,8 +195,7 @@ difference_more s n x f is here there =
     rw (here_is, there_is, all) (sym (block_difference s r base x small))
 
 -- one stage more
-pub partial-more : (s n : ℕ) (x f : ℕ → ℤ) → s < 6 → n < 64 →
-    ((m : ℕ) → m < 64 → f m ≡ partial s x m) →
+pub partial-more : (s n : ℕ) (x f : ℕ → ℤ) → s < 6 → n < 64 → ((m : ℕ) → m < 64 → f m ≡ partial s x m) →
     (if bit_of n s then f (n - 2 ^ s) -ℤ f n else f n +ℤ f (n + 2 ^ s)) ≡ partial (suc s) x n
 partial-more s n x f p q h = by_bit (bit_of n s) refl
   where
@@ -215,8 +209,7 @@ partial-more s n x f p q h = by_bit (bit_of n s) refl
 
 -- A Walsh sum from place k on is a sum over places, each with the row's sign there, by induction
 -- over the list: the first entry is the sum's first term, and the others move up by one place.
-by_index : (n k : ℕ) (xs : List ℤ) →
-    walsh_sum_from n k xs ≡
+by_index : (n k : ℕ) (xs : List ℤ) → walsh_sum_from n k xs ≡
     sum_below (length xs) (λ j. sign (walsh n (k + j)) *ℤ get_or xs j (pos 0))
 unfolding sum_below
 by_index n k [] = refl
@@ -244,8 +237,7 @@ partial-all n xs h long =
     let base : n - n ≡ 0 = omega arith in
     let first = λ (j : ℕ). let e : 0 + j ≡ j = omega arith in e in
     rw (row, base)
-    (sum_same 64 (λ j. sign (odd n j) *ℤ get_or xs (0 + j) (pos 0))
-    (λ j. sign (walsh n (0 + j)) *ℤ get_or xs j (pos 0))
+    (sum_same 64 (λ j. sign (odd n j) *ℤ get_or xs (0 + j) (pos 0)) (λ j. sign (walsh n (0 + j)) *ℤ get_or xs j (pos 0))
     (λ j k. rw (first j, odd-walsh n j h))
     ∙ ap (λ (m : ℕ). sum_below m (λ j. sign (walsh n (0 + j)) *ℤ get_or xs j (pos 0))) (sym long)
     ∙ sym (by_index n 0 xs))

@@ -11,13 +11,10 @@ use Rattle.walsh.proofs.Pairing.{low, high, is_clear, shifted}
 -- as they were
 pub record IsPartway (bit low : ℕ) (old new : List Pair) : Type 0 where
   pub long : length new ≡ 64
-  pub done_low : (m : ℕ) → m < 64 → bit_of m bit ≡ false → m < low →
-      entry new m ≡ butterfly bit old m
-  pub done_high : (m : ℕ) → m < 64 → bit_of m bit ≡ true → m - 2 ^ bit < low →
-      entry new m ≡ butterfly bit old m
+  pub done_low : (m : ℕ) → m < 64 → bit_of m bit ≡ false → m < low → entry new m ≡ butterfly bit old m
+  pub done_high : (m : ℕ) → m < 64 → bit_of m bit ≡ true → m - 2 ^ bit < low → entry new m ≡ butterfly bit old m
   pub kept_low : (m : ℕ) → m < 64 → bit_of m bit ≡ false → low ≤ m → entry new m ≡ entry old m
-  pub kept_high : (m : ℕ) → m < 64 → bit_of m bit ≡ true → low ≤ m - 2 ^ bit →
-      entry new m ≡ entry old m
+  pub kept_high : (m : ℕ) → m < 64 → bit_of m bit ≡ true → low ≤ m - 2 ^ bit → entry new m ≡ entry old m
 
 pub starts : (bit : ℕ) (old : List Pair) → length old ≡ 64 → IsPartway bit 0 old old
 starts bit old h = record {
@@ -54,10 +51,8 @@ apart m l bit p q e = let same : bit_of m bit ≡ bit_of l bit = ap (λ (k : ℕ
 
 -- it is done
 pub moves : (bit l : ℕ) (old new : List Pair) (x y : Pair) → bit < 6 → l < 64 →
-    bit_of l bit ≡ false → IsPartway bit l old new →
-    x ≡ plus (entry new l) (entry new (l + 2 ^ bit)) →
-    y ≡ minus (entry new l) (entry new (l + 2 ^ bit)) →
-    IsPartway bit (l + 1) old (set (set new l x) (l + 2 ^ bit) y)
+    bit_of l bit ≡ false → IsPartway bit l old new → x ≡ plus (entry new l) (entry new (l + 2 ^ bit)) →
+    y ≡ minus (entry new l) (entry new (l + 2 ^ bit)) → IsPartway bit (l + 1) old (set (set new l x) (l + 2 ^ bit) y)
 moves bit l old new x y p small clear h e f =
     let is = low bit l p small clear in
     let some : 0 < 2 ^ bit = pow_pos bit in
@@ -89,8 +84,7 @@ moves bit l old new x y p small clear h e f =
           ⊎_elim
           (λ (same : m ≡ l). ap (entry (set (set new l x) (l + 2 ^ bit) y)) same ∙ at_first ∙ sum ∙
           ap (butterfly bit old) (sym same))
-          (λ (other : m ≢ l). others m other
-          (λ (k : m ≡ l + 2 ^ bit). absurd (omega (arith, less, k, some))) ∙
+          (λ (other : m ≢ l). others m other (λ (k : m ≡ l + 2 ^ bit). absurd (omega (arith, less, k, some))) ∙
           h.done_low m within bit_clear (omega (arith, less, other)))
           (cases_eq m l);
       done_high = λ m within bit_set less.
@@ -115,10 +109,8 @@ abbrev pub step : ℕ → ℕ
 step bit = 1 * 2 ^ bit % 18446744073709551616
 
 pub moves_at : (bit l : ℕ) (old new next : List Pair) (x y : Pair) → bit < 6 → l < 64 →
-    bit_and l (step bit) ≡ 0 → IsPartway bit l old new →
-    x ≡ plus (entry new l) (entry new (l + step bit)) →
-    y ≡ minus (entry new l) (entry new (l + step bit)) →
-    next ≡ set (set new l x) (l + step bit) y →
+    bit_and l (step bit) ≡ 0 → IsPartway bit l old new → x ≡ plus (entry new l) (entry new (l + step bit)) →
+    y ≡ minus (entry new l) (entry new (l + step bit)) → next ≡ set (set new l x) (l + step bit) y →
     IsPartway bit (l + 1) old next
 moves_at bit l old new next x y p small clear h e f is =
     let place : l + step bit ≡ l + 2 ^ bit = ap (λ (k : ℕ). l + k) (shifted bit p) in
@@ -144,8 +136,7 @@ skips bit l old new p is_set h = record {
   kept_high = λ m within bit_set more. h.kept_high m within bit_set (omega (arith, more));
 }
 
-pub ends : (bit : ℕ) (old new : List Pair) → bit < 6 → IsPartway bit 64 old new →
-    IsStage bit old new
+pub ends : (bit : ℕ) (old new : List Pair) → bit < 6 → IsPartway bit 64 old new → IsStage bit old new
 ends bit old new p h = λ n within. by_bit n within (bit_of n bit) refl
   where
     by_bit : (n : ℕ) → n < 64 → (b : Bool) → bit_of n bit ≡ b → entry new n ≡ butterfly bit old n
@@ -154,12 +145,10 @@ ends bit old new p h = λ n within. by_bit n within (bit_of n bit) refl
 
 -- BOUNDS
 
-plus_within : (bound : ℕ) (x y : Pair) → IsWithin bound x → IsWithin bound y →
-    IsWithin (2 * bound) (plus x y)
+plus_within : (bound : ℕ) (x y : Pair) → IsWithin bound x → IsWithin bound y → IsWithin (2 * bound) (plus x y)
 plus_within bound x y (a, b) (c, d) = (omega (arith, ints, a, c), omega (arith, ints, b, d))
 
-minus_within : (bound : ℕ) (x y : Pair) → IsWithin bound x → IsWithin bound y →
-    IsWithin (2 * bound) (minus x y)
+minus_within : (bound : ℕ) (x y : Pair) → IsWithin bound x → IsWithin bound y → IsWithin (2 * bound) (minus x y)
 minus_within bound x y (a, b) (c, d) = (omega (arith, ints, a, c), omega (arith, ints, b, d))
 
 stage_within : (bit bound : ℕ) (old new : List Pair) → bit < 6 → EntriesAreWithin bound old →
@@ -186,8 +175,7 @@ grows bit old new p h is =
     rw (place, twice) (stage_within bit (2 ^ (40 + bit)) old new p h is)
 
 -- what is still as it was has room for a sum
-has_room : (bit : ℕ) (x y : Pair) → bit < 6 → x ≡ y → IsWithin (2 ^ (40 + bit)) y →
-    IsWithin (2 ^ 45) x
+has_room : (bit : ℕ) (x y : Pair) → bit < 6 → x ≡ y → IsWithin (2 ^ (40 + bit)) y → IsWithin (2 ^ 45) x
 has_room bit x y p e (a, b) =
     let most : 2 ^ (40 + bit) ≤ 2 ^ 45 = pow_mono {j = 45} (omega (arith, p)) in
     let P : Pair → Type 0 = λ v. IsWithin (2 ^ 45) v in

@@ -40,8 +40,7 @@ run_later size spell x run at at' y (page ∷ pages) large chained e =
     ap (λ (k : ℕ). let p : Placed = record { run = x + run; last = k; page = page } in
     p ∷ placed_run size spell (x + run) (at' + n) pages) last
     ∙ ap (λ (l : List Placed). here ∷ l)
-    (run_later size spell x run (at + n) (at' + n) (y + n) pages large chained.2
-    (omega (arith, e)))
+    (run_later size spell x run (at + n) (at' + n) (y + n) pages large chained.2 (omega (arith, e)))
 
 -- Runs of which the first begins x half-frames later have all their pages that much later, by
 -- induction over the runs: the next run begins as many half-frames after the first one as it did
@@ -54,8 +53,7 @@ runs_later size spell x o o' (run ∷ runs) large are e =
     let w = run_width size (map spell run) in
     let first = placed_run size spell o (size * o) run in
     let rest = placed_runs size spell (o + w) runs in
-    let far : size * o' ≡ size * x + size * o =
-    ap (λ (n : ℕ). size * n) e ∙ omega arith in
+    let far : size * o' ≡ size * x + size * o = ap (λ (n : ℕ). size * n) e ∙ omega arith in
     ap (λ (l : List Placed). l ++ placed_runs size spell (o' + w) runs)
     (ap (λ (n : ℕ). placed_run size spell n (size * o') run) e
     ∙ run_later size spell x o (size * o) (size * o') 0 run large are.0 far)
@@ -79,8 +77,7 @@ repeated_are_runs size spell (suc n) runs are =
 -- where the pages of more runs lie
 placed-append : (size : ℕ) (spell : Page → List Bool) (o : ℕ) (xs ys : List (List Page)) →
     placed_runs size spell o (xs ++ ys)
-    ≡ placed_runs size spell o xs ++
-    placed_runs size spell (o + length (pieces_of size spell xs)) ys
+    ≡ placed_runs size spell o xs ++ placed_runs size spell (o + length (pieces_of size spell xs)) ys
 placed-append size spell o [] ys =
     let e : o ≡ o + 0 = omega arith in ap (λ (n : ℕ). placed_runs size spell n ys) e
 placed-append size spell o (x ∷ xs) ys =
@@ -92,8 +89,7 @@ placed-append size spell o (x ∷ xs) ys =
     omega (arith, length-append (run_pieces size cs) (pieces_of size spell xs), own) in
     let rest = placed_runs size spell (o + w) xs in
     ap (λ (l : List Placed). first ++ l) (placed-append size spell (o + w) xs ys)
-    ∙ sym (append_assoc first rest
-    (placed_runs size spell (o + w + length (pieces_of size spell xs)) ys))
+    ∙ sym (append_assoc first rest (placed_runs size spell (o + w + length (pieces_of size spell xs)) ys))
     ∙ ap (λ (n : ℕ). (first ++ rest) ++ placed_runs size spell n ys) e
 
 -- what is said of the pages that are inside
@@ -102,8 +98,7 @@ module _ {X : Type 0} (h : Placed → X) (low high : ℕ) where
   abbrev round : ℕ → List Placed → List X
   round x ps = map (λ p. h (later x p)) (filter (is_between low high x) ps)
 
-  round_said : (x : ℕ) (ps : List Placed) →
-      map h (filter (is_inside low high) (map (later x) ps)) ≡ round x ps
+  round_said : (x : ℕ) (ps : List Placed) → map h (filter (is_inside low high) (map (later x) ps)) ≡ round x ps
   round_said x [] = refl
   round_said x (p ∷ ps) =
       let rest = round_said x ps in
@@ -115,10 +110,8 @@ module _ {X : Type 0} (h : Placed → X) (low high : ℕ) where
   -- Of all rounds it is said round by round: a round's pages lie as many half-frames later as the rounds
   -- before it have.
   rounds_said : (size : ℕ) (spell : Page → List Bool) (n : ℕ) (runs : List (List Page)) → 0 < size →
-      AreRuns size spell runs →
-      map h (filter (is_inside low high) (placed_runs size spell 0 (repeated n runs)))
-      ≡ flat_map (λ r. round (length (pieces_of size spell runs) * r) (placed_runs size spell 0 runs))
-      (places n)
+      AreRuns size spell runs → map h (filter (is_inside low high) (placed_runs size spell 0 (repeated n runs)))
+      ≡ flat_map (λ r. round (length (pieces_of size spell runs) * r) (placed_runs size spell 0 runs)) (places n)
   rounds_said size spell zero runs large are =
       sym (flat_map-zero (λ r. round (length (pieces_of size spell runs) * r) (placed_runs size spell 0 runs)))
   rounds_said size spell (suc n) runs large are =
@@ -147,15 +140,13 @@ long_at size [] t are lt = absurd (omega (arith, lt))
 long_at size (p ∷ pieces) zero are lt = are.0
 long_at size (p ∷ pieces) (suc t) are lt = long_at size pieces t are.1 (omega (arith, lt))
 
-repeated_whole : (size n : ℕ) (pieces : List Piece) → AreWhole size pieces →
-    AreWhole size (repeated n pieces)
+repeated_whole : (size n : ℕ) (pieces : List Piece) → AreWhole size pieces → AreWhole size (repeated n pieces)
 repeated_whole size zero pieces are = tt
 repeated_whole size (suc n) pieces are =
     whole-append size (repeated n pieces) pieces (repeated_whole size n pieces are) are
 
 -- two neighbouring half-frames of a stream
-two_of_stream : (size : ℕ) (pieces : List Piece) (t : ℕ) → AreWhole size pieces →
-    suc t < length pieces →
+two_of_stream : (size : ℕ) (pieces : List Piece) (t : ℕ) → AreWhole size pieces → suc t < length pieces →
     take (2 * (size + 1)) (drop ((size + 1) * t) (stream pieces))
     ≡ bits_of (get_or pieces t no_piece) ++ bits_of (get_or pieces (suc t) no_piece)
 two_of_stream size [] t are lt = absurd (omega (arith, lt))
@@ -196,8 +187,7 @@ frame_at size pieces k are some =
     repeated-part n (stream pieces) (both * k) both false room
     ∙ ap (λ (l : List Bool). take both (drop (both * k) l)) (sym (flat_map-repeated bits_of n pieces))
     ∙ ap (λ (d : ℕ). take both (drop d (stream all))) place
-    ∙ two_of_stream size all (2 * k) (repeated_whole size n pieces are)
-    (omega (arith, length-repeated n pieces, more))
+    ∙ two_of_stream size all (2 * k) (repeated_whole size n pieces are) (omega (arith, length-repeated n pieces, more))
     ∙ ap (λ (p : Piece). bits_of p ++ bits_of (get_or all (suc (2 * k)) no_piece))
     (get_or-repeated n pieces (2 * k) no_piece (omega (arith, more)))
     ∙ ap (λ (p : Piece). bits_of (get_or pieces ((2 * k) % w) no_piece) ++ bits_of p)
@@ -208,10 +198,8 @@ abbrev pub heard_piece : List Piece → ℕ → ℕ → Piece
 heard_piece pieces first j = get_or pieces ((2 * first + j) % length pieces) no_piece
 
 -- From frame `first` on, the frames of a cycle are those of its half-frames, round and round.
-pub cycle_has_frames : (size : ℕ) (pieces : List Piece) (first : ℕ) → AreWhole size pieces →
-    0 < length pieces →
-    AreFrames size (λ k. cycled (stream pieces) (2 * (size + 1)) (first + k))
-    (heard_piece pieces first)
+pub cycle_has_frames : (size : ℕ) (pieces : List Piece) (first : ℕ) → AreWhole size pieces → 0 < length pieces →
+    AreFrames size (λ k. cycled (stream pieces) (2 * (size + 1)) (first + k)) (heard_piece pieces first)
 cycle_has_frames size pieces first are some = record {
   long = λ j. long_at size pieces ((2 * first + j) % length pieces) are
       (mod_below (2 * first + j) (length pieces) some);
@@ -255,8 +243,7 @@ runs_some (page ∷ pages) run =
           subst (λ (runs : List (List Page)). 0 < length runs)
           (sym (runs-follow run page pages t)) (runs_some pages (run ++ page ∷ []))
       | inr f ↦
-          subst (λ (runs : List (List Page)). 0 < length runs)
-          (sym (runs-begin run page pages f)) (omega arith)
+          subst (λ (runs : List (List Page)). 0 < length runs) (sym (runs-begin run page pages f)) (omega arith)
     ]
 
 -- ---- a cycle
@@ -264,31 +251,24 @@ runs_some (page ∷ pages) run =
 -- how many half-frames it has
 cycle_count : (size : ℕ) (form : CheckForm) (page : Page) (pages : List Page)
     (cycle : List Bool) → 0 < size → page.follows ≡ false →
-    cycle ≡ laying.half_frames_of size (laid_pages size form (page ∷ pages)) →
-    length cycle / (size + 1)
+    cycle ≡ laying.half_frames_of size (laid_pages size form (page ∷ pages)) → length cycle / (size + 1)
     ≡ length (pieces_of size (page_capsule form) (runs_of (page ∷ []) pages))
 cycle_count size form page pages cycle large f is =
     let pieces = pieces_of size (page_capsule form) (runs_of (page ∷ []) pages) in
     ap (λ (l : List Bool). length l / (size + 1)) (is ∙ runs_laid size form page pages large f)
     ∙ whole_rows (size + 1) (length pieces) (length (stream pieces)) (omega arith)
-    (length-stream size pieces
-    (pieces_whole size (page_capsule form) (runs_of (page ∷ []) pages) large))
+    (length-stream size pieces (pieces_whole size (page_capsule form) (runs_of (page ∷ []) pages) large))
 
 -- where its pages lie
-cycle_placed : (size : ℕ) (form : CheckForm) (page : Page) (pages : List Page) → 0 < size →
-    page.follows ≡ false →
-    placed size form 0 0 (page ∷ pages)
-    ≡ placed_runs size (page_capsule form) 0 (runs_of (page ∷ []) pages)
+cycle_placed : (size : ℕ) (form : CheckForm) (page : Page) (pages : List Page) → 0 < size → page.follows ≡ false →
+    placed size form 0 0 (page ∷ pages) ≡ placed_runs size (page_capsule form) 0 (runs_of (page ∷ []) pages)
 cycle_placed size form page pages large f =
     let c = page_capsule form page in
     let none = no_width size large in
-    let start : (0 + size - 1) / size * size ≡ size * 0 =
-    ap (λ (k : ℕ). k * size) none ∙ omega arith in
-    let own : (0 + size - 1) / size * size / size ≡ 0 =
-    turned_back size ((0 + size - 1) / size) large ∙ none in
+    let start : (0 + size - 1) / size * size ≡ size * 0 = ap (λ (k : ℕ). k * size) none ∙ omega arith in
+    let own : (0 + size - 1) / size * size / size ≡ 0 = turned_back size ((0 + size - 1) / size) large ∙ none in
     placed-begins size form 0 0 0 page pages f start own
-    ∙ pages_placed size form pages (page ∷ []) 0 (size * 0 + length c) large
-    (omega (arith, length-append c []))
+    ∙ pages_placed size form pages (page ∷ []) 0 (size * 0 + length c) large (omega (arith, length-append c []))
 
 -- ---- heard from a frame on
 
@@ -296,8 +276,7 @@ module _ (size : ℕ) (form : CheckForm) (first n rounds : ℕ) (large : 0 < siz
   -- the transmissions of pages that lie in n frames from frame `first` on, round by round
   abbrev by_rounds : ℕ → ℕ → List Placed → List (ℕ × List Bool)
   by_rounds w high ps =
-      flat_map
-      (λ r. map (sending_of form first (w * r)) (filter (is_between (2 * first) high (w * r)) ps))
+      flat_map (λ r. map (sending_of form first (w * r)) (filter (is_between (2 * first) high (w * r)) ps))
       (places rounds)
 
   -- what the frames of a cycle with these bits end
@@ -328,16 +307,14 @@ module _ (size : ℕ) (form : CheckForm) (first n rounds : ℕ) (large : 0 < siz
       (ap (λ (k : ℕ). scan size [] k (cut (pieces_of size spell all))) (sym e)
       ∙ from_within size spell large all 0 low (2 * n) (repeated_are_runs size spell rounds runs are)
       ∙ ap (λ (k : ℕ). selected spell k (k + 2 * n) (placed_runs size spell 0 all)) e)
-      ∙ map-map (in_frame first) (told spell)
-      (filter (is_inside low (low + 2 * n)) (placed_runs size spell 0 all))
+      ∙ map-map (in_frame first) (told spell) (filter (is_inside low (low + 2 * n)) (placed_runs size spell 0 all))
       ∙ rounds_said (λ p. in_frame first (told spell p)) low (low + 2 * n) size spell rounds runs large are
 
   -- a cycle whose half-frames are known
   cycle_heard : (page : Page) (pages : List Page) (cycle : List Bool) →
       AreSendable size 0 (page ∷ pages) → AreHeard size 0 (page ∷ pages) →
       cycle ≡ laying.half_frames_of size (laid_pages size form (page ∷ pages)) →
-      2 * (first + n) ≤ length cycle / (size + 1) * rounds →
-      heard_of cycle
+      2 * (first + n) ≤ length cycle / (size + 1) * rounds → heard_of cycle
       ≡ by_rounds (length cycle / (size + 1)) (2 * (first + n)) (placed size form 0 0 (page ∷ pages))
   cycle_heard page pages cycle sent heard is room =
       let spell = page_capsule form in
@@ -350,17 +327,14 @@ module _ (size : ℕ) (form : CheckForm) (first n rounds : ℕ) (large : 0 < siz
       let count = cycle_count size form page pages cycle large f is in
       let e : 2 * (first + n) ≡ 2 * first + 2 * n = omega arith in
       let enough : 2 * first + 2 * n ≤ length pieces * rounds =
-      subst (λ (k : ℕ). k ≤ length pieces * rounds) e
-      (subst (λ (k : ℕ). 2 * (first + n) ≤ k * rounds) count room) in
+      subst (λ (k : ℕ). k ≤ length pieces * rounds) e (subst (λ (k : ℕ). 2 * (first + n) ≤ k * rounds) count room) in
       ap heard_of same
       ∙ runs_heard runs are some enough
       ∙ ap (λ (w : ℕ). by_rounds w (2 * first + 2 * n) (placed_runs size spell 0 runs)) (sym count)
       ∙ ap (λ (high : ℕ). by_rounds (length cycle / (size + 1)) high (placed_runs size spell 0 runs)) (sym e)
-      ∙ ap (by_rounds (length cycle / (size + 1)) (2 * (first + n)))
-      (sym (cycle_placed size form page pages large f))
+      ∙ ap (by_rounds (length cycle / (size + 1)) (2 * (first + n))) (sym (cycle_placed size form page pages large f))
 
-cycle_is : (rate : Rate) (form : CheckForm) (pages : List Page) →
-    page_cycle rate form pages
+cycle_is : (rate : Rate) (form : CheckForm) (pages : List Page) → page_cycle rate form pages
     ≡ laying.half_frames_of (half_frame_body rate) (laid_pages (half_frame_body rate) form pages)
 unfolding page_cycle
 cycle_is rate form pages = refl
@@ -380,8 +354,7 @@ cycle_some rate form (page ∷ pages) are =
     let size = half_frame_body rate in
     let large = size_large rate in
     let f = first_begins size form page pages large are.sendable are.heard in
-    let some = pieces_some size (page_capsule form) (runs_of (page ∷ []) pages) large
-    (runs_some pages (page ∷ []))
+    let some = pieces_some size (page_capsule form) (runs_of (page ∷ []) pages) large (runs_some pages (page ∷ []))
     (first_runs size form page pages large are.sendable are.heard) in
     let count = cycle_count size form page pages (page_cycle rate form (page ∷ pages)) large f
     (cycle_is rate form (page ∷ pages)) in
@@ -418,11 +391,9 @@ whole_same : (first frames end_chip x : ℕ) (p : Placed) → frames ≡ end_chi
     is_between (2 * first) (2 * frames) x p ≡ is_whole_page (24576 * first) end_chip x p
 whole_same first frames end_chip x p e =
     ap (λ (b : Bool). b && nat_lt (x + p.last) (2 * frames)) (begun_same first (x + p.run))
-    ∙ ap (λ (b : Bool). nat_le (24576 * first) (12288 * (x + p.run)) && b)
-    (ended_same (x + p.last) frames end_chip e)
+    ∙ ap (λ (b : Bool). nat_le (24576 * first) (12288 * (x + p.run)) && b) (ended_same (x + p.last) frames end_chip e)
 
-filter_same : (f g : Placed → Bool) (ps : List Placed) → ((p : Placed) → f p ≡ g p) →
-    filter f ps ≡ filter g ps
+filter_same : (f g : Placed → Bool) (ps : List Placed) → ((p : Placed) → f p ≡ g p) → filter f ps ≡ filter g ps
 filter_same f g [] same = refl
 filter_same f g (p ∷ ps) same =
     let here = same p in
@@ -478,11 +449,9 @@ none_whole first end_chip x (p ∷ ps) past are =
     let out : is_whole_page (24576 * first) end_chip x p ≡ false =
     elim (cases_lt (x + p.run) (2 * first)) [
       | inl early ↦
-          and_left begun ended
-          (lt-leb (24576 * first) (12288 * (x + p.run)) (omega (arith, early)))
+          and_left begun ended (lt-leb (24576 * first) (12288 * (x + p.run)) (omega (arith, early)))
       | inr late ↦
-          and_right begun ended
-          (lt-leb (24576 * ((x + p.last) / 2 + 1)) end_chip (omega (arith, late, order, past)))
+          and_right begun ended (lt-leb (24576 * ((x + p.last) / 2 + 1)) end_chip (omega (arith, late, order, past)))
     ] in
     rw out (none_whole first end_chip x ps past are.1)
 
@@ -514,8 +483,7 @@ whole_pages_back rate form pages first end_chip are =
           (end_later size form 0 0 pages (size_large rate) (omega arith)))))
       | inr inside ↦
           let all : first + n ≡ frames = omega (arith, inside) in
-          let some : rounds * 1 ≤ rounds * cycle =
-          mul-le-mul_left rounds (cycle_some rate form pages are) in
+          let some : rounds * 1 ≤ rounds * cycle = mul-le-mul_left rounds (cycle_some rate form pages are) in
           let turned : rounds * cycle ≡ cycle * rounds = omega arith in
           let room : 2 * (first + n) ≤ cycle * rounds = omega (arith, all, some, turned) in
           page_sendings_back rate form pages first n rounds are room
@@ -530,6 +498,5 @@ whole_pages_back rate form pages first end_chip are =
     ]
 
 -- the pages of a stated channel are such pages
-pub stated_pages : (rate : Rate) (p : PagingPlan) → IsStatedPaging rate p →
-    AreWholePages rate p.pages
+pub stated_pages : (rate : Rate) (p : PagingPlan) → IsStatedPaging rate p → AreWholePages rate p.pages
 stated_pages rate p is = record { some = is.some; sendable = is.pages; heard = is.heard }

@@ -17,8 +17,7 @@ page_capsule form page = capsule M30 form page.body
 -- the runs of pages, where these pages of the run under way went before
 abbrev pub runs_of : List Page → List Page → List (List Page)
 runs_of run [] = run ∷ []
-runs_of run (page ∷ pages) =
-    if page.follows then runs_of (run ++ page ∷ []) pages else run ∷ runs_of (page ∷ []) pages
+runs_of run (page ∷ pages) = if page.follows then runs_of (run ++ page ∷ []) pages else run ∷ runs_of (page ∷ []) pages
 
 pub runs-follow : (run : List Page) (page : Page) (pages : List Page) → page.follows ≡ true →
     runs_of run (page ∷ pages) ≡ runs_of (run ++ page ∷ []) pages
@@ -34,13 +33,11 @@ spelled-push spell run page =
     ap (λ (cs : List (List Bool)). joined cs 0) (map-append spell run (page ∷ []))
     ∙ joined-push (map spell run) (spell page)
 
-pub length-page : (form : CheckForm) (page : Page) →
-    length (page_capsule form page) ≡ 38 + length page.body
+pub length-page : (form : CheckForm) (page : Page) → length (page_capsule form page) ≡ 38 + length page.body
 length-page form page = omega (arith, length-capsule M30 form page.body)
 
 -- the half-frame after a run
-next_half_frame : (size o count : ℕ) → 0 < size →
-    (size * o + count + size - 1) / size ≡ o + width size count
+next_half_frame : (size o count : ℕ) → 0 < size → (size * o + count + size - 1) / size ≡ o + width size count
 next_half_frame size o count large =
     let e : size * o + count + size - 1 ≡ size * o + (count + size - 1) = omega (arith, large) in
     ap (λ (k : ℕ). k / size) e ∙ mul-add-div large o (count + size - 1)
@@ -49,8 +46,7 @@ next_half_frame size o count large =
 
 -- One page more at a run's end leaves the others where they lie and lies right after their bits, by
 -- induction over them: each page moves the place of those after it on by its own bits.
-placed_run-push : (size : ℕ) (spell : Page → List Bool) (run at : ℕ) (pages : List Page)
-    (page : Page) →
+placed_run-push : (size : ℕ) (spell : Page → List Bool) (run at : ℕ) (pages : List Page) (page : Page) →
     placed_run size spell run at (pages ++ page ∷ [])
     ≡ placed_run size spell run at pages ++
     record {
@@ -73,8 +69,7 @@ placed_run-push size spell run at (q ∷ pages) page =
     record { run = run; last = (n + length (spell page) - 1) / size; page = page } ∷ []) e)
 
 pub placed-follows : (size : ℕ) (form : CheckForm) (at run : ℕ) (page : Page) (pages : List Page) →
-    page.follows ≡ true →
-    placed size form at run (page ∷ pages)
+    page.follows ≡ true → placed size form at run (page ∷ pages)
     ≡ record {
       run = run;
       last = (at + length (page_capsule form page) - 1) / size;
@@ -83,8 +78,7 @@ pub placed-follows : (size : ℕ) (form : CheckForm) (at run : ℕ) (page : Page
 placed-follows size form at run page pages t = rw t refl
 
 pub placed-begins : (size : ℕ) (form : CheckForm) (at run o : ℕ) (page : Page) (pages : List Page) →
-    page.follows ≡ false → (at + size - 1) / size * size ≡ size * o →
-    (at + size - 1) / size * size / size ≡ o →
+    page.follows ≡ false → (at + size - 1) / size * size ≡ size * o → (at + size - 1) / size * size / size ≡ o →
     placed size form at run (page ∷ pages)
     ≡ record {
       run = o;
@@ -107,10 +101,8 @@ placed_next size form at run o count page pages large f e =
     let next = o + width size count in
     let quotient : (at + size - 1) / size ≡ next =
     ap (λ (n : ℕ). (n + size - 1) / size) e ∙ next_half_frame size o count large in
-    let start : (at + size - 1) / size * size ≡ size * next =
-    ap (λ (k : ℕ). k * size) quotient ∙ omega arith in
-    placed-begins size form at run next page pages f start
-    (turned_back size ((at + size - 1) / size) large ∙ quotient)
+    let start : (at + size - 1) / size * size ≡ size * next = ap (λ (k : ℕ). k * size) quotient ∙ omega arith in
+    placed-begins size form at run next page pages f start (turned_back size ((at + size - 1) / size) large ∙ quotient)
 
 -- The pages lie where their runs lie, by induction over the pages: one that follows the page before
 -- it makes the run longer, and any other ends the run and begins the next one at a half-frame.
@@ -126,43 +118,30 @@ pages_placed size form (page ∷ pages) run o at large e =
     let before = placed_run size spell o (size * o) run in
     elim (cases_Bool page.follows) [
       | inl t ↦
-          let p : Placed = record {
-            run = o;
-            last = (size * o + count + length c - 1) / size;
-            page = page;
-          } in
+          let p : Placed = record { run = o; last = (size * o + count + length c - 1) / size; page = page } in
           let rest = placed size form (at + length c) o pages in
           ap (λ (l : List Placed). before ++ l)
           (placed-follows size form at o page pages t
           ∙ ap (λ (n : ℕ). let x : Placed =
           record { run = o; last = (n + length c - 1) / size; page = page } in x ∷ rest) e)
           ∙ sym (append_assoc before (p ∷ []) rest)
-          ∙ ap (λ (l : List Placed). l ++ rest)
-          (sym (placed_run-push size spell o (size * o) run page))
+          ∙ ap (λ (l : List Placed). l ++ rest) (sym (placed_run-push size spell o (size * o) run page))
           ∙ pages_placed size form pages (run ++ page ∷ []) o (at + length c) large
-          (omega (
-            arith,
-            e,
-            ap length (spelled-push spell run page),
-            length-append (spelled spell run) c,
-          ))
+          (omega (arith, e, ap length (spelled-push spell run page), length-append (spelled spell run) c))
           ∙ ap (placed_runs size spell o) (sym (runs-follow run page pages t))
       | inr f ↦
           let next = o + width size count in
-          let one : length (spelled spell (page ∷ [])) ≡ length c =
-          omega (arith, length-append c []) in
+          let one : length (spelled spell (page ∷ [])) ≡ length c = omega (arith, length-append c []) in
           ap (λ (l : List Placed). before ++ l)
           (placed_next size form at o o count page pages large f e
-          ∙ pages_placed size form pages (page ∷ []) next (size * next + length c) large
-          (omega (arith, one)))
+          ∙ pages_placed size form pages (page ∷ []) next (size * next + length c) large (omega (arith, one)))
           ∙ ap (placed_runs size spell o) (sym (runs-begin run page pages f))
     ]
 
 -- ---- pages as puts
 
 -- the capsules of the runs of pages are those of the runs of their puts
-runs-put : (form : CheckForm) (pages run : List Page) →
-    map (map (page_capsule form)) (runs_of run pages)
+runs-put : (form : CheckForm) (pages run : List Page) → map (map (page_capsule form)) (runs_of run pages)
     ≡ runs_put (map (page_capsule form) run) (map (put_of form) pages)
 runs-put form [] run = refl
 runs-put form (page ∷ pages) run =
@@ -191,13 +170,11 @@ pages_some form [] = tt
 pages_some form (page ∷ pages) = (omega (arith, length-page form page), pages_some form pages)
 
 -- The half-frames of pages are those of their runs.
-pub runs_laid : (size : ℕ) (form : CheckForm) (page : Page) (pages : List Page) → 0 < size →
-    page.follows ≡ false →
+pub runs_laid : (size : ℕ) (form : CheckForm) (page : Page) (pages : List Page) → 0 < size → page.follows ≡ false →
     laying.half_frames_of size (laid_pages size form (page ∷ pages))
     ≡ stream (pieces_of size (page_capsule form) (runs_of (page ∷ []) pages))
 runs_laid size form page pages large f =
-    first_puts_laid size (put_of form page) (map (put_of form) pages) large f
-    (pages_some form (page ∷ pages))
+    first_puts_laid size (put_of form page) (map (put_of form) pages) large f (pages_some form (page ∷ pages))
     ∙ sym (ap stream (pieces-put size (page_capsule form) (runs_of (page ∷ []) pages)
     ∙ ap (runs_pieces size) (runs-put form pages (page ∷ []))))
 

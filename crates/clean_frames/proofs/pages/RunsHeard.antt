@@ -57,8 +57,7 @@ selected-append spell low high ps qs =
     ∙ map-append (told spell) (filter (is_inside low high) ps) (filter (is_inside low high) qs)
 
 selected-here : (spell : Page → List Bool) (low high : ℕ) (p : Placed) (ps : List Placed) →
-    is_inside low high p ≡ true →
-    selected spell low high (p ∷ ps) ≡ told spell p ∷ selected spell low high ps
+    is_inside low high p ≡ true → selected spell low high (p ∷ ps) ≡ told spell p ∷ selected spell low high ps
 selected-here spell low high p ps e = rw e refl
 
 selected-not : (spell : Page → List Bool) (low high : ℕ) (p : Placed) (ps : List Placed) →
@@ -69,8 +68,7 @@ selected-not spell low high p ps e = rw e refl
 module _ (size : ℕ) (spell : Page → List Bool) (large : 0 < size) where
   -- in which half-frame the last of so many body bits lies
   last_before : (high count : ℕ) → 0 < count → count ≤ size * high → (count - 1) / size < high
-  last_before high count some le =
-      div_below (count - 1) size high large (omega (arith, some, le))
+  last_before high count some le = div_below (count - 1) size high large (omega (arith, some, le))
 
   last_after : (high count : ℕ) → size * high < count → high ≤ (count - 1) / size
   last_after high count less = le-div high (count - 1) size large (omega (arith, less))
@@ -87,8 +85,7 @@ module _ (size : ℕ) (spell : Page → List Bool) (large : 0 < size) where
       ∙ too_early low high run next pages less
 
   -- pages that end too late
-  too_late : (low high run at x : ℕ) (pages : List Page) →
-      AreChained size x (map spell pages) → size * high ≤ at →
+  too_late : (low high run at x : ℕ) (pages : List Page) → AreChained size x (map spell pages) → size * high ≤ at →
       selected spell low high (placed_run size spell run at pages) ≡ []
   too_late low high run at x [] chained le = refl
   too_late low high run at x (page ∷ pages) chained le =
@@ -122,8 +119,7 @@ module _ (size : ℕ) (spell : Page → List Bool) (large : 0 < size) where
       (bits : ℕ) → AreChained size x (map spell pages) → low ≤ run → at + bits ≡ size * high →
       flat_map (ending_at size at (map spell pages)) (places bits)
       ≡ selected spell low high (placed_run size spell run at pages)
-  bits_told low high run at x [] bits chained early ends =
-      flat_map-nothing (ending_at size at []) bits (λ k lt. refl)
+  bits_told low high run at x [] bits chained early ends = flat_map-nothing (ending_at size at []) bits (λ k lt. refl)
   bits_told low high run at x (page ∷ pages) bits chained early ends =
       let c = spell page in
       let cs = map spell pages in
@@ -149,8 +145,7 @@ module _ (size : ℕ) (spell : Page → List Bool) (large : 0 < size) where
             let b = bits - n in
             let parts : bits ≡ suc d + b = omega (arith, long, all) in
             let soon : nat_lt p.last high ≡ true =
-            lt-ltb p.last high (last_before high next (omega (arith, told'))
-            (omega (arith, ends, all))) in
+            lt-ltb p.last high (last_before high next (omega (arith, told')) (omega (arith, ends, all))) in
             let inside : is_inside low high p ≡ true = rw (begun, soon) refl in
             ap (λ (k : ℕ). flat_map g (places k)) parts
             ∙ flat_map-add g (suc d) b
@@ -160,19 +155,16 @@ module _ (size : ℕ) (spell : Page → List Bool) (large : 0 < size) where
             (flat_map_ext_places (λ i. g (suc d + i)) (ending_at size next cs) b
             (λ k lt.
             let far : at + (suc d + k) ≡ next + k = omega (arith, long) in
-            ap (λ (m : ℕ). with_number (m / size) (option_to_list
-            (ended_of (c ∷ cs) (suc (suc d + k))))) far
+            ap (λ (m : ℕ). with_number (m / size) (option_to_list (ended_of (c ∷ cs) (suc (suc d + k))))) far
             ∙ ap (λ o. with_number ((next + k) / size) (option_to_list o))
             (ended-after c cs (suc (suc d + k)) k (omega (arith, long))))
-            ∙ bits_told low high run next (x + n) pages b chained.2 early
-            (omega (arith, ends, parts, long)))
+            ∙ bits_told low high run next (x + n) pages b chained.2 early (omega (arith, ends, parts, long)))
             ∙ sym (selected-here spell low high p rest inside)
       ]
 
   -- more bits than a run has tell no more
   bits_past : (at : ℕ) (cs : List (List Bool)) (bits more : ℕ) → length (joined cs 0) ≤ bits →
-      flat_map (ending_at size at cs) (places (bits + more))
-      ≡ flat_map (ending_at size at cs) (places bits)
+      flat_map (ending_at size at cs) (places (bits + more)) ≡ flat_map (ending_at size at cs) (places bits)
   bits_past at cs bits more past =
       let g = ending_at size at cs in
       flat_map-add g bits more
@@ -183,10 +175,8 @@ module _ (size : ℕ) (spell : Page → List Bool) (large : 0 < size) where
       ∙ append-nil (flat_map g (places bits))
 
   -- the first n half-frames of a run
-  run_front : (before : List Piece) (o n low : ℕ)
-      (run : List Page) → AreChained size 0 (map spell run) → low ≤ o →
-      n ≤ run_width size (map spell run) →
-      scan size before o (map (run_piece size (map spell run)) (places n))
+  run_front : (before : List Piece) (o n low : ℕ) (run : List Page) → AreChained size 0 (map spell run) → low ≤ o →
+      n ≤ run_width size (map spell run) → scan size before o (map (run_piece size (map spell run)) (places n))
       ≡ selected spell low (o + n) (placed_run size spell o (size * o) run)
   run_front before o n low run chained early le =
       run_scanned size before o (map spell run) n large chained le
@@ -196,10 +186,8 @@ module _ (size : ℕ) (spell : Page → List Bool) (large : 0 < size) where
   product w d = omega arith
 
   -- all of them
-  run_whole : (before : List Piece) (o n low : ℕ)
-      (run : List Page) → AreChained size 0 (map spell run) → low ≤ o →
-      run_width size (map spell run) ≤ n →
-      scan size before o (run_pieces size (map spell run))
+  run_whole : (before : List Piece) (o n low : ℕ) (run : List Page) → AreChained size 0 (map spell run) → low ≤ o →
+      run_width size (map spell run) ≤ n → scan size before o (run_pieces size (map spell run))
       ≡ selected spell low (o + n) (placed_run size spell o (size * o) run)
   run_whole before o n low run chained early le =
       let cs = map spell run in
@@ -207,8 +195,7 @@ module _ (size : ℕ) (spell : Page → List Bool) (large : 0 < size) where
       let g = ending_at size (size * o) cs in
       let all = fills size (length (joined cs 0)) large in
       let parts : w + (n - w) ≡ n = omega (arith, le) in
-      let e : size * w + size * (n - w) ≡ size * n =
-      product w (n - w) ∙ ap (λ (k : ℕ). size * k) parts in
+      let e : size * w + size * (n - w) ≡ size * n = product w (n - w) ∙ ap (λ (k : ℕ). size * k) parts in
       run_scanned size before o cs w large chained (omega arith)
       ∙ sym (bits_past (size * o) cs (size * w) (size * (n - w)) (omega (arith, all)))
       ∙ ap (λ (k : ℕ). flat_map g (places k)) e
@@ -232,12 +219,10 @@ module _ (size : ℕ) (spell : Page → List Bool) (large : 0 < size) where
   -- A scan of n half-frames from the beginning of a run on tells the capsules of the pages that end
   -- in them, by induction over the runs: a run that is scanned whole tells all of its pages, and one
   -- that is cut tells those at its front, after which no later run has ended.
-  pub from_start : (runs : List (List Page))
-      (before : List Piece) (o n low : ℕ) → AreRuns size spell runs → low ≤ o →
+  pub from_start : (runs : List (List Page)) (before : List Piece) (o n low : ℕ) → AreRuns size spell runs → low ≤ o →
       scan size before o (take n (pieces_of size spell runs))
       ≡ selected spell low (o + n) (placed_runs size spell o runs)
-  from_start [] before o n low are early =
-      ap (scan size before o) (take-nil n)
+  from_start [] before o n low are early = ap (scan size before o) (take-nil n)
   from_start (run ∷ runs) before o n low are early =
       let cs = map spell run in
       let w = run_width size cs in
@@ -293,11 +278,9 @@ module _ (size : ℕ) (spell : Page → List Bool) (large : 0 < size) where
       ∙ drop_at (map f (places k)) (rest ++ more) k (length-map-places f k)
 
   -- the rest of a run whose beginning was missed
-  missed : (cs : List (List Bool)) (k n : ℕ) → 0 < k →
-      NoneStarts (map (λ i. run_piece size cs (k + i)) (places n))
+  missed : (cs : List (List Bool)) (k n : ℕ) → 0 < k → NoneStarts (map (λ i. run_piece size cs (k + i)) (places n))
   missed cs k n some =
-      none_starts-map (λ i. run_piece size cs (k + i)) n
-      (λ i. later_begins_none size cs (k + i) (omega (arith, some)))
+      none_starts-map (λ i. run_piece size cs (k + i)) n (λ i. later_begins_none size cs (k + i) (omega (arith, some)))
 
   -- the rest of a run that was missed, and the runs after it
   after_missed : (runs : List (List Page))
@@ -352,8 +335,7 @@ module _ (size : ℕ) (spell : Page → List Bool) (large : 0 < size) where
         | inl within ↦
             let r = w - suc k in
             let e : low + r ≡ o + w = omega (arith, within) in
-            ap (λ (l : List Piece). scan size [] low (take n l))
-            (drop-short f (suc k) w more (omega (arith, within)))
+            ap (λ (l : List Piece). scan size [] low (take n l)) (drop-short f (suc k) w more (omega (arith, within)))
             ∙ after_missed runs cs low (suc k) r n low are.2 (omega arith) (omega arith)
             ∙ ap (λ (i : ℕ). selected spell low high (placed_runs size spell i runs)) e
             ∙ sym later

@@ -13,8 +13,7 @@ pub record AreFrames (size : ℕ) (own : ℕ → List Bool) (f : ℕ → Piece) 
   pub long : (j : ℕ) → length (f j).body ≡ size
   pub each : (k : ℕ) → own k ≡ bits_of (f (2 * k)) ++ bits_of (f (suc (2 * k)))
 
-two_more : (f : ℕ → Piece) (n : ℕ) →
-    map f (places (2 * suc n))
+two_more : (f : ℕ → Piece) (n : ℕ) → map f (places (2 * suc n))
     ≡ (map f (places (2 * n)) ++ f (2 * n) ∷ []) ++ f (suc (2 * n)) ∷ []
 two_more f n =
     let e : 2 * suc n ≡ suc (suc (2 * n)) = omega arith in
@@ -40,8 +39,7 @@ frames_stream size own f (suc n) are =
     ∙ ap (λ (l : List Bool). l ++ bits_of b) (stream-next front a))
 
 -- what a frame after others ends
-frame_ends : (size : ℕ) (own : ℕ → List Bool) (f : ℕ → Piece) (n : ℕ) → 0 < size →
-    AreFrames size own f →
+frame_ends : (size : ℕ) (own : ℕ → List Bool) (f : ℕ → Piece) (n : ℕ) → 0 < size → AreFrames size own f →
     frame_capsules size own n
     ≡ told_in size (map f (places (2 * n))) (f (2 * n)) ++
     told_in size (map f (places (2 * n)) ++ f (2 * n) ∷ []) (f (suc (2 * n)))
@@ -72,21 +70,17 @@ framed first o k (c ∷ cs) e =
     ∙ ap (λ (l : List (ℕ × List Bool)). (k, c) ∷ l) (framed first o k cs e)
 
 -- the two half-frames of a frame
-framed_two : (first n o : ℕ) (cs ds : List (List Bool)) → o / 2 - first ≡ n →
-    suc o / 2 - first ≡ n →
-    map (in_frame first) (with_number o cs ++ with_number (suc o) ds)
-    ≡ map (λ (c : List Bool). (n, c)) (cs ++ ds)
+framed_two : (first n o : ℕ) (cs ds : List (List Bool)) → o / 2 - first ≡ n → suc o / 2 - first ≡ n →
+    map (in_frame first) (with_number o cs ++ with_number (suc o) ds) ≡ map (λ (c : List Bool). (n, c)) (cs ++ ds)
 framed_two first n o cs ds a b =
     map-append (in_frame first) (with_number o cs) (with_number (suc o) ds)
-    ∙ ap (λ (l : List (ℕ × List Bool)). l ++ map (in_frame first) (with_number (suc o) ds))
-    (framed first o n cs a)
+    ∙ ap (λ (l : List (ℕ × List Bool)). l ++ map (in_frame first) (with_number (suc o) ds)) (framed first o n cs a)
     ∙ ap (λ (l : List (ℕ × List Bool)). with_number n cs ++ l) (framed first (suc o) n ds b)
     ∙ sym (map-append (λ (c : List Bool). (n, c)) cs ds)
 
 -- A frame more is two half-frames more: the scan tells what it told of those before, and then what
 -- each of the two ends, given all half-frames before it.
-scan_two : (size first n : ℕ) (f : ℕ → Piece) →
-    scan size [] (2 * first) (map f (places (2 * suc n)))
+scan_two : (size first n : ℕ) (f : ℕ → Piece) → scan size [] (2 * first) (map f (places (2 * suc n)))
     ≡ scan size [] (2 * first) (map f (places (2 * n))) ++
     (with_number (2 * first + 2 * n) (told_in size (map f (places (2 * n))) (f (2 * n))) ++
     with_number (suc (2 * first + 2 * n))
@@ -96,22 +90,18 @@ scan_two size first n f =
     let a = f (2 * n) in
     let b = f (suc (2 * n)) in
     let o = 2 * first + length front in
-    let long : o ≡ 2 * first + 2 * n =
-    ap (λ (k : ℕ). 2 * first + k) (length-map-places f (2 * n)) in
+    let long : o ≡ 2 * first + 2 * n = ap (λ (k : ℕ). 2 * first + k) (length-map-places f (2 * n)) in
     let rest = λ (k : ℕ). with_number k (told_in size front a) ++
     with_number (suc k) (told_in size (front ++ a ∷ []) b) in
     ap (scan size [] (2 * first)) (two_more f n ∙ append_assoc front (a ∷ []) (b ∷ []))
     ∙ scan-append size [] (2 * first) front (a ∷ b ∷ [])
-    ∙ ap (λ (l : List (ℕ × List Bool)). scan size [] (2 * first) front ++
-    (with_number o (told_in size front a) ++ l))
+    ∙ ap (λ (l : List (ℕ × List Bool)). scan size [] (2 * first) front ++ (with_number o (told_in size front a) ++ l))
     (append-nil (with_number (suc o) (told_in size (front ++ a ∷ []) b)))
     ∙ ap (λ (k : ℕ). scan size [] (2 * first) front ++ rest k) long
 
 -- What n frames end, each capsule with its frame, is what their half-frames end.
-pub frames_scanned : (size : ℕ) (own : ℕ → List Bool) (f : ℕ → Piece) (first n : ℕ) → 0 < size →
-    AreFrames size own f →
-    capsules_with_frames size own n
-    ≡ map (in_frame first) (scan size [] (2 * first) (map f (places (2 * n))))
+pub frames_scanned : (size : ℕ) (own : ℕ → List Bool) (f : ℕ → Piece) (first n : ℕ) → 0 < size → AreFrames size own f →
+    capsules_with_frames size own n ≡ map (in_frame first) (scan size [] (2 * first) (map f (places (2 * n))))
 frames_scanned size own f first zero large are =
     let e : 2 * zero ≡ 0 = omega arith in
     flat_map-zero (λ k. map (λ (c : List Bool). (k, c)) (frame_capsules size own k))
@@ -136,8 +126,7 @@ frames_scanned size own f first (suc n) large are =
 
 -- ---- frames of zeros
 
-zero_frames : (own : ℕ → List Bool) (many n : ℕ) →
-    ((k : ℕ) → k < n → own k ≡ replicate many false) →
+zero_frames : (own : ℕ → List Bool) (many n : ℕ) → ((k : ℕ) → k < n → own k ≡ replicate many false) →
     flat_map own (places n) ≡ replicate (many * n) false
 zero_frames own many zero zeros =
     let e : many * zero ≡ 0 = omega arith in
@@ -145,8 +134,7 @@ zero_frames own many zero zeros =
 zero_frames own many (suc n) zeros =
     let e : many * n + many ≡ many * suc n = omega arith in
     flat_map-next own n
-    ∙ ap (λ (l : List Bool). l ++ own n)
-    (zero_frames own many n (λ k lt. zeros k (omega (arith, lt))))
+    ∙ ap (λ (l : List Bool). l ++ own n) (zero_frames own many n (λ k lt. zeros k (omega (arith, lt))))
     ∙ ap (λ (l : List Bool). replicate (many * n) false ++ l) (zeros n (omega arith))
     ∙ replicate-append-replicate (many * n) many false
     ∙ ap (λ (k : ℕ). replicate k false) e
@@ -160,16 +148,12 @@ zero_frame_ends_none size own many n k lt zeros =
     let front = flat_map own (places k) in
     let same = zeros k lt in
     let before = zero_frames own many k (λ j less. zeros j (omega (arith, less, lt))) in
-    flat_map-nothing
-    (λ i. option_to_list (half_frame_capsule_ending size (front ++ take (i + 1) (own k))))
+    flat_map-nothing (λ i. option_to_list (half_frame_capsule_ending size (front ++ take (i + 1) (own k))))
     (length (own k))
     (λ i less.
-    let room : i + 1 ≤ many =
-    omega (arith, less, ap length same, length-replicate many false) in
-    ap (λ (l : List Bool). option_to_list
-    (half_frame_capsule_ending size (l ++ take (i + 1) (own k)))) before
-    ∙ ap (λ (l : List Bool). option_to_list
-    (half_frame_capsule_ending size (replicate (many * k) false ++ l)))
+    let room : i + 1 ≤ many = omega (arith, less, ap length same, length-replicate many false) in
+    ap (λ (l : List Bool). option_to_list (half_frame_capsule_ending size (l ++ take (i + 1) (own k)))) before
+    ∙ ap (λ (l : List Bool). option_to_list (half_frame_capsule_ending size (replicate (many * k) false ++ l)))
     (ap (take (i + 1)) same ∙ take-replicate (i + 1) many false room)
     ∙ ap (λ (l : List Bool). option_to_list (half_frame_capsule_ending size l))
     (replicate-append-replicate (many * k) (i + 1) false)
@@ -180,5 +164,4 @@ pub zero_frames_end_none : (size : ℕ) (own : ℕ → List Bool) (many n : ℕ)
     ((k : ℕ) → k < n → own k ≡ replicate many false) → capsules_with_frames size own n ≡ []
 zero_frames_end_none size own many n zeros =
     flat_map-nothing (λ k. map (λ (c : List Bool). (k, c)) (frame_capsules size own k)) n
-    (λ k lt. ap (map (λ (c : List Bool). (k, c)))
-    (zero_frame_ends_none size own many n k lt zeros))
+    (λ k lt. ap (map (λ (c : List Bool). (k, c))) (zero_frame_ends_none size own many n k lt zeros))

@@ -26,8 +26,7 @@ ending_is : (pieces : List Piece) → capsule_ending pieces ≡ ending_of (from_
 unfolding capsule_ending
 ending_is pieces = refl
 
-front_is : (bits : List Bool) (size : ℕ) → stated_bits bits ≡ size →
-    front_capsule bits ≡
+front_is : (bits : List Bool) (size : ℕ) → stated_bits bits ≡ size → front_capsule bits ≡
     (if (nat_le 8 (length bits) && nat_le 40 size && nat_le size 1184) &&
     nat_le size (length bits) then Some (take size bits) else None)
 unfolding front_capsule is_stated
@@ -38,16 +37,14 @@ sized : (bits : List Bool) (n size : ℕ) → stated_bits bits ≡ size →
 sized bits n size e = rw (front_is bits size e, e) refl
 
 -- a whole or a part of a transmission
-part : (p c : List Bool) (w size : ℕ) → 40 ≤ size → size ≤ 1184 → 31 * (w + 1) ≤ length p →
-    take size p ≡ c →
+part : (p c : List Bool) (w size : ℕ) → 40 ≤ size → size ≤ 1184 → 31 * (w + 1) ≤ length p → take size p ≡ c →
     decided (take (31 * (w + 1)) p) (31 * w) size ≡
     (if nat_lt (31 * w) size && nat_le size (31 * (w + 1)) then Some c else None)
 part p c w size least most room is = ⊎_elim
     (λ (more : 31 * w < size).
     let a = lt-leb size (31 * w) more in
     let b = lt-ltb (31 * w) size more in
-    let long : length (take (31 * (w + 1)) p) ≡ 31 * (w + 1) =
-    length-take-le (31 * (w + 1)) p room in
+    let long : length (take (31 * (w + 1)) p) ≡ 31 * (w + 1) = length-take-le (31 * (w + 1)) p room in
     let lawful : (nat_le 8 (31 * (w + 1)) && nat_le 40 size && nat_le size 1184) ≡ true =
     and_from (nat_le 8 (31 * (w + 1)) && nat_le 40 size) (nat_le size 1184)
     (and_from (nat_le 8 (31 * (w + 1))) (nat_le 40 size) (le-leb 8 (31 * (w + 1)) (omega arith))
@@ -72,8 +69,7 @@ but_last_run f at w =
     take_at (run f at w) (f (at + w) ∷ []) w (length-run f at w)
 
 -- what is filled in leaves the length of the body, and so a capsule
-fills_same : (one other : List Bool) → length one ≡ length other → FillsCapsule M30 one →
-    FillsCapsule M30 other
+fills_same : (one other : List Bool) → length one ≡ length other → FillsCapsule M30 one → FillsCapsule M30 other
 fills_same one other e fills =
     let same : octets M30 one ≡ octets M30 other = ap (λ (n : ℕ). (8 + n + 30) / 8) e in
     record {
@@ -98,18 +94,14 @@ module _ (plan : CellPlan) (m : SyncFields) where
   abbrev pub piece_of : ℕ → ℕ → Piece
   piece_of base j = piece (sync_frame_bits plan.cell m (base + j))
 
-  frame_bits : (frame : ℕ) → sync_frame_bits plan.cell m frame ≡
-      (frame % sending_frames == 0)
+  frame_bits : (frame : ℕ) → sync_frame_bits plan.cell m frame ≡ (frame % sending_frames == 0)
       ∷ take 31 (drop (31 * (frame % sending_frames)) (padded_sending plan.cell m (frame / sending_frames)))
   unfolding sync_frame_bits
   frame_bits frame = refl
 
   -- frame w of transmission q
   frame_piece : (base j q w : ℕ) → base + j ≡ q * sending_frames + w → w < sending_frames →
-      piece_of base j ≡ record {
-        starts = w == 0;
-        body = take 31 (drop (31 * w) (padded_sending plan.cell m q));
-      }
+      piece_of base j ≡ record { starts = w == 0; body = take 31 (drop (31 * w) (padded_sending plan.cell m q)) }
   frame_piece base j q w at low =
       let f = sending_frames in
       let quotient : (base + j) / f ≡ q = ap (λ (n : ℕ). n / f) at ∙ div-mul-add q f w low in
@@ -151,8 +143,7 @@ module _ (plan : CellPlan) (m : SyncFields) where
       stated_bits (take n (padded_sending plan.cell m q)) ≡ length (sync_capsule plan.cell.check30 m)
   stated q n fills enough =
       let c = sync_capsule plan.cell.check30 (message_of plan.cell m q) in
-      let long : 8 ≤ length c =
-      omega (arith, length-sync plan.cell.check30 (message_of plan.cell m q)) in
+      let long : 8 ≤ length c = omega (arith, length-sync plan.cell.check30 (message_of plan.cell m q)) in
       let first : take 8 (take n (padded_sending plan.cell m q)) ≡ take 8 c =
       take-take 8 n (padded_sending plan.cell m q) enough ∙
       take-append-le 8 c (replicate 93 false) long in
@@ -161,8 +152,7 @@ module _ (plan : CellPlan) (m : SyncFields) where
       (fills_same (sync_body m) (sync_body (message_of plan.cell m q)) (length-sent q) fills)
       ∙ length-sending plan.cell m q
 
-  whole_capsule : (q : ℕ) →
-      take (length (sync_capsule plan.cell.check30 m)) (padded_sending plan.cell m q) ≡
+  whole_capsule : (q : ℕ) → take (length (sync_capsule plan.cell.check30 m)) (padded_sending plan.cell m q) ≡
       sync_capsule plan.cell.check30 (message_of plan.cell m q)
   whole_capsule q =
       take_at (sync_capsule plan.cell.check30 (message_of plan.cell m q)) (replicate 93 false)
@@ -190,14 +180,12 @@ module _ (plan : CellPlan) (m : SyncFields) where
       record { parts = sym (div-add-mod' (base + k) f); low = mod_below (base + k) f some }
 
   -- where the transmission began before the file, none of the pieces starts a message
-  pub not_begun : (base k q w : ℕ) → IsSentAt base k q w →
-      k < w → from_last_start (run (piece_of base) 0 (suc k)) ≡ []
+  pub not_begun : (base k q w : ℕ) → IsSentAt base k q w → k < w → from_last_start (run (piece_of base) 0 (suc k)) ≡ []
   not_begun base k q w is before =
       none_starts (piece_of base) 0 (suc k) (λ i lt.
       let r = w - (k - i) in
       let here =
-      frame_piece base (0 + i) q r (omega (arith, is.parts, lt, before))
-      (omega (arith, is.low, lt, before)) in
+      frame_piece base (0 + i) q r (omega (arith, is.parts, lt, before)) (omega (arith, is.low, lt, before)) in
       ap (λ (p : Piece). p.starts) here ∙ ne_eqb r 0 (λ e. omega (arith, e, lt, before)))
 
   -- else the message under way has the transmission's pieces
@@ -209,8 +197,7 @@ module _ (plan : CellPlan) (m : SyncFields) where
       let begins : base + at ≡ q * sending_frames = omega (arith, is.parts, after) in
       let message = run f at (suc w) in
       let start : (f at).starts ≡ true =
-      ap (λ (p : Piece). p.starts)
-      (frame_piece base at q 0 (omega (arith, begins)) (omega (arith, is.low))) in
+      ap (λ (p : Piece). p.starts) (frame_piece base at q 0 (omega (arith, begins)) (omega (arith, is.low))) in
       let kept : from_last_start message ≡ message =
       first_starts f at w start
       (λ i up lt. ap (λ (p : Piece). p.starts)
@@ -251,8 +238,7 @@ module _ (plan : CellPlan) (m : SyncFields) where
       let message = run f at (suc w) in
       let bits : bodies message ≡ take (31 * (w + 1)) (padded_sending plan.cell m q) =
       bodies_are base at q (suc w) begins (omega (arith, is.low)) ∙
-      ap (λ (n : ℕ). take n (padded_sending plan.cell m q))
-      (let e : 31 * suc w ≡ 31 * (w + 1) = omega arith in e) in
+      ap (λ (n : ℕ). take n (padded_sending plan.cell m q)) (let e : 31 * suc w ≡ 31 * (w + 1) = omega arith in e) in
       let earlier : length (bodies (but_last message)) ≡ 31 * w =
       ap (λ (l : List Piece). length (bodies l)) (but_last_run f at w)
       ∙ ap length (bodies_are base at q w begins (omega (arith, is.low))) ∙
@@ -266,8 +252,7 @@ module _ (plan : CellPlan) (m : SyncFields) where
       bits
       ∙ sized (take (31 * (w + 1)) (padded_sending plan.cell m q)) (31 * w) size
       (stated q (31 * (w + 1)) fills (omega arith))
-      ∙ part (padded_sending plan.cell m q)
-      (sync_capsule plan.cell.check30 (message_of plan.cell m q)) w size
+      ∙ part (padded_sending plan.cell m q) (sync_capsule plan.cell.check30 (message_of plan.cell m q)) w size
       (omega (arith, fills.least, fills.whole, own)) (omega (arith, fills.most, fills.whole, own))
       room (whole_capsule q)
       ∙ rw in_time refl)

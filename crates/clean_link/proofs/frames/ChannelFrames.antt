@@ -47,8 +47,7 @@ shown_back {count} {samples} {s} is k here = own-is count samples s k ∙ shown_
 pub silent_back : (count k : ℕ) (samples : List Sample) (s : Stream) → 8 ≤ s.channel.bits →
     ((j : ℕ) → is_in_file count s j ≡ true →
     frame_softs samples s j ≡ replicate (symbols s.form) (pos 0)) →
-    is_in_file count s k ≡ true →
-    frame_own_bits count samples s k ≡ replicate s.channel.bits false
+    is_in_file count s k ≡ true → frame_own_bits count samples s k ≡ replicate s.channel.bits false
 silent_back count k samples s enough shown here =
     own-is count samples s k ∙ silent_in_span count k samples s enough shown here
 
@@ -63,8 +62,7 @@ channel_frames plan c s bits_of base k samples heard read signs here =
 phase_kept : (phase : ℕ) → phase < 32768 → modulo_code (pos phase +ℤ pos 0) ≡ phase
 phase_kept phase low =
     ap unsigned_abs
-    (int_rem_euclid_is (pos phase +ℤ pos 0) (pos 32768) 32768 0 phase (omega arith) refl
-    (omega (arith, ints)))
+    (int_rem_euclid_is (pos phase +ℤ pos 0) (pos 32768) 32768 0 phase (omega arith) refl (omega (arith, ints)))
     ∙ omega (arith, low)
 
 -- the finger of a row is the one on the path
@@ -76,8 +74,7 @@ fingers_are plan t row on =
     ∙ ap (λ (n : ℕ). fingers_of row n (pos 0 ∷ [])) on.phase
     ∙ ap (λ (n : ℕ). reference_finger n row ∷ []) (phase_kept (phase_at plan plan.link.start) low)
 
-sync_heard : (plan : CellPlan) (sync : SyncPlan) (t : Tuning) → plan.cell.pn < 512 →
-    IsOnPath plan t →
+sync_heard : (plan : CellPlan) (sync : SyncPlan) (t : Tuning) → plan.cell.pn < 512 → IsOnPath plan t →
     IsHeardBy plan (sync_carrier plan sync) (sync_stream t) (first_sync_frame plan)
 sync_heard plan sync t low on = record {
   alone = fingers_are plan t 32 on;
@@ -86,15 +83,13 @@ sync_heard plan sync t low on = record {
   begins = let begins = frames_begin plan t 0 low on.phase in omega (arith, begins);
 }
 
-sync_symbols-is : (plan : CellPlan) (m : SyncFields) (frame : ℕ) →
-    sync_symbols plan.cell m frame ≡
+sync_symbols-is : (plan : CellPlan) (m : SyncFields) (frame : ℕ) → sync_symbols plan.cell m frame ≡
     sent sync_shape 2 (continued_symbols (sync_frame_bits plan.cell m) frame)
 unfolding sync_symbols
 sync_symbols-is plan m frame = refl
 
 sync_read : (plan : CellPlan) (sync : SyncPlan) (t : Tuning) →
-    AreReadBy (sync_carrier plan sync) (sync_stream t) (sync_frame_bits plan.cell sync.message)
-    (first_sync_frame plan)
+    AreReadBy (sync_carrier plan sync) (sync_stream t) (sync_frame_bits plan.cell sync.message) (first_sync_frame plan)
 sync_read plan sync t = record {
   whole = whole_frames kinds.TheVariants.Sync;
   each = length-sync_frame_bits plan.cell sync.message;
@@ -103,8 +98,7 @@ sync_read plan sync t = record {
 }
 
 -- the gain of a sync channel that is sent
-gain_some : (plan : CellPlan) (sync : SyncPlan) → plan.sync ≡ Some sync → IsSyncPlan plan.sync →
-    0 < sync.gain
+gain_some : (plan : CellPlan) (sync : SyncPlan) → plan.sync ≡ Some sync → IsSyncPlan plan.sync → 0 < sync.gain
 gain_some plan sync is lawful = (subst IsSyncPlan is lawful).0
 
 inside : (plan : CellPlan) (t : Tuning) (s : Stream) (k : ℕ) → IsOnPath plan t →
@@ -127,8 +121,7 @@ sent_signs width plan sync t k at is on here = (
 zero_in : (width : Width) (plan : CellPlan) (samples : List Sample) (t : Tuning) (k : ℕ) →
     IsReceivable width plan → ((u : ℕ) → IsFrameAt plan Sync u →
     softs samples (path_finger plan 32 ∷ []) Sync u ≡ replicate 128 (pos 0)) → IsOnPath plan t →
-    is_in_file t.count (sync_stream t) k ≡ true →
-    frame_softs samples (sync_stream t) k ≡ replicate 128 (pos 0)
+    is_in_file t.count (sync_stream t) k ≡ true → frame_softs samples (sync_stream t) k ≡ replicate 128 (pos 0)
 zero_in width plan samples t k at silent on here =
     let u = frame_start (sync_stream t) k in
     let begins = frames_begin plan t k at.lawful.pn on.phase in
@@ -143,8 +136,7 @@ zero_in width plan samples t k at silent on here =
 -- those in which each frame has the sent signs
 sync_shown : {width : Width} {plan : CellPlan} {samples : List Sample} (sync : SyncPlan) (t : Tuning) →
     HasSyncSigns width plan samples → plan.sync ≡ Some sync → IsOnPath plan t →
-    IsShown t.count samples (sync_stream t) (sync_frame_bits plan.cell sync.message)
-    (first_sync_frame plan)
+    IsShown t.count samples (sync_stream t) (sync_frame_bits plan.cell sync.message) (first_sync_frame plan)
 sync_shown {plan = plan} {samples = samples} sync t is sends on =
     subst
     (λ (n : ℕ). IsShown n samples (sync_stream t) (sync_frame_bits plan.cell sync.message)
@@ -165,8 +157,7 @@ shows_sync {width} {plan} {samples} is = record {
 -- a channel that bears the noise has them, in each of its frames
 pub near_frame : {width : Width} {plan : CellPlan} (c : Carrier) (form : Form) (e : ℕ)
     (samples : List Sample) → IsReceivable width plan → Contains (carriers plan) c →
-    IsNear e samples (made_samples plan) → Bears plan c.gain e →
-    (frame : ℕ) → FrameHasSigns plan c form samples frame
+    IsNear e samples (made_samples plan) → Bears plan c.gain e → (frame : ℕ) → FrameHasSigns plan c form samples frame
 near_frame c form e samples is has near bears = noisy_relates is c form e samples has near bears
 
 -- so near samples, where the sync channel bears the noise
@@ -200,8 +191,7 @@ clean_signs width plan is = record {
       silent_rows width plan 32 Sync u is (omega arith) (sync_silent width plan is.lawful silent) at;
 }
 
-pub clean_sync : (width : Width) (plan : CellPlan) → IsReceivable width plan →
-    ShowsSync width plan (made_samples plan)
+pub clean_sync : (width : Width) (plan : CellPlan) → IsReceivable width plan → ShowsSync width plan (made_samples plan)
 clean_sync width plan is = shows_sync (clean_signs width plan is)
 
 pub zero_without_sync : AreZeroWithoutSync
@@ -215,27 +205,22 @@ pub frames_back : FramesComeBack
 frames_back width plan samples sync t k is sends on here = shown_back (sync_shown sync t is sends on) k here
 
 pub codewords_alone : SentCodewordsAreTheOnlyBest
-codewords_alone width plan samples sync t k is sends on here =
-    shown_alone (sync_shown sync t is sends on) k here
+codewords_alone width plan samples sync t k is sends on here = shown_alone (sync_shown sync t is sends on) k here
 
 pub near_channels : NearChannelsHaveSigns
-near_channels width plan c form e samples frame is has near bears =
-    near_frame c form e samples is has near bears frame
+near_channels width plan c form e samples frame is has near bears = near_frame c form e samples is has near bears frame
 
 pub near_syncs : NearSyncHasSigns
-near_syncs width plan sync e samples is =
-    near_sync samples is.receivable is.sends is.near is.bears
+near_syncs width plan sync e samples is = near_sync samples is.receivable is.sends is.near is.bears
 
 -- ---- scrambling
 
 pub length-scrambling : (state mask : ℕ) → length (scrambling state mask) ≡ 384
 unfolding codes.scrambling_chips
-length-scrambling state mask =
-    length-map (places 384) (λ i. long_chip state mask (64 * i)) ∙ length-places 384
+length-scrambling state mask = length-map (places 384) (λ i. long_chip state mask (64 * i)) ∙ length-places 384
 
 -- where there are scrambling bits, each symbol is added to its own
-scrambled_some : (bits symbols : List Bool) → 0 < length bits →
-    zip_with xor symbols bits ≡ scrambled_with bits symbols
+scrambled_some : (bits symbols : List Bool) → 0 < length bits → zip_with xor symbols bits ≡ scrambled_with bits symbols
 scrambled_some [] symbols some = absurd (omega (arith, some))
 scrambled_some (b ∷ bits) symbols some = refl
 
@@ -250,8 +235,7 @@ zeros_unscrambled : (bits : List Bool) (n : ℕ) → length bits ≡ n →
     unscrambled bits (replicate n (pos 0)) ≡ replicate n (pos 0)
 zeros_unscrambled [] n long = refl
 zeros_unscrambled (b ∷ bits) n long =
-    subst
-    (λ (k : ℕ). descrambled (b ∷ bits) (replicate k (pos 0)) ≡ replicate k (pos 0))
+    subst (λ (k : ℕ). descrambled (b ∷ bits) (replicate k (pos 0)) ≡ replicate k (pos 0))
     long (zeros_descrambled (b ∷ bits))
 
 -- ---- the stream
@@ -280,15 +264,13 @@ length-cycled : (cycle : List Bool) (size frame : ℕ) → length (cycled cycle 
 unfolding cycled
 length-cycled cycle size frame = length-map (places size) _ ∙ length-places size
 
-symbols_are : (c : Cycle) (frame : ℕ) →
-    cycle_symbols c frame ≡
+symbols_are : (c : Cycle) (frame : ℕ) → cycle_symbols c frame ≡
     zip_with xor (ordered_symbols c frame) (frame_scrambling c frame)
 unfolding cycle_symbols cycles.scrambled
 symbols_are c frame = refl
 
 -- a frame is scrambled by the long code that the mark tells
-same_scrambling : (plan : CellPlan) (p : PagingPlan) (m : Mark) (superframes k : ℕ) →
-    IsTrueMark plan m superframes →
+same_scrambling : (plan : CellPlan) (p : PagingPlan) (m : Mark) (superframes k : ℕ) → IsTrueMark plan m superframes →
     frame_scrambling (cycle_of plan p) (4 * superframes + k) ≡
     scrambling (after m.state (24576 * k)) (paging_mask p.number m.pilot)
 same_scrambling plan p m superframes k at =
@@ -306,8 +288,7 @@ paging_read : (plan : CellPlan) (p : PagingPlan) (t : Tuning) (m : Mark) (superf
     (cycle_frame_bits (cycle_of plan p)) (4 * superframes)
 paging_read plan p t m superframes at same = record {
   whole = whole_frames (kinds.TheVariants.Paging (paging_rate m.prat));
-  each = λ k. length-cycled (cycle_of plan p).bits
-      (paging_frame_size (pages.sent_paging_rate plan.sync)) k
+  each = λ k. length-cycled (cycle_of plan p).bits (paging_frame_size (pages.sent_paging_rate plan.sync)) k
       ∙ frame_size-is (pages.sent_paging_rate plan.sync)
       ∙ ap (λ (rate : Rate). 192 / repeats_of rate) same;
   scrambles = λ k. inr
@@ -318,8 +299,7 @@ paging_read plan p t m superframes at same = record {
       let bits = scrambling (after m.state (24576 * k)) (paging_mask p.number m.pilot) in
       let long = length-scrambling (after m.state (24576 * k)) (paging_mask p.number m.pilot) in
       symbols_are (cycle_of plan p) frame
-      ∙ ap
-      (zip_with xor (sent data_shape (repeats_of (pages.sent_paging_rate plan.sync)) code))
+      ∙ ap (zip_with xor (sent data_shape (repeats_of (pages.sent_paging_rate plan.sync)) code))
       (same_scrambling plan p m superframes k at)
       ∙ ap (λ (rate : Rate). zip_with xor (sent data_shape (repeats_of rate) code) bits) same
       ∙ scrambled_some bits (sent data_shape (repeats_of (paging_rate m.prat)) code)
@@ -361,8 +341,7 @@ module _ (plan : CellPlan) (p : PagingPlan) (t : Tuning) (m : Mark) (superframes
   bits_of = cycle_frame_bits (cycle_of plan p)
 
   pub read_after : AreReadBy (paging_carrier plan p) stream bits_of (4 * superframes)
-  read_after =
-      paging_read plan p t m superframes at.marked (rates_agree plan at.sync m at.sends at.rate)
+  read_after = paging_read plan p t m superframes at.marked (rates_agree plan at.sync m at.sends at.rate)
 
   -- The soft values of a frame from the mark on show what the channel sends in it, where they have the
   -- signs of it.
@@ -392,8 +371,7 @@ near_paging {plan = plan} {p} {e} samples is has near bears =
 -- a noise of 0 is borne by any paging channel
 pub paging_borne : (width : Width) (plan : CellPlan) (p : PagingPlan) → IsReceivable width plan →
     Contains plan.paging p → Bears plan p.gain 0
-paging_borne width plan p is has =
-    none_borne width plan p.gain is (paging_gain width plan p is.lawful has)
+paging_borne width plan p is has = none_borne width plan p.gain is (paging_gain width plan p is.lawful has)
 
 pub paging_frames_back : PagingFramesComeBack
 paging_frames_back plan p t m superframes k samples on at signs here =
@@ -412,17 +390,14 @@ silent_paging_zero width plan t m superframes channel k is first last none free 
     let u = frame_start s k in
     let bits = scrambling (after m.state (24576 * k)) (paging_mask channel m.pilot) in
     let place = at.place in
-    ap (λ (fs : List Finger). unscrambled bits (softs (made_samples plan) fs Data u))
-    (fingers_are plan t channel on)
+    ap (λ (fs : List Finger). unscrambled bits (softs (made_samples plan) fs Data u)) (fingers_are plan t channel on)
     ∙ ap (unscrambled bits)
-    (silent_rows width plan channel Data u is (omega (arith, last))
-    (paging_silent plan channel first last none free)
+    (silent_rows width plan channel Data u is (omega (arith, last)) (paging_silent plan channel first last none free)
     (record {
       room = omega (arith, paging_file_to t channel m on.alone k here, on.count);
       aligned = omega (arith, place);
     }))
-    ∙ zeros_unscrambled bits 384
-    (length-scrambling (after m.state (24576 * k)) (paging_mask channel m.pilot))
+    ∙ zeros_unscrambled bits 384 (length-scrambling (after m.state (24576 * k)) (paging_mask channel m.pilot))
 
 pub silent_paging_back : SilentPagingFramesAreZeros
 silent_paging_back width plan t m superframes channel k is first last none free on at here =

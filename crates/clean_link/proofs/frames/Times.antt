@@ -32,8 +32,7 @@ known_alone count s k alone waits =
     ∙ known_if s k (nat_le (ends_at s k + frame_chips s.form) count) alone
 
 -- and where it doesn't
-pub known_at_once : (count : ℕ) (s : Stream) (k : ℕ) → IsAlone s → s.waits ≡ false →
-    known_at count s k ≡ ends_at s k
+pub known_at_once : (count : ℕ) (s : Stream) (k : ℕ) → IsAlone s → s.waits ≡ false → known_at count s k ≡ ends_at s k
 known_at_once count s k alone waits =
     ap
     (λ (w : Bool). frame_end s.fingers s.form
@@ -61,13 +60,11 @@ end_of_frame t k = (32768 - t.phase) % 32768 + 32768 * (k + 1)
 
 pub in_file_from : (t : Tuning) (k : ℕ) → t.deltas ≡ one_path → end_of_frame t k ≤ t.count →
     is_in_file t.count (sync_stream t) k ≡ true
-in_file_from t k alone h =
-    inside_alone t.count (sync_stream t) k (sync_alone t alone) (omega (arith, h))
+in_file_from t k alone h = inside_alone t.count (sync_stream t) k (sync_alone t alone) (omega (arith, h))
 
 pub in_file_to : (t : Tuning) (k : ℕ) → t.deltas ≡ one_path →
     is_in_file t.count (sync_stream t) k ≡ true → end_of_frame t k ≤ t.count
-in_file_to t k alone h =
-    omega (arith, room_alone t.count (sync_stream t) k (sync_alone t alone) h)
+in_file_to t k alone h = omega (arith, room_alone t.count (sync_stream t) k (sync_alone t alone) h)
 
 pub known_is : (t : Tuning) (k : ℕ) → t.deltas ≡ one_path →
     known_at t.count (sync_stream t) k ≡ heard_after 32768 t.count (end_of_frame t k)
@@ -84,11 +81,9 @@ begins_at start phase pn j low is = omega arith
 
 -- the local chip at which frame j begins
 pub frames_begin : (plan : CellPlan) (t : Tuning) (j : ℕ) → plan.cell.pn < 512 →
-    t.phase ≡ phase_at plan plan.link.start →
-    plan.link.start + ((32768 - t.phase) % 32768 + 32768 * j) ≡
+    t.phase ≡ phase_at plan plan.link.start → plan.link.start + ((32768 - t.phase) % 32768 + 32768 * j) ≡
     64 * plan.cell.pn + 32768 * (first_sync_frame plan + j)
-frames_begin plan t j low is =
-    rw is (begins_at plan.link.start (phase_at plan plan.link.start) plan.cell.pn j low refl)
+frames_begin plan t j low is = rw is (begins_at plan.link.start (phase_at plan plan.link.start) plan.cell.pn j low refl)
 
 -- ---- a paging channel
 
@@ -107,15 +102,11 @@ module _ (t : Tuning) (channel : ℕ) (m : Mark) (alone : t.deltas ≡ one_path)
   pub paging_timed : IsTimed t.count (paging_stream t channel m) 0
   paging_timed = timed_alone t.count (paging_stream t channel m) paging_alone
 
-  pub paging_file_from : (k : ℕ) → end_after m k ≤ t.count →
-      is_in_file t.count (paging_stream t channel m) k ≡ true
-  paging_file_from k h =
-      inside_alone t.count (paging_stream t channel m) k paging_alone (omega (arith, h))
+  pub paging_file_from : (k : ℕ) → end_after m k ≤ t.count → is_in_file t.count (paging_stream t channel m) k ≡ true
+  paging_file_from k h = inside_alone t.count (paging_stream t channel m) k paging_alone (omega (arith, h))
 
-  pub paging_file_to : (k : ℕ) → is_in_file t.count (paging_stream t channel m) k ≡ true →
-      end_after m k ≤ t.count
-  paging_file_to k h =
-      omega (arith, room_alone t.count (paging_stream t channel m) k paging_alone h)
+  pub paging_file_to : (k : ℕ) → is_in_file t.count (paging_stream t channel m) k ≡ true → end_after m k ≤ t.count
+  paging_file_to k h = omega (arith, room_alone t.count (paging_stream t channel m) k paging_alone h)
 
   pub paging_known_is : (k : ℕ) →
       known_at t.count (paging_stream t channel m) k ≡ heard_after 24576 t.count (end_after m k)

@@ -38,8 +38,7 @@ lc_some plan m q is =
 
 abbrev sent_mark : CellPlan → SyncFields → ℕ → ℕ → Mark
 sent_mark plan m q first = record {
-  sample = first + 98304 *
-      (superframes_of (sync_capsule plan.cell.check30 (message_of plan.cell m q)) + 4) - 64 *
+  sample = first + 98304 * (superframes_of (sync_capsule plan.cell.check30 (message_of plan.cell m q)) + 4) - 64 *
       (message_of plan.cell m q).pn;
   time = (message_of plan.cell m q).time;
   state = (message_of plan.cell m q).lc;
@@ -47,17 +46,14 @@ sent_mark plan m q first = record {
   prat = (message_of plan.cell m q).prat;
 }
 
-pub marks_sent : (plan : CellPlan) (m : SyncFields) (q first : ℕ) → IsState plan.cell.lc →
-    marks_of first
+pub marks_sent : (plan : CellPlan) (m : SyncFields) (q first : ℕ) → IsState plan.cell.lc → marks_of first
     (with_message (sync_capsule plan.cell.check30 (message_of plan.cell m q))
     (Some (message_of plan.cell m q))) ≡ sent_mark plan m q first ∷ []
 marks_sent plan m q first is = rw (lc_some plan m q is) refl
 
-marks_none : (t : Tuning) (samples : List Sample) (k : ℕ) → heard_at t samples k ≡ None →
-    marks_at t samples k ≡ []
+marks_none : (t : Tuning) (samples : List Sample) (k : ℕ) → heard_at t samples k ≡ None → marks_at t samples k ≡ []
 unfolding marks_at
-marks_none t samples k none =
-    ap (marks_of (frame_start (sync_stream t) (k + 1 - frames_open t samples (k + 1)))) none
+marks_none t samples k none = ap (marks_of (frame_start (sync_stream t) (k + 1 - frames_open t samples (k + 1)))) none
 
 -- ---- it is true
 at_mark : (start u pn n q : ℕ) → pn < 512 → start + u ≡ 64 * pn + 98304 * (q * n) →
@@ -70,8 +66,7 @@ at_mark start u pn n q low begins = omega (arith, begins, low)
 -- long-code state are the cell's.
 is_true : (width : Width) (plan : CellPlan) (m : SyncFields) (t : Tuning) (k q w : ℕ) →
     IsLawfulPlan width plan → IsOnPath plan t → EndsAt plan m k q w →
-    IsTrueMark plan (sent_mark plan m q (frame_start (sync_stream t) (k - w)))
-    (told_superframes plan.cell m q)
+    IsTrueMark plan (sent_mark plan m q (frame_start (sync_stream t) (k - w))) (told_superframes plan.cell m q)
 is_true width plan m t k q w lawful tuned at =
     let tells = ends_tells plan m k w at.ends in
     let n = superframes_a_sending plan.cell m in
@@ -84,8 +79,7 @@ is_true width plan m t k q w lawful tuned at =
     omega (arith, first, at.place.parts, tells.begun, frames) in
     record {
       place =
-          ap (λ (x : ℕ). plan.link.start +
-          (u + 98304 * (x + 4) - 64 * (message_of plan.cell m q).pn))
+          ap (λ (x : ℕ). plan.link.start + (u + 98304 * (x + 4) - 64 * (message_of plan.cell m q).pn))
           size
           ∙ ap (λ (x : ℕ). plan.link.start + (u + 98304 * (n + 4) - 64 * x)) (message_tells plan m q).2
           ∙ at_mark plan.link.start u plan.cell.pn n q lawful.pn begins;
@@ -129,20 +123,17 @@ module _ {width : Width} {plan : CellPlan} {samples : List Sample} {t : Tuning}
     frames_open_is k q w there at =
         let m = sync.message in
         let tells = ends_tells plan m k w at.ends in
-        ap (λ (l : List Piece). length (from_last_start l))
-        (heard_pieces is tuned sync sends k there)
+        ap (λ (l : List Piece). length (from_last_start l)) (heard_pieces is tuned sync sends k there)
         ∙ ap length (begun plan m (first_sync_frame plan) k q w at.place tells.begun)
         ∙ length-run (piece_of plan m (first_sync_frame plan)) (k - w) (suc w) ∙ omega arith
 
     -- at the reference sample at which its first frame begins
-    marks_are : (k q w : ℕ) → in_file t k ≡ true → EndsAt plan sync.message k q w →
-        marks_at t samples k ≡
+    marks_are : (k q w : ℕ) → in_file t k ≡ true → EndsAt plan sync.message k q w → marks_at t samples k ≡
         sent_mark plan sync.message q (frame_start (sync_stream t) (k - w)) ∷ []
     unfolding marks_at
     marks_are k q w there at =
         let m = sync.message in
-        let first : k + 1 - frames_open t samples (k + 1) ≡ k - w =
-        omega (arith, frames_open_is k q w there at) in
+        let first : k + 1 - frames_open t samples (k + 1) ≡ k - w = omega (arith, frames_open_is k q w there at) in
         ap (λ j. marks_of (frame_start (sync_stream t) j) (heard_at t samples k)) first
         ∙ ap (marks_of (frame_start (sync_stream t) (k - w)))
         (heard_is is tuned sync sends k q w true there at.place at.ends)
@@ -170,8 +161,7 @@ module _ {width : Width} {plan : CellPlan} {samples : List Sample} {t : Tuning}
               (sym (ap first_of marks) ∙ set);
         })
         (λ (over : ends_sending plan sync.message k w ≡ false).
-        let none =
-        marks_none t samples k (heard_is is tuned sync sends k q w false there place over) in
+        let none = marks_none t samples k (heard_is is tuned sync sends k q w false there place over) in
         no_first m _ (sym (ap first_of none) ∙ set))
         (cases_Bool (ends_sending plan sync.message k w))
 
@@ -187,15 +177,12 @@ module _ {width : Width} {plan : CellPlan} {samples : List Sample} {t : Tuning}
         )
 
   frame_true_if : (channel : Option SyncPlan) → plan.sync ≡ channel → (k : ℕ) (m : Mark) →
-      in_file t k ≡ true → first_of (marks_at t samples k) ≡ Some m →
-      (superframes : ℕ) × IsTrueMark plan m superframes
+      in_file t k ≡ true → first_of (marks_at t samples k) ≡ Some m → (superframes : ℕ) × IsTrueMark plan m superframes
   frame_true_if None silent k m there set =
-      no_first m _
-      (sym (ap first_of (marks_none t samples k (none_heard is tuned silent k there))) ∙ set)
+      no_first m _ (sym (ap first_of (marks_none t samples k (none_heard is tuned silent k there))) ∙ set)
   frame_true_if (Some sync) sends k m there set = frame_true sync sends k m there set
 
-  pub marks_in : (n : ℕ) (m : Mark) → mark t samples n ≡ Some m →
-      (superframes : ℕ) × IsTrueMark plan m superframes
+  pub marks_in : (n : ℕ) (m : Mark) → mark t samples n ≡ Some m → (superframes : ℕ) × IsTrueMark plan m superframes
   marks_in n m set =
       let (k, both) = mark_among t samples n m set in
       frame_true_if plan.sync refl k m both.0 both.1
@@ -217,8 +204,7 @@ module _ {width : Width} {plan : CellPlan} {samples : List Sample} {t : Tuning}
       no_mark None e = e
       no_mark (Some m) e =
           let (k, both) = mark_among t samples n m e in
-          no_first m _
-          (sym (ap first_of (marks_none t samples k (none_heard is tuned silent k both.0))) ∙ both.1)
+          no_first m _ (sym (ap first_of (marks_none t samples k (none_heard is tuned silent k both.0))) ∙ both.1)
 
 -- ---- the laws
 
@@ -226,8 +212,7 @@ pub marks_true : MarksAreTrue
 marks_true width plan samples t n m is tuned set = marks_in (shows_sync is) tuned n m set
 
 pub marks_rate : MarksTellTheRate
-marks_rate width plan samples sync t n m is sends tuned set =
-    rate_in (shows_sync is) tuned sync n m sends set
+marks_rate width plan samples sync t n m is sends tuned set = rate_in (shows_sync is) tuned sync n m sends set
 
 pub unmarked : UnmarkedWithoutSync
 unmarked width plan samples t n is silent tuned = unmarked_in (shows_sync is) tuned n silent

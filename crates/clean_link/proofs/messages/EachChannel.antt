@@ -33,15 +33,12 @@ module _ {width : Width} {plan : CellPlan} {p : TrafficPlan} {t : Tuning} {traff
   legs = first_legs traffic m
 
   abbrev event : ℕ → Event
-  event frame =
-      frame_heard t traffic m legs samples (frame_ends plan p frame) (frame - 4 * superframes)
+  event frame = frame_heard t traffic m legs samples (frame_ends plan p frame) (frame - 4 * superframes)
 
   -- what is heard of one that is in the file, where it has the sent signs
-  event_there : (k : ℕ) (f : SetOneFrame) →
-      is_in_file t.count (one_stream t traffic m) k ≡ true →
+  event_there : (k : ℕ) (f : SetOneFrame) → is_in_file t.count (one_stream t traffic m) k ≡ true →
       cycled_frame (frames_of plan p) (4 * superframes + k) ≡ f ∷ [] →
-      TrafficFrameHasSigns plan p samples (4 * superframes + k) →
-      IsEventOf plan p (4 * superframes + k)
+      TrafficFrameHasSigns plan p samples (4 * superframes + k) → IsEventOf plan p (4 * superframes + k)
       (frame_heard t traffic m legs samples (frame_ends plan p (4 * superframes + k)) k)
   event_there k f there frame has =
       let heard : IsHeardAs plan p t traffic m legs superframes k f =
@@ -64,36 +61,30 @@ module _ {width : Width} {plan : CellPlan} {p : TrafficPlan} {t : Tuning} {traff
       )
 
   -- of one that is received
-  event_of : SendsSetOne p → (frame : ℕ) →
-      is_received plan p (plan.link.start + m.sample) frame ≡ true →
+  event_of : SendsSetOne p → (frame : ℕ) → is_received plan p (plan.link.start + m.sample) frame ≡ true →
       TrafficFrameHasSigns plan p samples frame → IsEventOf plan p frame (event frame)
   event_of some frame received has =
       let k : ℕ = frame - 4 * superframes in
       let (here, there) = inside_at is frame received in
       let (f, sent) = frame_there is some k in
-      subst (λ (n : ℕ). IsEventOf plan p n
-      (frame_heard t traffic m legs samples (frame_ends plan p n) k)) here
+      subst (λ (n : ℕ). IsEventOf plan p n (frame_heard t traffic m legs samples (frame_ends plan p n) k)) here
       (event_there k f there sent (subst (TrafficFrameHasSigns plan p samples) (sym here) has))
 
 -- ---- a handset that follows a channel
 
 module _ {width : Width} {plan : CellPlan} {t : Tuning} (all_samples : List Sample) (at : Option ℕ)
-    (is : IsReceivable width plan) (tuned : IsOnPath plan t)
-    (long : length all_samples ≡ plan.link.samples)
-    (marked : MarkIsAt plan (mark t all_samples t.count) at)
-    (not_directed : All IsNotDirected (events t all_samples))
+    (is : IsReceivable width plan) (tuned : IsOnPath plan t) (long : length all_samples ≡ plan.link.samples)
+    (marked : MarkIsAt plan (mark t all_samples t.count) at) (not_directed : All IsNotDirected (events t all_samples))
     (p : TrafficPlan) (f : FollowsOne plan t.traffic p) where
   -- its frames
   frames_after : (m : Mark) (superframes : ℕ) → mark t all_samples t.count ≡ Some m → at ≡ Some superframes →
-      HearsSentTraffic width plan p t f.traffic m superframes →
-      AreEventsBySigns plan p all_samples superframes
+      HearsSentTraffic width plan p t f.traffic m superframes → AreEventsBySigns plan p all_samples superframes
       (flat_map (frames_at t f.traffic m all_samples) (places (plan.link.samples + 1)))
   frames_after m superframes set told hears =
       let place = hears.marked.place in
       record {
         event = event hears all_samples;
-        each = each_heard hears
-            (first_legs f.traffic m) (first_pilot f.traffic m) all_samples long
+        each = each_heard hears (first_legs f.traffic m) (first_pilot f.traffic m) all_samples long
             (undirected plan t all_samples tuned long not_directed f.traffic m f.follows set)
             ∙ ap (λ (chip : ℕ). map (event hears all_samples) (received_frames plan p chip)) place;
         are = λ frame received.
@@ -112,28 +103,23 @@ module _ {width : Width} {plan : CellPlan} {t : Tuning} (all_samples : List Samp
   -- and its messages
   messages_after : FromMark (TrafficFrameHasSigns plan p all_samples) at → (m : Mark)
       (superframes : ℕ) → mark t all_samples t.count ≡ Some m → at ≡ Some superframes →
-      HearsSentTraffic width plan p t f.traffic m superframes →
-      AreDistinct plan p (98304 * superframes) →
+      HearsSentTraffic width plan p t f.traffic m superframes → AreDistinct plan p (98304 * superframes) →
       flat_map (messages_at t f.traffic m all_samples) (places (plan.link.samples + 1))
       ≡ messages_of_channel plan p (98304 * superframes)
   messages_after signs m superframes set told hears distinct =
       let place = hears.marked.place in
-      messages_heard hears f.one
-      (subst (AreDistinct plan p) (sym place) distinct) (first_legs f.traffic m)
-      (first_pilot f.traffic m) all_samples
-      (signed_traffic hears long (λ k. signs superframes k told))
+      messages_heard hears f.one (subst (AreDistinct plan p) (sym place) distinct) (first_legs f.traffic m)
+      (first_pilot f.traffic m) all_samples (signed_traffic hears long (λ k. signs superframes k told))
       (undirected plan t all_samples tuned long not_directed f.traffic m f.follows set)
       ∙ ap (messages_of_channel plan p) place
 
-  pub messages_each : FromMark (TrafficFrameHasSigns plan p all_samples) at →
-      AreMessagesAfter plan p at
+  pub messages_each : FromMark (TrafficFrameHasSigns plan p all_samples) at → AreMessagesAfter plan p at
       (flat_map (message_events_at t all_samples) (places (plan.link.samples + 1)))
   unfolding message_events_at
   messages_each signs =
       each_after all_samples is tuned marked f (AreMessagesAfter plan p)
       (λ n traffic m. messages_at t traffic m all_samples n)
-      (messages_from_mark t (one_near t plan tuned) t.traffic all_samples) (λ es none. none)
-      (messages_after signs)
+      (messages_from_mark t (one_near t plan tuned) t.traffic all_samples) (λ es none. none) (messages_after signs)
 
 -- ---- all channels
 
@@ -163,8 +149,7 @@ gathered plan t samples long test g apart left =
 module _ {width : Width} {plan : CellPlan} {t : Tuning} (samples : List Sample) {at : Option ℕ}
     (is : IsReceivable width plan) (long : length samples ≡ plan.link.samples)
     (tuned : IsOnPath plan t) (marked : MarkIsAt plan (mark t samples t.count) at) where
-  pages_back : PagesShown plan t samples at →
-      filter is_page (events t samples) ≡ pages_after plan t.paging at plan.sync
+  pages_back : PagesShown plan t samples at → filter is_page (events t samples) ≡ pages_after plan t.paging at plan.sync
   pages_back shown =
       gathered plan t samples long is_page (paging_events_at t samples) refl
       (pages_of_all t samples (places (plan.link.samples + 1)))
@@ -251,10 +236,8 @@ other_kind : (kind : ℕ) → kind ≢ 4 → (e : Event) → IsKind kind e → I
 other_kind kind other (OnTraffic n capsule message) is = absurd (other (sym is))
 other_kind kind other e is = tt
 
-none_of_kind : (kind : ℕ) (es : List Event) → kind ≢ 4 → All (IsKind kind) es →
-    All IsNotDirected es
-none_of_kind kind es other are =
-    All-weaker (IsKind kind) IsNotDirected (other_kind kind other) es are
+none_of_kind : (kind : ℕ) (es : List Event) → kind ≢ 4 → All (IsKind kind) es → All IsNotDirected es
+none_of_kind kind es other are = All-weaker (IsKind kind) IsNotDirected (other_kind kind other) es are
 
 -- ---- all of them
 

@@ -36,19 +36,16 @@ told_kind : (n : ℕ) (told : Option ReadMessage) → All (IsKind 1) (events_of 
 told_kind n None = All-nil (IsKind 1)
 told_kind n (Some told) = All-cons (IsKind 1) _ [] refl (All-nil (IsKind 1))
 
-pub sync_kind : (t : Tuning) (samples : List Sample) (n : ℕ) →
-    All (IsKind 1) (sync_events_at t samples n)
+pub sync_kind : (t : Tuning) (samples : List Sample) (n : ℕ) → All (IsKind 1) (sync_events_at t samples n)
 unfolding sync_events_at
 sync_kind t samples n =
     all_each (IsKind 1) (λ k. events_of n (heard_at t samples k))
     (known_now t.count (sync_stream t) n (sync_bound n)) (λ k. told_kind n (heard_at t samples k))
 
-pub paging_kind : (t : Tuning) (samples : List Sample) (n : ℕ) →
-    All (IsKind 2) (paging_events_at t samples n)
+pub paging_kind : (t : Tuning) (samples : List Sample) (n : ℕ) → All (IsKind 2) (paging_events_at t samples n)
 unfolding paging_events_at
 paging_kind t samples n =
-    All-map (IsKind 2) (page_event n) (pages_if_marked t t.paging (mark t samples n) samples n)
-    (λ k d below. refl)
+    All-map (IsKind 2) (page_event n) (pages_if_marked t t.paging (mark t samples n) samples n) (λ k d below. refl)
 
 after_kind : (kind : ℕ) (heard : Traffic → Mark → List Event) (followed : Option Traffic)
     (m : Option Mark) → ((traffic : Traffic) (m' : Mark) → All (IsKind kind) (heard traffic m')) →
@@ -61,11 +58,9 @@ frames_kind : (t : Tuning) (traffic : Traffic) (m : Mark) (legs : ℕ → List L
     (samples : List Sample) (n : ℕ) → All (IsKind 3) (frames_by t traffic m legs samples n)
 unfolding frames_by
 frames_kind t traffic m legs samples n =
-    All-map (IsKind 3) (frame_heard t traffic m legs samples n) (frames_now t traffic m legs n)
-    (λ k d below. refl)
+    All-map (IsKind 3) (frame_heard t traffic m legs samples n) (frames_now t traffic m legs n) (λ k d below. refl)
 
-pub frame_kind : (t : Tuning) (samples : List Sample) (n : ℕ) →
-    All (IsKind 3) (frame_events_at t samples n)
+pub frame_kind : (t : Tuning) (samples : List Sample) (n : ℕ) → All (IsKind 3) (frame_events_at t samples n)
 unfolding frame_events_at
 frame_kind t samples n =
     after_kind 3 (λ traffic m. frames_at t traffic m samples n) t.traffic (mark t samples n)
@@ -82,23 +77,19 @@ messages_kind t traffic m legs samples n =
     all_each (IsKind 4) (message_heard t traffic m legs samples n) (frames_now t traffic m legs n)
     (λ k. signal_kind n (signaling_message_at t traffic m legs samples k))
 
-message_kind : (t : Tuning) (samples : List Sample) (n : ℕ) →
-    All (IsKind 4) (message_events_at t samples n)
+message_kind : (t : Tuning) (samples : List Sample) (n : ℕ) → All (IsKind 4) (message_events_at t samples n)
 unfolding message_events_at
 message_kind t samples n =
     after_kind 4 (λ traffic m. messages_at t traffic m samples n) t.traffic (mark t samples n)
     (λ traffic m. messages_kind t traffic m (legs_at t traffic m samples n) (take n samples) n)
 
-either_kind : (b : Bool) (es : List Event) → All (IsKind 5) es →
-    All (IsKind 5) (if b then es else [])
+either_kind : (b : Bool) (es : List Event) → All (IsKind 5) es → All (IsKind 5) (if b then es else [])
 either_kind true es is = is
 either_kind false es is = All-nil (IsKind 5)
 
-change_kind : (m : Mark) (j : ℕ) (change : SetChange) (s : Standing) →
-    All (IsKind 5) (moment_events m j change s)
+change_kind : (m : Mark) (j : ℕ) (change : SetChange) (s : Standing) → All (IsKind 5) (moment_events m j change s)
 change_kind m j change s =
-    either_kind (change.changed || change.report) _
-    (All-cons (IsKind 5) _ [] refl (All-nil (IsKind 5)))
+    either_kind (change.changed || change.report) _ (All-cons (IsKind 5) _ [] refl (All-nil (IsKind 5)))
 
 -- What a handset tells of its sets at a number of samples is of kind 5: where a moment lies there
 -- it is at most the event of that moment's change, and elsewhere it is nothing.
@@ -112,8 +103,7 @@ moment_kind t traffic m samples n =
     either_kind (moment_place m (j + 1) == n) _
     (change_kind m (j + 1) (changed m first (j + 1) before) (passed m first (j + 1) before))
 
-pub sets_kind : (t : Tuning) (samples : List Sample) (n : ℕ) →
-    All (IsKind 5) (sets_events_at t samples n)
+pub sets_kind : (t : Tuning) (samples : List Sample) (n : ℕ) → All (IsKind 5) (sets_events_at t samples n)
 unfolding sets_events_at
 sets_kind t samples n =
     after_kind 5 (λ traffic m. sets_at t traffic m samples n) t.traffic (mark t samples n)
@@ -158,8 +148,7 @@ message_passes e = refl
 
 -- what it leaves of five lists
 left_of_five : (test : Event → Bool) (a b c d e a' b' c' d' e' : List Event) →
-    filter test a ≡ a' → filter test b ≡ b' → filter test c ≡ c' → filter test d ≡ d' →
-    filter test e ≡ e' →
+    filter test a ≡ a' → filter test b ≡ b' → filter test c ≡ c' → filter test d ≡ d' → filter test e ≡ e' →
     filter test (a ++ (b ++ (c ++ (d ++ e)))) ≡ a' ++ (b' ++ (c' ++ (d' ++ e')))
 left_of_five test a b c d e a' b' c' d' e' fa fb fc fd fe =
     rw (filter-append, filter-append, filter-append, filter-append, fa, fb, fc, fd, fe) refl
@@ -177,8 +166,7 @@ module _ (t : Tuning) (samples : List Sample) (n : ℕ) where
       let left : (kind : ℕ) (es : List Event) → All (IsKind kind) es →
       filter test es ≡ (if nat_eq kind own then es else []) =
       λ kind es are.
-      left_of test kind (nat_eq kind own) es
-      (λ e same. by e ∙ ap (λ (k : ℕ). nat_eq k own) same) are in
+      left_of test kind (nat_eq kind own) es (λ e same. by e ∙ ap (λ (k : ℕ). nat_eq k own) same) are in
       ap (filter test) (events_at_all t samples n)
       ∙ left_of_five test _ _ _ _ _ _ _ _ _ _ (left 1 _ (sync_kind t samples n))
       (left 2 _ (paging_kind t samples n)) (left 3 _ (frame_kind t samples n))
@@ -195,20 +183,17 @@ left_each test f g (k ∷ ks) each =
     rw (filter-append, here, rest) refl
 
 module _ (t : Tuning) (samples : List Sample) (ks : List ℕ) where
-  pub sync_of_all : filter is_sync (flat_map (events_at t samples) ks)
-      ≡ flat_map (sync_events_at t samples) ks
+  pub sync_of_all : filter is_sync (flat_map (events_at t samples) ks) ≡ flat_map (sync_events_at t samples) ks
   sync_of_all =
       left_each is_sync (events_at t samples) (sync_events_at t samples) ks
       (λ n. left_at t samples n is_sync 1 sync_passes ∙ append-nil (sync_events_at t samples n))
 
-  pub pages_of_all : filter is_page (flat_map (events_at t samples) ks)
-      ≡ flat_map (paging_events_at t samples) ks
+  pub pages_of_all : filter is_page (flat_map (events_at t samples) ks) ≡ flat_map (paging_events_at t samples) ks
   pages_of_all =
       left_each is_page (events_at t samples) (paging_events_at t samples) ks
       (λ n. left_at t samples n is_page 2 page_passes ∙ append-nil (paging_events_at t samples n))
 
-  pub frames_of_all : filter is_frame (flat_map (events_at t samples) ks)
-      ≡ flat_map (frame_events_at t samples) ks
+  pub frames_of_all : filter is_frame (flat_map (events_at t samples) ks) ≡ flat_map (frame_events_at t samples) ks
   frames_of_all =
       left_each is_frame (events_at t samples) (frame_events_at t samples) ks
       (λ n. left_at t samples n is_frame 3 frame_passes ∙ append-nil (frame_events_at t samples n))

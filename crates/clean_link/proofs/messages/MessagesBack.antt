@@ -23,8 +23,7 @@ kept_here : (n : ℕ) (es : List Event) → AreAt n es → filter (is_at n) es �
 kept_here n [] here = refl
 kept_here n (e ∷ es) here =
     let same : is_at n e ≡ true = eq-eqb (at_of e) n (All-head (IsAt n) e es here) in
-    rw same
-    (ap (λ (xs : List Event). e ∷ xs) (kept_here n es (All-tail (IsAt n) e es here)))
+    rw same (ap (λ (xs : List Event). e ∷ xs) (kept_here n es (All-tail (IsAt n) e es here)))
 
 left_out : (n k : ℕ) (es : List Event) → ¬ (k ≡ n) → AreAt k es → filter (is_at n) es ≡ []
 left_out n k [] other there = refl
@@ -86,10 +85,8 @@ unrated t channel m samples n off =
 
 -- what is sent after a mark, and where none is set
 after_is : (plan : CellPlan) (channel : ℕ) (sync : SyncPlan) (at : Option ℕ) (superframes : ℕ)
-    (rated : Bool) → plan.sync ≡ Some sync → at ≡ Some superframes →
-    nat_lt sync.message.prat 2 ≡ rated →
-    pages_after plan channel at plan.sync
-    ≡ (if rated then pages_after_mark plan channel (Some superframes) else [])
+    (rated : Bool) → plan.sync ≡ Some sync → at ≡ Some superframes → nat_lt sync.message.prat 2 ≡ rated →
+    pages_after plan channel at plan.sync ≡ (if rated then pages_after_mark plan channel (Some superframes) else [])
 after_is plan channel sync at superframes rated sends told rated_is =
     ap (pages_after plan channel at) sends
     ∙ ap (λ (o : Option ℕ). pages_after plan channel o (Some sync)) told
@@ -124,33 +121,27 @@ module _ {plan : CellPlan} {t : Tuning} (samples : List Sample) {at : Option ℕ
   by_last_mark =
       let last = mark t samples t.count in
       let count = tuned.count in
-      flat_map_ext_places
-      (λ n. map (page_event n) (pages_if_marked t t.paging (mark t samples n) samples n))
-      (λ n. map known_event (map (known_page n) (pages_if_marked t t.paging last samples n)))
-      (plan.link.samples + 1)
+      flat_map_ext_places (λ n. map (page_event n) (pages_if_marked t t.paging (mark t samples n) samples n))
+      (λ n. map known_event (map (known_page n) (pages_if_marked t t.paging last samples n))) (plan.link.samples + 1)
       (λ n below.
       ap (map (page_event n))
-      (by_one_mark t (one_near t plan tuned) samples n t.count n _
-      (omega (arith, below, count)) (omega arith)
+      (by_one_mark t (one_near t plan tuned) samples n t.count n _ (omega (arith, below, count)) (omega arith)
       (pages_from_mark t (one_near t plan tuned) t.paging samples n))
       ∙ sym (map-map known_event (known_page n) (pages_if_marked t t.paging last samples n)))
       ∙ sym (map-flat_map known_event (λ n. map (known_page n) (pages_if_marked t t.paging last samples n))
       (places (plan.link.samples + 1)))
 
   pages_by : (last : Option Mark) → MarkIsAt plan last at →
-      map known_event (pages_within t t.paging last samples plan.link.samples)
-      ≡ pages_after plan t.paging at plan.sync
+      map known_event (pages_within t t.paging last samples plan.link.samples) ≡ pages_after plan t.paging at plan.sync
   pages_by None none =
       ap (map known_event) (none_known (places (plan.link.samples + 1)))
       ∙ sym (none_after plan t.paging at plan.sync none)
   pages_by (Some m) (superframes, told, cell) =
-      let rated : nat_lt cell.sync.message.prat 2 ≡ nat_lt m.prat 2 =
-      ap (λ (n : ℕ). nat_lt n 2) (sym cell.rate) in
+      let rated : nat_lt cell.sync.message.prat 2 ≡ nat_lt m.prat 2 = ap (λ (n : ℕ). nat_lt n 2) (sym cell.rate) in
       elim (cases_Bool (nat_lt m.prat 2)) [
         | inl on ↦
             let low = ltb-true m.prat 2 on in
-            ap (map known_event)
-            (shown m superframes told cell low ∙ ap (pages_sent plan t.paging) cell.marked.place)
+            ap (map known_event) (shown m superframes told cell low ∙ ap (pages_sent plan t.paging) cell.marked.place)
             ∙ sym (after_is plan t.paging cell.sync at superframes true cell.sends told (rated ∙ on))
         | inr off ↦
             ap (map known_event) (unrated t t.paging m samples plan.link.samples off)
@@ -159,8 +150,7 @@ module _ {plan : CellPlan} {t : Tuning} (samples : List Sample) {at : Option ℕ
 
   -- its events are the whole pages
   pub pages_shown : MarkIsAt plan (mark t samples t.count) at →
-      flat_map (paging_events_at t samples) (places (plan.link.samples + 1))
-      ≡ pages_after plan t.paging at plan.sync
+      flat_map (paging_events_at t samples) (places (plan.link.samples + 1)) ≡ pages_after plan t.paging at plan.sync
   pages_shown marked = by_last_mark ∙ pages_by (mark t samples t.count) marked
 
 -- of a clean link
@@ -170,10 +160,8 @@ clean_pages width plan t at is tuned m superframes told cell low =
     pages_back width plan cell.sync t t.paging m superframes is is.pages tuned.path tuned.first_channel
     tuned.last_channel tuned.free cell.sends cell.rate low cell.marked
 
-pages_all : (width : Width) (plan : CellPlan) (t : Tuning) → IsReceivable width plan →
-    IsTunedToPlan plan t →
-    flat_map (paging_events_at t (made_samples plan)) (places (plan.link.samples + 1))
-    ≡ paging_sent plan t.paging
+pages_all : (width : Width) (plan : CellPlan) (t : Tuning) → IsReceivable width plan → IsTunedToPlan plan t →
+    flat_map (paging_events_at t (made_samples plan)) (places (plan.link.samples + 1)) ≡ paging_sent plan t.paging
 unfolding paging_sent
 pages_all width plan t is tuned =
     pages_shown (made_samples plan) tuned.path (clean_pages width plan t _ is tuned)
@@ -196,8 +184,7 @@ signed_pages_shown {width} {plan} samples {t} q is tuned has numbered signs m su
 -- ---- the pilot sets
 
 -- a handset on the path is tuned so
-pub tuned_is : (plan : CellPlan) (t : Tuning) → IsOnPath plan t →
-    t ≡ tuning_to plan t.energy t.paging t.traffic
+pub tuned_is : (plan : CellPlan) (t : Tuning) → IsOnPath plan t → t ≡ tuning_to plan t.energy t.paging t.traffic
 tuned_is plan t tuned =
     let of : ℕ → ℕ → List ℤ → CheckForm → CheckForm → Tuning = λ count phase deltas thirty sixteen.
     record {
@@ -267,14 +254,12 @@ module _ (plan : CellPlan) (t : Tuning) (samples : List Sample)
   all_events long tuned =
       let heard : ℕ → List Event = λ n. flat_map (events_at t samples) (places (n + 1)) in
       ap (λ (phase : ℕ). Pilot phase t.energy ∷ heard (length samples)) tuned.phase
-      ∙ ap (λ (es : List Event). Pilot (phase_at plan plan.link.start) t.energy ∷ es)
-      (ap heard long ∙ all_back)
+      ∙ ap (λ (es : List Event). Pilot (phase_at plan plan.link.start) t.energy ∷ es) (ap heard long ∙ all_back)
 
 pub messages_back : WholeMessagesComeBack
 messages_back width plan t is tuned follows not_directed =
     all_events plan t (made_samples plan) (sendings_in (clean_sync width plan is) tuned.path)
-    (pages_all width plan t is tuned)
-    (frames_all width plan t is tuned.path not_directed follows)
+    (pages_all width plan t is tuned) (frames_all width plan t is tuned.path not_directed follows)
     (messages_all width plan t is tuned.path not_directed follows) (sets_all plan t tuned.path)
     (length-made plan) tuned.path
 

@@ -38,8 +38,7 @@ pieces_from t samples bits k alone there back =
     ∙ ap (run (λ j. piece (bits j)) 0) (let e : k + 1 ≡ suc k = omega arith in e)
 
 -- ---- what is heard without a sync channel
-capsule_is : (t : Tuning) (samples : List Sample) (k : ℕ) →
-    heard_at t samples k ≡
+capsule_is : (t : Tuning) (samples : List Sample) (k : ℕ) → heard_at t samples k ≡
     heard_in t.check30 (capsule_ending (map piece (frames_before t samples (k + 1))))
 unfolding heard_at sync_capsule_at
 capsule_is t samples k = refl
@@ -79,8 +78,7 @@ frame_early width plan t k lawful tuned there =
     omega (arith, begins, ends, tuned.count, lawful.samples, few_samples width, lawful.start)
 
 -- a transmission has a lesser number than its frames
-sending_early : (plan : CellPlan) (m : SyncFields) (base k q w : ℕ) → IsSentAt plan m base k q w →
-    q ≤ base + k
+sending_early : (plan : CellPlan) (m : SyncFields) (base k q w : ℕ) → IsSentAt plan m base k q w → q ≤ base + k
 sending_early plan m base k q w is =
     let some : 1 ≤ sending_frames plan m = omega (arith, length-sync plan.cell.check30 m) in
     let more : q * 1 ≤ q * sending_frames plan m = mul-le-mul_left q some in
@@ -106,8 +104,7 @@ module _ {width : Width} {plan : CellPlan} {samples : List Sample} {t : Tuning}
   pub none_heard : plan.sync ≡ None → (k : ℕ) → in_file t k ≡ true → heard_at t samples k ≡ None
   none_heard silent k there =
       let pieces =
-      pieces_from t samples (λ j. replicate 32 false) k tuned.alone there
-      (λ j here. is.none t j silent tuned here) in
+      pieces_from t samples (λ j. replicate 32 false) k tuned.alone there (λ j here. is.none t j silent tuned here) in
       capsule_is t samples k
       ∙ ap (heard_in t.check30) (ap capsule_ending pieces ∙
       none_ends (run (λ j. piece (replicate 32 false)) 0 (suc k))
@@ -136,8 +133,7 @@ module _ {width : Width} {plan : CellPlan} {samples : List Sample} {t : Tuning}
         let sent = sending_early plan m (first_sync_frame plan) k q w place in
         let early : q < 2 ^ 20 = omega (arith, begun, sent) in
         capsule_is t samples k
-        ∙ ap (λ form. heard_in form
-        (capsule_ending (map piece (frames_before t samples (k + 1))))) tuned.checks_of_30
+        ∙ ap (λ form. heard_in form (capsule_ending (map piece (frames_before t samples (k + 1))))) tuned.checks_of_30
         ∙ ap (heard_in plan.cell.check30) (ap capsule_ending (heard_pieces k there) ∙
         pieces_end plan m (first_sync_frame plan) k q w sendable.message.fills place)
         ∙ ap (λ b. heard_in plan.cell.check30
@@ -159,8 +155,7 @@ ends_there plan m k w is begun =
     let size = length (sync_capsule plan.cell.check30 m) in
     let long = length-sync plan.cell.check30 m in
     and_from (nat_le w k && nat_lt (31 * w) size) (nat_le size (31 * (w + 1)))
-    (and_from (nat_le w k) (nat_lt (31 * w) size) (le-leb w k begun)
-    (lt-ltb (31 * w) size (omega (arith, is, long))))
+    (and_from (nat_le w k) (nat_lt (31 * w) size) (le-leb w k begun) (lt-ltb (31 * w) size (omega (arith, is, long))))
     (le-leb size (31 * (w + 1)) (omega (arith, is, long)))
 
 -- what a frame that ends a transmission tells
@@ -171,8 +166,7 @@ pub record Ends (plan : CellPlan) (m : SyncFields) (k w : ℕ) : Type 0 where
 -- A frame that ends a transmission is its last one, and the file has its first one too. The test
 -- asks that the capsule goes on after the 31 bits of each earlier frame and is whole with this
 -- frame's, which only the frame with the capsule's last bit does.
-pub ends_tells : (plan : CellPlan) (m : SyncFields) (k w : ℕ) → ends_sending plan m k w ≡ true →
-    Ends plan m k w
+pub ends_tells : (plan : CellPlan) (m : SyncFields) (k w : ℕ) → ends_sending plan m k w ≡ true → Ends plan m k w
 ends_tells plan m k w h =
     let size = length (sync_capsule plan.cell.check30 m) in
     let both = and_parts (nat_le w k && nat_lt (31 * w) size) (nat_le size (31 * (w + 1))) h in
@@ -218,8 +212,7 @@ whole_from width plan m t k q lawful tuned is begun there =
     (nat_le (sending_ends plan m q) (plan.link.start + plan.link.samples))
     (le-leb plan.link.start (sending_begins plan m q)
     ((begins_inside width plan m t q lawful tuned).0 (omega (arith, is.parts, begun))))
-    (le-leb (sending_ends plan m q) (plan.link.start + plan.link.samples)
-    (omega (arith, ends, fits, tuned.count)))
+    (le-leb (sending_ends plan m q) (plan.link.start + plan.link.samples) (omega (arith, ends, fits, tuned.count)))
 
 -- a whole transmission's last frame
 pub record IsInside (plan : CellPlan) (m : SyncFields) (t : Tuning) (k q : ℕ) : Type 0 where
@@ -239,8 +232,7 @@ whole_to width plan m t q lawful tuned whole =
     and_parts (nat_le plan.link.start (sending_begins plan m q))
     (nat_le (sending_ends plan m q) (plan.link.start + plan.link.samples)) whole in
     let early =
-    (begins_inside width plan m t q lawful tuned).1
-    (leb-true plan.link.start (sending_begins plan m q) both.0) in
+    (begins_inside width plan m t q lawful tuned).1 (leb-true plan.link.start (sending_begins plan m q) both.0) in
     let inside = leb-true (sending_ends plan m q) (plan.link.start + plan.link.samples) both.1 in
     let k = q * sending_frames plan m + last_frame plan m - first_sync_frame plan in
     let is : IsLast plan m k q = record {
@@ -277,8 +269,7 @@ module _ {X : Type 0} (give : ℕ → List X) (plan : CellPlan) (t : Tuning) whe
   tells_early : (j : ℕ) → j < first_sync_frame plan → tells give plan t j ≡ []
   tells_early j early = let e = lt-leb (first_sync_frame plan) j early in rw e refl
 
-  tells_moved : (k : ℕ) →
-      tells give plan t (first_sync_frame plan + k) ≡ given_where (in_file t) give k
+  tells_moved : (k : ℕ) → tells give plan t (first_sync_frame plan + k) ≡ given_where (in_file t) give k
   tells_moved k =
       let e = le-leb (first_sync_frame plan) (first_sync_frame plan + k) (omega arith) in
       let same : first_sync_frame plan + k - first_sync_frame plan ≡ k = omega arith in
@@ -297,12 +288,10 @@ module _ {X : Type 0} (give : ℕ → List X) (plan : CellPlan) (t : Tuning) whe
       (λ (yes' : (begun && there) ≡ true).
       let both = and_parts begun there yes' in
       rw yes' (none (leb-true (first_sync_frame plan) j both.0) both.1))
-      (λ (no' : (begun && there) ≡ false). rw no' refl)
-      (cases_Bool (begun && there))
+      (λ (no' : (begun && there) ≡ false). rw no' refl) (cases_Bool (begun && there))
 
   -- the file ends before this frame
-  tells_late : (i : ℕ) → IsOnPath plan t →
-      tells give plan t (first_sync_frame plan + sync_bound t.count + i) ≡ []
+  tells_late : (i : ℕ) → IsOnPath plan t → tells give plan t (first_sync_frame plan + sync_bound t.count + i) ≡ []
   tells_late i tuned =
       tells_if (first_sync_frame plan + sync_bound t.count + i)
       (λ early there. absurd
@@ -346,8 +335,7 @@ module _ {width : Width} {plan : CellPlan} {t : Tuning} (lawful : IsLawfulPlan w
       (λ (whole : is_whole plan m q ≡ true).
       let (early, inside) = whole_to width plan m t q lawful tuned whole in
       let e = le-leb (first_sync_frame plan) j (omega (arith, early)) in
-      ap (λ b. cond b (give k) [])
-      (and_from (nat_le (first_sync_frame plan) j) (in_file t k) e inside.there)
+      ap (λ b. cond b (give k) []) (and_from (nat_le (first_sync_frame plan) j) (in_file t k) e inside.there)
       ∙ one k q inside ∙ sym (ap (λ b. cond b (sent q ∷ []) []) whole))
       (λ (part : is_whole plan m q ≡ false). tells_if give plan t j
       (λ early there.
@@ -357,8 +345,7 @@ module _ {width : Width} {plan : CellPlan} {t : Tuning} (lawful : IsLawfulPlan w
       false_from_ne_true (ends_sending plan m k (last_frame plan m))
       (λ h.
       let whole =
-      whole_from width plan m t k q lawful tuned place
-      (ends_tells plan m k (last_frame plan m) h).begun there in
+      whole_from width plan m t k q lawful tuned place (ends_tells plan m k (last_frame plan m) h).begun there in
       cc) in
       none k q (last_frame plan m) there place over)
       ∙ sym (ap (λ b. cond b (sent q ∷ []) []) part))
@@ -413,16 +400,13 @@ module _ {width : Width} {plan : CellPlan} {samples : List Sample} {t : Tuning}
       known_is t k tuned.alone ∙ ap (λ n. heard_after 32768 n (end_of_frame t k)) tuned.count ∙
       ap (heard_after 32768 plan.link.samples) ends in
       ap (events_of (known t k)) heard
-      ∙ ap (λ (n : ℕ). let e : Event = Sync n
-      (sync_capsule plan.cell.check30 (message_of plan.cell m q))
+      ∙ ap (λ (n : ℕ). let e : Event = Sync n (sync_capsule plan.cell.check30 (message_of plan.cell m q))
       (message_of plan.cell m q) in e ∷ []) when
 
   by_frames : (channel : Option SyncPlan) → plan.sync ≡ channel →
-      flat_map (frame_events t samples) (filter (in_file t) (frames_of t)) ≡
-      events_of_channel plan channel
+      flat_map (frame_events t samples) (filter (in_file t) (frames_of t)) ≡ events_of_channel plan channel
   by_frames None silent =
-      none_give t (frame_events t samples)
-      (λ k there. ap (events_of (known t k)) (none_heard is tuned silent k there))
+      none_give t (frame_events t samples) (λ k there. ap (events_of (known t k)) (none_heard is tuned silent k there))
   by_frames (Some sync) sends =
       whole_give is.receivable.lawful tuned sync.message (frame_events t samples) (sending_event plan sync.message)
       (λ k q w there place over.

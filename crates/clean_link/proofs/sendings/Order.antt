@@ -23,8 +23,7 @@ pub record IsRising (P : ℕ → Bool) (key : ℕ → ℕ) : Type 0 where
 places-next : (n : ℕ) → places (suc n) ≡ places n ++ n ∷ []
 places-next n = let e : n + 1 ≡ suc n = omega arith in rw e at (places-more n)
 
-filter_push : (f : ℕ → Bool) (n : ℕ) →
-    filter f (places (suc n)) ≡ filter f (places n) ++ cond (f n) (n ∷ []) []
+filter_push : (f : ℕ → Bool) (n : ℕ) → filter f (places (suc n)) ≡ filter f (places n) ++ cond (f n) (n ∷ []) []
 filter_push f n = ap (filter f) (places-next n) ∙ filter-append f (places n) (n ∷ [])
 
 filter_zero : (f : ℕ → Bool) → filter f (places 0) ≡ []
@@ -48,8 +47,7 @@ ends_less a y = simp append-nil refl
 -- Numbers with a key of at most n are those with a lesser one, followed by those whose key is n. By
 -- induction over the bound: keys never fall, so where the last number's key is below n no earlier
 -- one has the key n, and it is put after the lesser ones alone.
-split_key : (P : ℕ → Bool) (key : ℕ → ℕ) (n b : ℕ) → IsRising P key →
-    filter (below_key P key (suc n)) (places b) ≡
+split_key : (P : ℕ → Bool) (key : ℕ → ℕ) (n b : ℕ) → IsRising P key → filter (below_key P key (suc n)) (places b) ≡
     filter (below_key P key n) (places b) ++ filter (at_key P key n) (places b)
 split_key P key n zero rising =
     rw (filter_zero (below_key P key (suc n)), filter_zero (below_key P key n), filter_zero (at_key P key n)) refl
@@ -89,18 +87,15 @@ split_key P key n (suc b) rising =
     let v = le-ltb (key b) n (omega (arith, over)) in
     let w = ne_eqb (key b) n (λ e. omega (arith, over, e)) in
     rw (there, u)
-    (sym (rw (filter_push (below_key P key n) b, filter_push (at_key P key n) b, there, v, w)
-    (ends_none a c))))
+    (sym (rw (filter_push (below_key P key n) b, filter_push (at_key P key n) b, there, v, w) (ends_none a c))))
     o)
     (cases_order (key b) n))
     (λ (gone : P b ≡ false). rw gone
-    (sym (rw (filter_push (below_key P key n) b, filter_push (at_key P key n) b, gone)
-    (ends_none a c))))
+    (sym (rw (filter_push (below_key P key n) b, filter_push (at_key P key n) b, gone) (ends_none a c))))
     (cases_Bool (P b))
 
 -- all events, number by number
-pub in_order : {X : Type 0} (P : ℕ → Bool) (key : ℕ → ℕ) (g : ℕ → List X) (b n : ℕ) →
-    IsRising P key →
+pub in_order : {X : Type 0} (P : ℕ → Bool) (key : ℕ → ℕ) (g : ℕ → List X) (b n : ℕ) → IsRising P key →
     flat_map (λ m. flat_map g (filter (at_key P key m) (places b))) (places n) ≡
     flat_map g (filter (below_key P key n) (places b))
 in_order P key g b zero rising =
@@ -112,8 +107,7 @@ in_order {X} P key g b (suc n) rising =
     let each = λ (m : ℕ). flat_map g (filter (at_key P key m) (places b)) in
     flat_map-next each n
     ∙ ap (λ (l : List X). l ++ each n) (in_order P key g b n rising)
-    ∙ sym (flat_map-append g (filter (below_key P key n) (places b))
-    (filter (at_key P key n) (places b)))
+    ∙ sym (flat_map-append g (filter (below_key P key n) (places b)) (filter (at_key P key n) (places b)))
     ∙ ap (flat_map g) (sym (split_key P key n b rising))
 
 -- ---- by blocks
@@ -126,9 +120,7 @@ pub flat_map-filter : {X : Type 0} (P : ℕ → Bool) (g : ℕ → List X) (ks :
 flat_map-filter P g [] = refl
 flat_map-filter {X} P g (k ∷ ks) =
     let rest = flat_map-filter P g ks in
-    ⊎_elim
-    (λ (e : P k ≡ true). rw e (ap (λ (l : List X). g k ++ l) rest))
-    (λ (e : P k ≡ false). rw e rest)
+    ⊎_elim (λ (e : P k ≡ true). rw e (ap (λ (l : List X). g k ++ l) rest)) (λ (e : P k ≡ false). rw e rest)
     (cases_Bool (P k))
 
 -- a list of one thing for each
@@ -166,8 +158,7 @@ moved_up {X} g h a (suc b) none same =
 
 -- blocks of f numbers, of which only number e gives anything
 pub blocks : {X : Type 0} (g h : ℕ → List X) (f e n : ℕ) → e < f → ((q : ℕ) → g (q * f + e) ≡ h q) →
-    ((q w : ℕ) → w < f → w ≢ e → g (q * f + w) ≡ []) →
-    flat_map g (places (n * f)) ≡ flat_map h (places n)
+    ((q w : ℕ) → w < f → w ≢ e → g (q * f + w) ≡ []) → flat_map g (places (n * f)) ≡ flat_map h (places n)
 blocks g h f e zero low here none =
     let z : zero * f ≡ 0 = omega arith in
     rw z (flat_map-zero g ∙ sym (flat_map-zero h))
@@ -212,15 +203,13 @@ module _ {count low : ℕ} (s : Stream) (timed : IsTimed count s low) (bound : �
       (parts.0, eqb-true (known_at count s k) n parts.1)
 
   -- what the frames give that are known at n, over the frames of the whole file
-  given_now : {X : Type 0} (f : ℕ → ℕ → List X) (n : ℕ) →
-      flat_map (f n) (known_now count s n (bound n))
+  given_now : {X : Type 0} (f : ℕ → ℕ → List X) (n : ℕ) → flat_map (f n) (known_now count s n (bound n))
       ≡ flat_map (λ k. f (known_at count s k) k)
       (filter (at_key (is_in_file count s) (known_at count s) n) (places (bound count)))
   given_now {X} f n =
       let now = at_key (is_in_file count s) (known_at count s) n in
       let g : ℕ → List X = λ k. f (known_at count s k) k in
-      flat_map_ext_filter now (f n) g (places (bound n))
-      (λ k h. ap (λ (i : ℕ). f i k) (sym (now_is n k h).1))
+      flat_map_ext_filter now (f n) g (places (bound n)) (λ k h. ap (λ (i : ℕ). f i k) (sym (now_is n k h).1))
       ∙ ap (flat_map g)
       (filter_enough now (bound n) (bound count)
       (λ k past. false_from_ne_true (now k)
@@ -236,35 +225,29 @@ module _ {count low : ℕ} (s : Stream) (timed : IsTimed count s low) (bound : �
 
   -- later frames are known no sooner, and all of them by the file's end
   rising : IsRising (is_in_file count s) (known_at count s)
-  rising =
-      record { rises = λ i j less there there'. known_le s timed i j there there' (omega arith) }
+  rising = record { rises = λ i j less there there'. known_le s timed i j there there' (omega arith) }
 
-  all_known : (k : ℕ) →
-      below_key (is_in_file count s) (known_at count s) (count + 1) k ≡ is_in_file count s k
+  all_known : (k : ℕ) → below_key (is_in_file count s) (known_at count s) (count + 1) k ≡ is_in_file count s k
   all_known k = ⊎_elim
       (λ (there : is_in_file count s k ≡ true).
       let between = known_between s timed k there in
       let below = lt-ltb (known_at count s k) (count + 1) (omega (arith, between.most)) in
       rw (there, below) refl)
-      (λ (gone : is_in_file count s k ≡ false). rw gone refl)
-      (cases_Bool (is_in_file count s k))
+      (λ (gone : is_in_file count s k ≡ false). rw gone refl) (cases_Bool (is_in_file count s k))
 
   -- what the frames in the file give, number of samples by number of samples
   pub given_in_order : {X : Type 0} (f : ℕ → ℕ → List X) →
       flat_map (λ n. flat_map (f n) (known_now count s n (bound n))) (places (count + 1))
-      ≡ flat_map (λ k. f (known_at count s k) k)
-      (filter (is_in_file count s) (places (bound count)))
+      ≡ flat_map (λ k. f (known_at count s k) k) (filter (is_in_file count s) (places (bound count)))
   given_in_order {X} f =
       let g : ℕ → List X = λ k. f (known_at count s k) k in
       let inside = is_in_file count s in
       let known = known_at count s in
       flat_map_ext_places (λ n. flat_map (f n) (known_now count s n (bound n)))
-      (λ n. flat_map g (filter (at_key inside known n) (places (bound count)))) (count + 1)
-      (λ n below. given_now f n)
+      (λ n. flat_map g (filter (at_key inside known n) (places (bound count)))) (count + 1) (λ n below. given_now f n)
       ∙ in_order inside known g (bound count) (count + 1) rising
       ∙ ap (flat_map g)
-      (filter_ext_places (below_key inside known (count + 1)) inside (bound count)
-      (λ k below. all_known k))
+      (filter_ext_places (below_key inside known (count + 1)) inside (bound count) (λ k below. all_known k))
 
   -- and those frames are the first so many
   pub frames_first : (frames : ℕ) → HasFrames count s frames →
@@ -295,8 +278,7 @@ frames_of t = places (sync_bound t.count)
 sync_enough : (t : Tuning) → IsBound (sync_stream t) sync_bound
 sync_enough t n k ends = omega (arith, ends)
 
-pub events_by_frames : {low : ℕ} (t : Tuning) → IsTimed t.count (sync_stream t) low →
-    (samples : List Sample) →
+pub events_by_frames : {low : ℕ} (t : Tuning) → IsTimed t.count (sync_stream t) low → (samples : List Sample) →
     flat_map (sync_events_at t samples) (places (t.count + 1)) ≡
     flat_map (frame_events t samples) (filter (in_file t) (frames_of t))
 unfolding sync_events_at
@@ -305,10 +287,8 @@ events_by_frames t timed samples =
 
 -- ---- the mark
 -- the mark of all samples is the first of the frames' marks
-pub mark_of_all : {low : ℕ} (t : Tuning) → IsTimed t.count (sync_stream t) low →
-    (samples : List Sample) →
-    mark t samples t.count ≡
-    first_of (flat_map (marks_at t samples) (filter (in_file t) (frames_of t)))
+pub mark_of_all : {low : ℕ} (t : Tuning) → IsTimed t.count (sync_stream t) low → (samples : List Sample) →
+    mark t samples t.count ≡ first_of (flat_map (marks_at t samples) (filter (in_file t) (frames_of t)))
 unfolding mark_before
 mark_of_all t timed samples =
     mark_is t timed samples t.count (sync_bound t.count)
@@ -325,15 +305,13 @@ first_of_two R [] ys x h one other = other h
 first_of_two R (y ∷ xs) ys x h one other = one h
 
 pub first_among : {A : Type 0} (P : ℕ → Bool) (f : ℕ → List A) (ks : List ℕ) (x : A) →
-    first_of (flat_map f (filter P ks)) ≡ Some x →
-    (k : ℕ) × ((P k ≡ true) × (first_of (f k) ≡ Some x))
+    first_of (flat_map f (filter P ks)) ≡ Some x → (k : ℕ) × ((P k ≡ true) × (first_of (f k) ≡ Some x))
 first_among P f [] x h = absurd (cc)
 first_among P f (k ∷ ks) x h =
     ⊎_elim
     (λ (there : P k ≡ true). first_of_two _ (f k) (flat_map f (filter P ks)) x (rw there at h)
     (λ e. (k, (there, e))) (λ e. first_among P f ks x e))
-    (λ (gone : P k ≡ false). first_among P f ks x (rw gone at h))
-    (cases_Bool (P k))
+    (λ (gone : P k ≡ false). first_among P f ks x (rw gone at h)) (cases_Bool (P k))
 
 -- there is a first just where there is one at all
 pub first_there : {A : Type 0} (xs : List A) → is_some (first_of xs) ≡ nat_lt 0 (length xs)

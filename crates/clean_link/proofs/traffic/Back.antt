@@ -15,8 +15,7 @@ use Rattle.clean_link.proofs.traffic.Frames.{sent_frames_back, sent_messages_bac
 use Rattle.clean_link.proofs.traffic.Signs.{clean_sent}
 use Rattle.clean_link.proofs.sendings.Heard.{none_known}
 
-pub one_near : (t : Tuning) (plan : CellPlan) → IsOnPath plan t →
-    AreNear (sync_stream t).fingers
+pub one_near : (t : Tuning) (plan : CellPlan) → IsOnPath plan t → AreNear (sync_stream t).fingers
 one_near t plan tuned = rw tuned.alone refl
 
 -- ---- the channel on a row
@@ -31,16 +30,14 @@ row_at told (q ∷ traffic) p row zero own below is on =
     rw here (ap told is)
 row_at told (q ∷ traffic) p row (suc i) own below is on =
     let there : Contains traffic p = (i, omega (arith, below), is) in
-    let apart : p.row ≢ q.row =
-    All-contains (λ (u : TrafficPlan). u.row ≢ q.row) traffic p own.0 there in
+    let apart : p.row ≢ q.row = All-contains (λ (u : TrafficPlan). u.row ≢ q.row) traffic p own.0 there in
     let other = ne_eqb q.row row (λ e. apart (on ∙ sym e)) in
     rw other (row_at told traffic p row i own.1 (omega (arith, below)) is on)
 
 on_row : (width : Width) (plan : CellPlan) (p : TrafficPlan) (row : ℕ)
     (told : TrafficPlan → List Event) → IsReceivable width plan → Contains plan.traffic p →
     p.row ≡ row → told_on_row told plan.traffic row ≡ told p
-on_row width plan p row told is has on =
-    row_at told plan.traffic p row has.0 is.lawful.traffic.apart has.1 has.2 on
+on_row width plan p row told is has on = row_at told plan.traffic p row has.0 is.lawful.traffic.apart has.1 has.2 on
 
 -- ---- after the mark
 
@@ -63,10 +60,8 @@ told_there {width} {plan} {p} {traffic = traffic} {superframes = superframes} to
 module _ {width : Width} {plan : CellPlan} {t : Tuning} {samples : List Sample}
     (is : ShowsSync width plan samples) (tuned : IsOnPath plan t) where
   -- the superframes of the mark are those that the first whole transmission tells
-  told_so : (sync : SyncPlan) (m : Mark) → plan.sync ≡ Some sync →
-      mark t samples t.count ≡ Some m → (superframes : ℕ) →
-      m.time ≡ plan.cell.time + superframes →
-      told_with_sync plan (Some sync) ≡ Some superframes
+  told_so : (sync : SyncPlan) (m : Mark) → plan.sync ≡ Some sync → mark t samples t.count ≡ Some m → (superframes : ℕ) →
+      m.time ≡ plan.cell.time + superframes → told_with_sync plan (Some sync) ≡ Some superframes
   told_so sync m sends set superframes time =
       let first = first_in is tuned sync sends m set in
       let first_time = ap (λ (x : Mark). x.time) (sym first.same) in
@@ -78,12 +73,10 @@ module _ {width : Width} {plan : CellPlan} {t : Tuning} {samples : List Sample}
   pub untold_in : (channel : Option SyncPlan) → plan.sync ≡ channel →
       mark t samples t.count ≡ None → told_with_sync plan channel ≡ None
   untold_in None silent unset = refl
-  untold_in (Some sync) sends unset =
-      ap (told_by_first plan sync.message) (unset_in is tuned sync sends unset)
+  untold_in (Some sync) sends unset = ap (told_by_first plan sync.message) (unset_in is tuned sync sends unset)
 
   -- so the mark is the one that it tells
-  pub mark_told : (set : Option Mark) → mark t samples t.count ≡ set →
-      MarkIsAt plan set (told_with_sync plan plan.sync)
+  pub mark_told : (set : Option Mark) → mark t samples t.count ≡ set → MarkIsAt plan set (told_with_sync plan plan.sync)
   mark_told None unset = untold_in plan.sync refl unset
   mark_told (Some m) set = by_channel plan.sync refl
     where
@@ -95,12 +88,7 @@ module _ {width : Width} {plan : CellPlan} {t : Tuning} {samples : List Sample}
           let (superframes, marked) = marks_in is tuned t.count m set in (
             superframes,
             ap (told_with_sync plan) sends ∙ told_so sync m sends set superframes marked.time,
-            record {
-              marked = marked;
-              sync = sync;
-              sends = sends;
-              rate = rate_in is tuned sync t.count m sends set;
-            },
+            record { marked = marked; sync = sync; sends = sends; rate = rate_in is tuned sync t.count m sends set },
           )
 
 -- What is heard of a channel that is followed comes back where the mark of all samples tells it: nothing
@@ -108,8 +96,7 @@ module _ {width : Width} {plan : CellPlan} {t : Tuning} {samples : List Sample}
 pub each_after : {width : Width} {plan : CellPlan} {t : Tuning} (samples : List Sample) {at : Option ℕ} →
     IsReceivable width plan → IsOnPath plan t → MarkIsAt plan (mark t samples t.count) at →
     {p : TrafficPlan} (f : FollowsOne plan t.traffic p) (Are : Option ℕ → List Event → Type 0)
-    (heard : ℕ → Traffic → Mark → List Event) →
-    ((n : ℕ) → OpensAfter n (if_followed (heard n) t.traffic)) →
+    (heard : ℕ → Traffic → Mark → List Event) → ((n : ℕ) → OpensAfter n (if_followed (heard n) t.traffic)) →
     ((es : List Event) → es ≡ [] → Are None es) →
     ((m : Mark) (superframes : ℕ) → mark t samples t.count ≡ Some m → at ≡ Some superframes →
     HearsSentTraffic width plan p t f.traffic m superframes →
@@ -124,8 +111,7 @@ each_after {plan = plan} {t} samples {at} is tuned marked {p} f Are heard opens 
     flat_map_ext_places (λ n. if_followed (heard n) t.traffic (mark t samples n))
     (λ n. if_followed (heard n) t.traffic last) (plan.link.samples + 1)
     (λ n below.
-    by_one_mark t (one_near t plan tuned) samples n t.count n _ (omega (arith, below, count)) (omega arith)
-    (opens n))
+    by_one_mark t (one_near t plan tuned) samples n t.count n _ (omega (arith, below, count)) (omega arith) (opens n))
     ∙ ap (λ (followed : Option Traffic). flat_map (λ n. if_followed (heard n) followed last) all) f.follows in
     subst (Are at) (sym by_last) (by_mark last refl marked)
   where
@@ -143,8 +129,7 @@ each_after {plan = plan} {t} samples {at} is tuned marked {p} f Are heard opens 
 
 -- where no channel is followed, nothing is heard of one
 pub none_followed : (t : Tuning) (samples : List Sample) (heard : ℕ → Traffic → Mark → List Event)
-    (ns : List ℕ) → t.traffic ≡ None →
-    flat_map (λ n. if_followed (heard n) t.traffic (mark t samples n)) ns ≡ []
+    (ns : List ℕ) → t.traffic ≡ None → flat_map (λ n. if_followed (heard n) t.traffic (mark t samples n)) ns ≡ []
 none_followed t samples heard ns none =
     ap (λ (followed : Option Traffic).
     flat_map (λ n. if_followed (heard n) followed (mark t samples n)) ns) none
@@ -156,8 +141,7 @@ pub undirected : (plan : CellPlan) (t : Tuning) (samples : List Sample) → IsOn
     (traffic : Traffic) (m : Mark) → t.traffic ≡ Some traffic → mark t samples t.count ≡ Some m →
     IsUndirected t traffic m samples plan.link.samples
 undirected plan t samples tuned long not_directed traffic m followed set =
-    let last : mark t samples (length samples) ≡ Some m =
-    ap (mark t samples) (long ∙ sym tuned.count) ∙ set in
+    let last : mark t samples (length samples) ≡ Some m = ap (mark t samples) (long ∙ sym tuned.count) ∙ set in
     subst (IsUndirected t traffic m samples) long
     (undirected_after t (one_near t plan tuned) samples not_directed traffic m followed last)
 

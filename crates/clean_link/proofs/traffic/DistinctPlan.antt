@@ -62,16 +62,14 @@ starts mask zero v = []
 starts mask (suc n) v = group_start mask v ∷ starts mask n (walked 1536 v)
 
 -- a scrambling bit
-bit_is : (mask v i : ℕ) → i < 24 →
-    chip_of mask (after v (64 * i)) ≡ get_or (group_scrambling v mask) i false
+bit_is : (mask v i : ℕ) → i < 24 → chip_of mask (after v (64 * i)) ≡ get_or (group_scrambling v mask) i false
 unfolding scrambling_chips long_chip
 bit_is mask v i low = sym (get_or-map-places (λ i. long_chip v mask (64 * i)) 24 i false low)
 
 -- Stepping the long code tells where a group's power control bit begins: its start depends on the
 -- last four of the group's 24 scrambling bits, which are the code's chips 1,280, 1,344, 1,408 and
 -- 1,472 after the group's first, each of the last three 64 steps after the one before it.
-group_start_is : (mask v : ℕ) → v < 2 ^ 42 →
-    group_start mask v ≡ power_start (group_scrambling v mask)
+group_start_is : (mask v : ℕ) → v < 2 ^ 42 → group_start mask v ≡ power_start (group_scrambling v mask)
 group_start_is mask v low =
     let a : walked 1280 v ≡ after v 1280 = walked_is 1280 v low in
     let b : walked 64 (after v 1280) ≡ after v 1344 = walked_on v 1280 64 in
@@ -89,29 +87,25 @@ starts_at mask zero v g low below = absurd (omega (arith, below))
 starts_at mask (suc n) v zero low below =
     let none : 0 ≡ 1536 * 0 = omega arith in
     group_start_is mask v low
-    ∙ ap (λ (s : ℕ). power_start (group_scrambling s mask))
-    (sym (after_none v low) ∙ ap (after v) none)
+    ∙ ap (λ (s : ℕ). power_start (group_scrambling s mask)) (sym (after_none v low) ∙ ap (after v) none)
 starts_at mask (suc n) v (suc g) low below =
     let next : walked 1536 v ≡ after v 1536 = walked_is 1536 v low in
     let more : 1536 + 1536 * g ≡ 1536 * suc g = omega arith in
     starts_at mask n (walked 1536 v) g (rw next (after_lt v 1536)) (omega (arith, below))
     ∙ ap (λ (s : ℕ). power_start (group_scrambling (after s (1536 * g)) mask)) next
-    ∙ ap (λ (s : ℕ). power_start (group_scrambling s mask))
-    (after-after v 1536 (1536 * g) ∙ ap (after v) more)
+    ∙ ap (λ (s : ℕ). power_start (group_scrambling s mask)) (after-after v 1536 (1536 * g) ∙ ap (after v) more)
 
 -- ---- all of a frame
 
 abbrev pub pairs_by : List ℕ → List ℕ
 pairs_by starts =
-    flat_map (λ g. (24 * g + get_or starts g 0) ∷ (24 * g + get_or starts g 0 + 1) ∷ [])
-    (places 16)
+    flat_map (λ g. (24 * g + get_or starts g 0) ∷ (24 * g + get_or starts g 0 + 1) ∷ []) (places 16)
 
 -- back from a group later
 back : (v : ℕ) → v < 2 ^ 42 → before (after v 1536) 1536 ≡ v
 back v low =
     let s = after v 1536 in
-    after-injective (before s 1536) v 1536 (before_lt s 1536) low
-    (after-before s 1536 (after_lt v 1536))
+    after-injective (before s 1536) v 1536 (before_lt s 1536) low (after-before s 1536 (after_lt v 1536))
 
 place_is : (mask v g : ℕ) → v < 2 ^ 42 → g < 16 →
     power_place (after v 1536) mask g ≡ 24 * g + get_or (starts mask 16 v) g 0
@@ -119,25 +113,20 @@ place_is mask v zero low below =
     let none : 0 ≡ 1536 * 0 = omega arith in
     let first : power_start (group_scrambling (before (after v 1536) 1536) mask)
     ≡ get_or (starts mask 16 v) 0 0 =
-    ap (λ (s : ℕ). power_start (group_scrambling s mask))
-    (back v low ∙ sym (after_none v low) ∙ ap (after v) none)
+    ap (λ (s : ℕ). power_start (group_scrambling s mask)) (back v low ∙ sym (after_none v low) ∙ ap (after v) none)
     ∙ sym (starts_at mask 16 v 0 low (omega arith)) in
-    let plain : get_or (starts mask 16 v) 0 0 ≡ 24 * 0 + get_or (starts mask 16 v) 0 0 =
-    omega arith in
+    let plain : get_or (starts mask 16 v) 0 0 ≡ 24 * 0 + get_or (starts mask 16 v) 0 0 = omega arith in
     first ∙ plain
 place_is mask v (suc g) low below =
     let more : 1536 + 1536 * g ≡ 1536 * suc g = omega arith in
     ap (λ (n : ℕ). 24 * suc g + n)
-    (ap (λ (s : ℕ). power_start (group_scrambling s mask))
-    (after-after v 1536 (1536 * g) ∙ ap (after v) more)
+    (ap (λ (s : ℕ). power_start (group_scrambling s mask)) (after-after v 1536 (1536 * g) ∙ ap (after v) more)
     ∙ sym (starts_at mask 16 v (suc g) low below))
 
-pub places_are : (mask v : ℕ) → v < 2 ^ 42 →
-    power_places (after v 1536) mask ≡ pairs_by (starts mask 16 v)
+pub places_are : (mask v : ℕ) → v < 2 ^ 42 → power_places (after v 1536) mask ≡ pairs_by (starts mask 16 v)
 unfolding power_places
 places_are mask v low =
-    flat_map_ext_places
-    (λ g. power_place (after v 1536) mask g ∷ (power_place (after v 1536) mask g + 1) ∷ [])
+    flat_map_ext_places (λ g. power_place (after v 1536) mask g ∷ (power_place (after v 1536) mask g + 1) ∷ [])
     (λ g. (24 * g + get_or (starts mask 16 v) g 0) ∷ (24 * g + get_or (starts mask 16 v) g 0 + 1)
     ∷ []) 16
     (λ g below. ap (λ (n : ℕ). n ∷ (n + 1) ∷ []) (place_is mask v g low below))
@@ -155,8 +144,7 @@ unfolding walked
 walks = (refl, refl, refl)
 
 -- a frame later
-frame_on : (n v w : ℕ) → after 1 n ≡ v → v < 2 ^ 42 → walked 24576 v ≡ w →
-    after 1 (n + 24576) ≡ w
+frame_on : (n v w : ℕ) → after 1 n ≡ v → v < 2 ^ 42 → walked 24576 v ≡ w → after 1 (n + 24576) ≡ w
 frame_on n v w here low walk =
     sym (after-after 1 n 24576) ∙ ap (λ (s : ℕ). after s 24576) here
     ∙ sym (walked_is 24576 v low) ∙ walk
@@ -171,8 +159,7 @@ state_3 : after 1 73728 ≡ 1907663947772
 state_3 = frame_on 49152 1799602966513 1907663947772 state_2 (omega arith) walks.2
 
 -- so those at the frames
-state_at : (n v : ℕ) → after 1 n ≡ v →
-    after (before 1 686592) (686592 + (n + 1536)) ≡ after v 1536
+state_at : (n v : ℕ) → after 1 n ≡ v → after (before 1 686592) (686592 + (n + 1536)) ≡ after v 1536
 state_at n v here =
     on_again 1 686592 (n + 1536) ∙ sym (after-after 1 n 1536)
     ∙ ap (λ (s : ℕ). after s 1536) here
@@ -184,28 +171,23 @@ mask_is = refl
 -- ---- the places of power control bits
 
 abbrev starts_0 : List ℕ
-starts_0 =
-    8 ∷ 10 ∷ 14 ∷ 0 ∷ 3 ∷ 1 ∷ 4 ∷ 8 ∷ 12 ∷ 0 ∷ 8 ∷ 3 ∷ 1 ∷ 11 ∷ 15 ∷ 1 ∷ []
+starts_0 = 8 ∷ 10 ∷ 14 ∷ 0 ∷ 3 ∷ 1 ∷ 4 ∷ 8 ∷ 12 ∷ 0 ∷ 8 ∷ 3 ∷ 1 ∷ 11 ∷ 15 ∷ 1 ∷ []
 
 abbrev starts_1 : List ℕ
-starts_1 =
-    0 ∷ 11 ∷ 3 ∷ 14 ∷ 5 ∷ 15 ∷ 8 ∷ 15 ∷ 10 ∷ 6 ∷ 14 ∷ 1 ∷ 3 ∷ 2 ∷ 13 ∷ 15 ∷ []
+starts_1 = 0 ∷ 11 ∷ 3 ∷ 14 ∷ 5 ∷ 15 ∷ 8 ∷ 15 ∷ 10 ∷ 6 ∷ 14 ∷ 1 ∷ 3 ∷ 2 ∷ 13 ∷ 15 ∷ []
 
 abbrev starts_2 : List ℕ
-starts_2 =
-    10 ∷ 14 ∷ 8 ∷ 12 ∷ 3 ∷ 9 ∷ 13 ∷ 3 ∷ 1 ∷ 2 ∷ 2 ∷ 15 ∷ 9 ∷ 6 ∷ 5 ∷ 3 ∷ []
+starts_2 = 10 ∷ 14 ∷ 8 ∷ 12 ∷ 3 ∷ 9 ∷ 13 ∷ 3 ∷ 1 ∷ 2 ∷ 2 ∷ 15 ∷ 9 ∷ 6 ∷ 5 ∷ 3 ∷ []
 
 abbrev starts_3 : List ℕ
-starts_3 =
-    15 ∷ 5 ∷ 12 ∷ 15 ∷ 4 ∷ 6 ∷ 9 ∷ 7 ∷ 12 ∷ 6 ∷ 8 ∷ 8 ∷ 6 ∷ 1 ∷ 8 ∷ 13 ∷ []
+starts_3 = 15 ∷ 5 ∷ 12 ∷ 15 ∷ 4 ∷ 6 ∷ 9 ∷ 7 ∷ 12 ∷ 6 ∷ 8 ∷ 8 ∷ 6 ∷ 1 ∷ 8 ∷ 13 ∷ []
 
 starts_are : (starts 0x318cc08f34f 16 1 ≡ starts_0) × (starts 0x318cc08f34f 16 2395420971681 ≡ starts_1)
     × (starts 0x318cc08f34f 16 1799602966513 ≡ starts_2) × (starts 0x318cc08f34f 16 1907663947772 ≡ starts_3)
 unfolding binary walked
 starts_are = (refl, refl, refl, refl)
 
-places_by : (state v : ℕ) (found : List ℕ) → v < 2 ^ 42 → state ≡ after v 1536 →
-    starts 0x318cc08f34f 16 v ≡ found →
+places_by : (state v : ℕ) (found : List ℕ) → v < 2 ^ 42 → state ≡ after v 1536 → starts 0x318cc08f34f 16 v ≡ found →
     power_places state (traffic_mask 0x9f1c0a37) ≡ pairs_by found
 places_by state v found low here are =
     ap (λ (s : ℕ). power_places s (traffic_mask 0x9f1c0a37)) here
@@ -248,8 +230,7 @@ shared rate r =
     sharing (lost_symbols (pairs_by (starts_of rate))) rate (traffic_codeword rate (distinct_bits_of rate)) r
 
 abbrev shared2 : Rate2 → Rate2 → List (List Bool)
-shared2 rate r =
-    sharing2 (lost_symbols2 (pairs_by (starts_of2 rate))) rate (codeword_bits rate (bits_of2 rate)) r
+shared2 rate r = sharing2 (lost_symbols2 (pairs_by (starts_of2 rate))) rate (codeword_bits rate (bits_of2 rate)) r
 
 -- its own,
 own : (rate : Rate) → shared rate rate ≡ traffic_codeword rate (distinct_bits_of rate) ∷ []
@@ -307,10 +288,8 @@ each_of_four : {R F : Type 0} (P : List ℕ → F → Type 0) (found : R → Lis
     ((rate : R) → P (pairs_by (found rate)) (frame rate)) → (a b c d : R) →
     places_in 688128 ≡ pairs_by (found a) → places_in 712704 ≡ pairs_by (found b) →
     places_in 737280 ≡ pairs_by (found c) → places_in 761856 ≡ pairs_by (found d) →
-    (row : ℕ) (frames : List TrafficFrame) (n : ℕ) →
-    is_received distinct_plan (channel_on row frames) 688128 n ≡ true →
-    All (P (replaced_of distinct_plan (channel_on row frames) n))
-    (frames_in_turn (map frame (a ∷ b ∷ c ∷ d ∷ [])) n)
+    (row : ℕ) (frames : List TrafficFrame) (n : ℕ) → is_received distinct_plan (channel_on row frames) 688128 n ≡ true →
+    All (P (replaced_of distinct_plan (channel_on row frames) n)) (frames_in_turn (map frame (a ∷ b ∷ c ∷ d ∷ [])) n)
 each_of_four {R} {F} P found frame each a b c d in_a in_b in_c in_d row frames =
     let here : (rate : R) (chip : ℕ) → places_in chip ≡ pairs_by (found rate) →
     All (P (places_in chip)) (frame rate ∷ []) =
@@ -343,12 +322,10 @@ pub told_lawful : IsSyncMessage told_message
 told_lawful = admitted told_message (search rules) refl
 
 -- what is true of each of four
-all_four : {A : Type 0} (P : A → Type 0) (a b c d : A) → P a → P b → P c → P d →
-    All P (a ∷ b ∷ c ∷ d ∷ [])
+all_four : {A : Type 0} (P : A → Type 0) (a b c d : A) → P a → P b → P c → P d → All P (a ∷ b ∷ c ∷ d ∷ [])
 all_four P a b c d is_a is_b is_c is_d =
     All-cons P a (b ∷ c ∷ d ∷ []) is_a
-    (All-cons P b (c ∷ d ∷ []) is_b
-    (All-cons P c (d ∷ []) is_c (All-cons P d [] is_d (All-nil P))))
+    (All-cons P b (c ∷ d ∷ []) is_b (All-cons P c (d ∷ []) is_c (All-cons P d [] is_d (All-nil P))))
 
 sized_one : All IsTrafficFrame first_channel.frames
 unfolding binary
@@ -425,16 +402,14 @@ only_seven n told = let same : Some n ≡ Some 7 = sym told ∙ told_is in cc
 rates_one : flat_map
     (λ frame. map (λ (f : SetOneFrame). f.rate)
     (cycled_frame (frames_of distinct_plan first_channel) frame))
-    (received_frames distinct_plan first_channel 688128)
-    ≡ R9600 ∷ R4800 ∷ R2400 ∷ R1200 ∷ []
+    (received_frames distinct_plan first_channel 688128) ≡ R9600 ∷ R4800 ∷ R2400 ∷ R1200 ∷ []
 unfolding places
 rates_one = refl
 
 rates_two : flat_map
     (λ frame. map (λ (f : SetTwoFrame). f.rate)
     (cycled_frame2 (frames_of distinct_plan second_channel) frame))
-    (received_frames distinct_plan second_channel 688128)
-    ≡ R14400 ∷ R7200 ∷ R3600 ∷ R1800 ∷ []
+    (received_frames distinct_plan second_channel 688128) ≡ R14400 ∷ R7200 ∷ R3600 ∷ R1800 ∷ []
 unfolding places
 rates_two = refl
 

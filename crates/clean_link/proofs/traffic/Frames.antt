@@ -37,8 +37,7 @@ one_taken P (y ∷ xs) zero x all is =
 one_taken P (y ∷ xs) (suc j) x all is = one_taken P xs j x (All-tail P y xs all) is
 
 -- there is one at each place
-pub one_there : {A : Type 0} (xs : List A) (j : ℕ) → j < length xs →
-    (x : A) × (take 1 (drop j xs) ≡ x ∷ [])
+pub one_there : {A : Type 0} (xs : List A) (j : ℕ) → j < length xs → (x : A) × (take 1 (drop j xs) ≡ x ∷ [])
 one_there [] j below = absurd (omega (arith, below))
 one_there (x ∷ xs) zero below = (x, refl)
 one_there (x ∷ xs) (suc j) below = one_there xs j (omega (arith, below))
@@ -91,8 +90,7 @@ received_lies plan p chip frame kept =
     (leb-true chip (frame_chip p frame) both.0, leb-true (frame_chip p (frame + 1)) (end_chip plan) both.1)
 
 -- frames that end within so many samples are few enough
-pub bound_enough : (t : Tuning) (traffic : Traffic) (m : Mark) →
-    IsBound (one_stream t traffic m) frames_bound
+pub bound_enough : (t : Tuning) (traffic : Traffic) (m : Mark) → IsBound (one_stream t traffic m) frames_bound
 bound_enough t traffic m n k ends = omega (arith, ends)
 
 module _ {width : Width} {plan : CellPlan} {p : TrafficPlan} {t : Tuning} {traffic : Traffic}
@@ -122,18 +120,15 @@ module _ {width : Width} {plan : CellPlan} {p : TrafficPlan} {t : Tuning} {traff
       ⊎_elim
       (λ (there : inside k ≡ true).
       let ends = traffic_file_to t traffic m is.tuned.alone k there in
-      and_from (nat_le mark_chip (frame_chip p frame))
-      (nat_le (frame_chip p (frame + 1)) (end_chip plan))
+      and_from (nat_le mark_chip (frame_chip p frame)) (nat_le (frame_chip p (frame + 1)) (end_chip plan))
       (le-leb mark_chip (frame_chip p frame) (omega (arith, place)))
-      (le-leb (frame_chip p (frame + 1)) (end_chip plan)
-      (omega (arith, place, count, offset, ends)))
+      (le-leb (frame_chip p (frame + 1)) (end_chip plan) (omega (arith, place, count, offset, ends)))
       ∙ sym there)
       (λ (gone : inside k ≡ false).
       false_from_ne_true (received frame)
       (λ kept.
       let ends = (received_lies plan p mark_chip frame kept).1 in
-      let there = traffic_file_from t traffic m is.tuned.alone k
-      (omega (arith, place, count, offset, ends)) in
+      let there = traffic_file_from t traffic m is.tuned.alone k (omega (arith, place, count, offset, ends)) in
       absurd (cc))
       ∙ sym gone)
       (cases_Bool (inside k))
@@ -148,8 +143,7 @@ module _ {width : Width} {plan : CellPlan} {p : TrafficPlan} {t : Tuning} {traff
       omega (arith, low, begun, place, latest))
 
   -- so one that is received is so many frames after the mark, in the file
-  pub inside_at : (frame : ℕ) → received frame ≡ true →
-      (4 * superframes + (frame - 4 * superframes) ≡ frame)
+  pub inside_at : (frame : ℕ) → received frame ≡ true → (4 * superframes + (frame - 4 * superframes) ≡ frame)
       × (inside (frame - 4 * superframes) ≡ true)
   inside_at frame kept =
       elim (cases_lt frame (4 * superframes)) [
@@ -187,8 +181,7 @@ module _ {width : Width} {plan : CellPlan} {p : TrafficPlan} {t : Tuning} {traff
       ∙ sym (flat_map-filter inside following (places bound))
 
   -- and what all of them give
-  pub by_marks_frames : {X : Type 0} (g : ℕ → List X) →
-      flat_map g (received_frames plan p mark_chip)
+  pub by_marks_frames : {X : Type 0} (g : ℕ → List X) → flat_map g (received_frames plan p mark_chip)
       ≡ flat_map (λ k. g (4 * superframes + k)) (filter inside (places (frames_bound t.count)))
   by_marks_frames g =
       let bound = frames_bound t.count in
@@ -212,8 +205,7 @@ module _ {width : Width} {plan : CellPlan} {p : TrafficPlan} {t : Tuning} {traff
       flat_map f (places (plan.link.samples + 1)) ≡ flat_map told (received_frames plan p mark_chip)
   in_channel_order f g told given each =
       ap (λ (n : ℕ). flat_map f (places (n + 1))) (sym is.tuned.count)
-      ∙ flat_map_ext_places f (λ n. flat_map (g n) (known_now t.count stream n (frames_bound n)))
-      (t.count + 1) given
+      ∙ flat_map_ext_places f (λ n. flat_map (g n) (known_now t.count stream n (frames_bound n))) (t.count + 1) given
       ∙ given_in_order stream (timed_alone t.count stream (traffic_alone t traffic m is.tuned.alone)) frames_bound
       (bound_enough t traffic m) g
       ∙ flat_map_ext_filter_places inside (λ k. g (known_at t.count stream k) k)
@@ -229,16 +221,13 @@ module _ {width : Width} {plan : CellPlan} {p : TrafficPlan} {t : Tuning} {traff
 
   -- as the channel's frames are
   pub distinct_there : AreDistinct plan p mark_chip → (k : ℕ) (f : SetOneFrame) → inside k ≡ true →
-      cycled_frame (frames_of plan p) (4 * superframes + k) ≡ f ∷ [] →
-      IsDistinctFrame (replaced_in traffic m k) f
+      cycled_frame (frames_of plan p) (4 * superframes + k) ≡ f ∷ [] → IsDistinctFrame (replaced_in traffic m k) f
   distinct_there distinct k f there frame =
       let frames = distinct (4 * superframes + k) (received_is k ∙ there) in
       let Distinct : SetOneFrame → Type 0 =
       λ (x : SetOneFrame). IsDistinctFrame (replaced_of plan p (4 * superframes + k)) x in
-      let only : All Distinct (f ∷ []) =
-      subst (λ (fs : List SetOneFrame). All Distinct fs) frame frames in
-      subst (λ (replaced : List ℕ). IsDistinctFrame replaced f) (same_places k)
-      (All-head Distinct f [] only)
+      let only : All Distinct (f ∷ []) = subst (λ (fs : List SetOneFrame). All Distinct fs) frame frames in
+      subst (λ (replaced : List ℕ). IsDistinctFrame replaced f) (same_places k) (All-head Distinct f [] only)
 
   -- one frame is sent at each number
   pub frame_there : SendsSetOne p → (k : ℕ) →
@@ -262,8 +251,7 @@ module _ {width : Width} {plan : CellPlan} {p : TrafficPlan} {t : Tuning} {traff
     module _ (samples : List Sample) (long : length samples ≡ plan.link.samples) where
       -- a distinct frame is told as it was sent
       told_is : ShowsTraffic plan p t traffic m superframes samples → (k : ℕ) (f : SetOneFrame) → inside k ≡ true →
-          cycled_frame (frames_of plan p) (4 * superframes + k) ≡ f ∷ [] →
-          IsDistinctFrame (replaced_in traffic m k) f →
+          cycled_frame (frames_of plan p) (4 * superframes + k) ≡ f ∷ [] → IsDistinctFrame (replaced_in traffic m k) f →
           frame_heard t traffic m legs samples (known_at t.count stream k) k ∷ []
           ≡ frame_told plan p (4 * superframes + k)
       told_is shows k f there frame distinct =
@@ -286,11 +274,9 @@ module _ {width : Width} {plan : CellPlan} {p : TrafficPlan} {t : Tuning} {traff
         heard_at_once n below =
             let count = is.tuned.count in
             frames_of_one t traffic m legs samples one n (omega (arith, below, count, long))
-            (λ k. one_pilot_heard t traffic m samples n k
-            (λ i most. undirected i (omega (arith, most, below, count))))
+            (λ k. one_pilot_heard t traffic m samples n k (λ i most. undirected i (omega (arith, most, below, count))))
             ∙ one_each (frame_heard t traffic m legs samples n) (frames_now t traffic m legs n)
-            ∙ ap (flat_map (λ k. frame_heard t traffic m legs samples n k ∷ []))
-            (one_now t traffic m legs one n)
+            ∙ ap (flat_map (λ k. frame_heard t traffic m legs samples n k ∷ [])) (one_now t traffic m legs one n)
 
         -- so one event is heard for each received frame
         pub each_heard : flat_map (frames_at t traffic m samples) (places (plan.link.samples + 1)) ≡
@@ -298,8 +284,7 @@ module _ {width : Width} {plan : CellPlan} {p : TrafficPlan} {t : Tuning} {traff
             (frame - 4 * superframes)) (received_frames plan p mark_chip)
         each_heard =
             let told : ℕ → Event =
-            λ frame. frame_heard t traffic m legs samples (frame_ends plan p frame)
-            (frame - 4 * superframes) in
+            λ frame. frame_heard t traffic m legs samples (frame_ends plan p frame) (frame - 4 * superframes) in
             in_channel_order (frames_at t traffic m samples)
             (λ n k. frame_heard t traffic m legs samples n k ∷ []) (λ frame. told frame ∷ []) heard_at_once
             (λ k there.
@@ -312,8 +297,7 @@ module _ {width : Width} {plan : CellPlan} {p : TrafficPlan} {t : Tuning} {traff
 
         -- and where all of them are distinct, what was sent
         pub sent_heard : ShowsTraffic plan p t traffic m superframes samples → SendsSetOne p →
-            AreDistinct plan p mark_chip →
-            flat_map (frames_at t traffic m samples) (places (plan.link.samples + 1)) ≡
+            AreDistinct plan p mark_chip → flat_map (frames_at t traffic m samples) (places (plan.link.samples + 1)) ≡
             frames_of_channel plan p mark_chip
         sent_heard shows some distinct =
             in_channel_order (frames_at t traffic m samples)
@@ -327,8 +311,7 @@ module _ {width : Width} {plan : CellPlan} {p : TrafficPlan} {t : Tuning} {traff
 pub signed_frame_back : {width : Width} {plan : CellPlan} {p : TrafficPlan} {t : Tuning}
     {traffic : Traffic} {m : Mark} {legs : ℕ → List Leg} {superframes k : ℕ} {f : SetOneFrame}
     (samples : List Sample) → HearsSentTraffic width plan p t traffic m superframes →
-    IsHeardAs plan p t traffic m legs superframes k f →
-    TrafficFrameHasSigns plan p samples (4 * superframes + k) →
+    IsHeardAs plan p t traffic m legs superframes k f → TrafficFrameHasSigns plan p samples (4 * superframes + k) →
     IsDistinctFrame (replaced_in traffic m k) f → IsDecodedAs f (decoded_at t traffic m legs samples k)
 unfolding decoded_at
 signed_frame_back {t = t} {traffic} {m} {legs} {k = k} {f} samples is heard has distinct =
@@ -375,8 +358,7 @@ of_one : {A B : Type 0} (f : A → List B) (xs : List A) (x : A) → xs ≡ x �
 of_one f xs x is = ap (flat_map f) is ∙ append-nil (f x)
 
 module _ {width : Width} {plan : CellPlan} {p : TrafficPlan} {t : Tuning} {traffic : Traffic}
-    {m : Mark} {superframes : ℕ} (is : HearsSentTraffic width plan p t traffic m superframes)
-    (some : SendsSetOne p)
+    {m : Mark} {superframes : ℕ} (is : HearsSentTraffic width plan p t traffic m superframes) (some : SendsSetOne p)
     (distinct : AreDistinct plan p (plan.link.start + m.sample)) (legs : ℕ → List Leg)
     (one : (k : ℕ) → IsOnePilot traffic (legs k)) (samples : List Sample)
     (shows : ShowsTraffic plan p t traffic m superframes samples) where
@@ -392,14 +374,11 @@ module _ {width : Width} {plan : CellPlan} {p : TrafficPlan} {t : Tuning} {traff
       signal_at t traffic m legs samples k ≡ signal_sent f
   unfolding signal_at
   signal_is k f there frame =
-      let apart =
-      distinct_there is distinct k f there frame in
-      let heard : IsHeardAs plan p t traffic m legs superframes k f =
-      heard_there is legs one k f there frame in
+      let apart = distinct_there is distinct k f there frame in
+      let heard : IsHeardAs plan p t traffic m legs superframes k f = heard_there is legs one k f there frame in
       ap signal_of (shows.decoded legs k f heard apart).same
 
-  signals_is : (k : ℕ) → is_in_file t.count channel k ≡ true →
-      option_to_list (signal_at t traffic m legs samples k)
+  signals_is : (k : ℕ) → is_in_file t.count channel k ≡ true → option_to_list (signal_at t traffic m legs samples k)
       ≡ signals_in plan p (4 * superframes + k)
   signals_is k there =
       let (f, frame) = frame_there is some k in
@@ -409,8 +388,7 @@ module _ {width : Width} {plan : CellPlan} {p : TrafficPlan} {t : Tuning} {traff
       (cycled_frame (frames_of plan p) (4 * superframes + k)) f frame)
 
   -- and so is that of the frames before it
-  before_is : (k : ℕ) →
-      signals_before t traffic m legs samples k
+  before_is : (k : ℕ) → signals_before t traffic m legs samples k
       ≡ signals_received plan p first_chip (4 * superframes + k)
   unfolding signals_before
   before_is k =
@@ -440,8 +418,7 @@ module _ {width : Width} {plan : CellPlan} {p : TrafficPlan} {t : Tuning} {traff
       ap (λ (n : ℕ). told n t.check16 before signal) (known_is is k)
       ∙ ap (λ (form : CheckForm). told ends form before signal) is.tuned.checks_of_16
       ∙ ap (λ (parts : List (List Bool)). told ends plan.cell.check16 parts signal) (before_is k)
-      ∙ ap (told ends plan.cell.check16 (signals_received plan p first_chip number))
-      (signal_is k f there frame)
+      ∙ ap (told ends plan.cell.check16 (signals_received plan p first_chip number)) (signal_is k f there frame)
       ∙ sym
       (of_one
       (λ (x : SetOneFrame). told ends plan.cell.check16 (signals_received plan p first_chip number)
@@ -479,8 +456,7 @@ sent_messages_back width plan p t traffic m superframes samples is long signs so
     (signed_traffic is long signs)
 
 module _ {width : Width} {plan : CellPlan} {p : TrafficPlan} {t : Tuning} {traffic : Traffic}
-    {m : Mark} {superframes : ℕ} (is : HearsSentTraffic width plan p t traffic m superframes)
-    (some : SendsSetOne p)
+    {m : Mark} {superframes : ℕ} (is : HearsSentTraffic width plan p t traffic m superframes) (some : SendsSetOne p)
     (distinct : AreDistinct plan p (plan.link.start + m.sample))
     (none : All IsNotDirected (messages_of_channel plan p (plan.link.start + m.sample)))
     (samples : List Sample) (shows : ShowsTraffic plan p t traffic m superframes samples) where
@@ -488,8 +464,7 @@ module _ {width : Width} {plan : CellPlan} {p : TrafficPlan} {t : Tuning} {traff
   legs = first_legs traffic m
 
   -- the one pilot tells what is sent
-  none_of_one : (n : ℕ) → n ≤ plan.link.samples →
-      All IsNotDirected (messages_by t traffic m legs samples n)
+  none_of_one : (n : ℕ) → n ≤ plan.link.samples → All IsNotDirected (messages_by t traffic m legs samples n)
   unfolding places
   none_of_one n most =
       let sent = messages_by_one is some distinct legs (first_pilot traffic m) samples shows in
@@ -507,8 +482,7 @@ module _ {width : Width} {plan : CellPlan} {p : TrafficPlan} {t : Tuning} {traff
         | inr last ↦
             let here : n ≡ i = omega (arith, less, last) in
             let made = shows.long in
-            let heard = messages_of_one t traffic m legs samples (first_pilot traffic m) n
-            (omega (arith, most, made))
+            let heard = messages_of_one t traffic m legs samples (first_pilot traffic m) n (omega (arith, most, made))
             (λ k. one_pilot_before t traffic m samples n k before) is.tuned.alone in
             subst (λ (j : ℕ). All IsNotDirected (messages_at t traffic m samples j)) here
             (subst (All IsNotDirected) (sym heard) (none_of_one n (omega (arith, most))))

@@ -29,8 +29,7 @@ use Rattle.rate_set_two.specs.TrafficFrames as second
 
 -- Symbols that differ somewhere at the places that are left agree less.
 pub others_less : (replaced : List ℕ) (xs ys : List Bool) (softs : List ℤ) → length softs ≡ 384 →
-    length xs ≡ 384 → length ys ≡ 384 → KeepSigns replaced xs softs →
-    ¬ (AgreeElsewhere replaced xs ys) →
+    length xs ≡ 384 → length ys ≡ 384 → KeepSigns replaced xs softs → ¬ (AgreeElsewhere replaced xs ys) →
     correlation (unreplaced replaced softs) ys <ℤ correlation (unreplaced replaced softs) xs
 others_less replaced xs ys softs long size size' keep apart =
     let kept = unreplaced replaced softs in
@@ -83,8 +82,7 @@ module _ {width : Width} {plan : CellPlan} {p : TrafficPlan} {t : Tuning} {traff
   stream = one_stream t traffic m
 
   -- a frame in the file ends within it
-  ends_inside : (k : ℕ) →
-      (is_in_file t.count stream k && nat_le (known_at t.count stream k) t.count)
+  ends_inside : (k : ℕ) → (is_in_file t.count stream k && nat_le (known_at t.count stream k) t.count)
       ≡ is_in_file t.count stream k
   ends_inside k =
       let ends = nat_le (known_at t.count stream k) t.count in
@@ -104,16 +102,14 @@ module _ {width : Width} {plan : CellPlan} {p : TrafficPlan} {t : Tuning} {traff
       ((k : ℕ) → 4 * superframes + k ≡ frame → is_in_file t.count stream k ≡ true →
       SendsSymbols plan p (4 * superframes + k) symbols power_bits →
       Is (replaced_in traffic m k) (known_at t.count stream k) k) →
-      is_received plan p (plan.link.start + m.sample) frame ≡ true →
-      SendsSymbols plan p frame symbols power_bits →
+      is_received plan p (plan.link.start + m.sample) frame ≡ true → SendsSymbols plan p frame symbols power_bits →
       Is (replaced_of plan p frame) (frame_ends plan p frame) (frame - 4 * superframes)
   by_channel Is frame symbols power_bits each received sent =
       let k : ℕ = frame - 4 * superframes in
       let (here, there) = inside_at is frame received in
       let places = same_places is k in
       let ends = known_is is k in
-      let following =
-      each k here there (subst (λ (n : ℕ). SendsSymbols plan p n symbols power_bits) (sym here) sent) in
+      let following = each k here there (subst (λ (n : ℕ). SendsSymbols plan p n symbols power_bits) (sym here) sent) in
       subst (λ (n : ℕ). Is (replaced_of plan p n) (frame_ends plan p n) k) here
       (subst (λ (n : ℕ). Is (replaced_of plan p (4 * superframes + k)) n k) ends
       (subst (λ (replaced : List ℕ). Is replaced (known_at t.count stream k) k) (sym places)
@@ -138,10 +134,8 @@ module _ {width : Width} {plan : CellPlan} {p : TrafficPlan} {t : Tuning} {traff
         (is_in_file t.count stream) (frames_bound t.count) (λ k below. ends_inside k))
 
     -- by the channel's numbers
-    pub each_received : length samples ≡ plan.link.samples →
-        soft_frames t (traffic_channel traffic) m samples
-        ≡ map (λ frame. soft (frame - 4 * superframes))
-        (received_frames plan p (plan.link.start + m.sample))
+    pub each_received : length samples ≡ plan.link.samples → soft_frames t (traffic_channel traffic) m samples
+        ≡ map (λ frame. soft (frame - 4 * superframes)) (received_frames plan p (plan.link.start + m.sample))
     each_received long =
         let following : ℕ → SoftFrame = λ frame. soft (frame - 4 * superframes) in
         in_file long
@@ -151,8 +145,7 @@ module _ {width : Width} {plan : CellPlan} {p : TrafficPlan} {t : Tuning} {traff
         (λ k below there.
         let same : k ≡ 4 * superframes + k - 4 * superframes = omega arith in
         ap (λ (j : ℕ). soft j ∷ []) same)
-        ∙ sym (by_marks_frames is
-        (λ frame. following frame ∷ []))
+        ∙ sym (by_marks_frames is (λ frame. following frame ∷ []))
         ∙ sym (one_each following (received_frames plan p (plan.link.start + m.sample)))
 
     -- The raw soft values of one with the sent signs have those of its power control bits, so these
@@ -163,10 +156,8 @@ module _ {width : Width} {plan : CellPlan} {p : TrafficPlan} {t : Tuning} {traff
         SendsSymbols plan p (4 * superframes + k) symbols power_bits →
         TrafficFrameHasSigns plan p samples (4 * superframes + k) →
         Show (replaced_in traffic m k) (soft k).descrambled) →
-        is_received plan p (plan.link.start + m.sample) frame ≡ true →
-        SendsSymbols plan p frame symbols power_bits →
-        IsReceived plan p frame power_bits (Show (replaced_of plan p frame))
-        (soft (frame - 4 * superframes))
+        is_received plan p (plan.link.start + m.sample) frame ≡ true → SendsSymbols plan p frame symbols power_bits →
+        IsReceived plan p frame power_bits (Show (replaced_of plan p frame)) (soft (frame - 4 * superframes))
         × HavePowerSigns (replaced_of plan p frame) power_bits (raw (frame - 4 * superframes))
     received_by Show frame symbols power_bits has shown received sent =
         let power : List ℕ → List Bool → Option PowerControl =
@@ -192,8 +183,7 @@ module _ {width : Width} {plan : CellPlan} {p : TrafficPlan} {t : Tuning} {traff
 -- ---- one frame
 
 pub each_frame_received : EachFrameIsReceived
-each_frame_received width plan p t traffic m superframes samples is long =
-    each_received is samples long
+each_frame_received width plan p t traffic m superframes samples is long = each_received is samples long
 
 -- where it has the sent signs, whatever it sends
 pub signed_received : SignedFramesAreReceived
@@ -206,8 +196,7 @@ pub frames_show_symbols : FramesShowSymbols
 frames_show_symbols width plan p t traffic m superframes frame symbols power_bits is received sent =
     (received_by is (made_samples plan)
     (λ replaced. ShowFrame replaced (soft_strength plan Data p.gain) symbols) frame symbols power_bits
-    (clean_sent is.receivable p is.sent frame)
-    (λ k there sends own. frame_shown is k sends there) received sent).0
+    (clean_sent is.receivable p is.sent frame) (λ k there sends own. frame_shown is k sends there) received sent).0
 
 pub frames_show_power_bits : FramesShowPowerBits
 frames_show_power_bits width plan p t traffic m superframes frame symbols power_bits is =

@@ -50,12 +50,10 @@ ended p false none all = (and_parts (p []) true all).0
 -- what is true of all codewords that give what is shown is true of such bits
 given_all : (shown : ℕ → List Bool) (p : List Bool → Bool) (n j : ℕ) (eight bits : List Bool) →
     length eight ≡ 8 → length bits ≡ n → list_any (λ bit. bit) (state_after eight bits) ≡ false →
-    AreGiving shown j eight bits → list_all p (codewords_giving shown n j eight) ≡ true →
-    p bits ≡ true
+    AreGiving shown j eight bits → list_all p (codewords_giving shown n j eight) ≡ true → p bits ≡ true
 unfolding codewords_giving
 given_all shown p zero j eight [] long size ends are all =
-    ended p (list_any (λ bit. bit) eight)
-    (ap (list_any (λ bit. bit)) (sym (state_after-none eight)) ∙ ends) all
+    ended p (list_any (λ bit. bit) eight) (ap (list_any (λ bit. bit)) (sym (state_after-none eight)) ∙ ends) all
 given_all shown p zero j eight (bit ∷ bits) long size ends are all = absurd (omega (arith, size))
 given_all shown p (suc n) j eight [] long size ends are all = absurd (omega (arith, size))
 given_all shown p (suc n) j eight (bit ∷ bits) long size ends are all =
@@ -111,8 +109,7 @@ kept_all : (p : Bool) (q : ℕ → Bool) (x : ℕ) (f : ℕ → Bool) (y : Bool)
     (p ≡ true → f x ≡ y) → list_all (beq y) (map f xs) ≡ true →
     list_all (beq y) (map f (if p then x ∷ xs else xs)) ≡ true
 kept_all true q x f y xs here rest =
-    and_from (beq y (f x)) (list_all (beq y) (map f xs))
-    ((booleans_Decides y (f x)).1 (sym (here refl))) rest
+    and_from (beq y (f x)) (list_all (beq y) (map f xs)) ((booleans_Decides y (f x)).1 (sym (here refl))) rest
 kept_all false q x f y xs here rest = rest
 
 -- a bit that each known one of n repeated symbols shows
@@ -123,13 +120,11 @@ all_show known f y a zero each = refl
 all_show known f y a (suc n) each =
     kept_all (known a) known a f y (filter known (range_with_len (a + 1) n))
     (λ is. each a (omega arith) (omega arith) is)
-    (all_show known f y (a + 1) n
-    (λ k low high is. each k (omega (arith, low)) (omega (arith, high)) is))
+    (all_show known f y (a + 1) n (λ k low high is. each k (omega (arith, low)) (omega (arith, high)) is))
 
 -- The code symbols of bits that agree with a frame's, wherever a repeated symbol is known, give
 -- what these show.
-pub agreeing_give : (known : ℕ → Bool) (xs : List Bool) (r s n all : ℕ) (bits : List Bool) →
-    length bits ≡ n →
+pub agreeing_give : (known : ℕ → Bool) (xs : List Bool) (r s n all : ℕ) (bits : List Bool) → length bits ≡ n →
     ((c k : ℕ) → c < 2 * n → s * c ≤ k → k < s * c + s → (k < all) × (k / s ≡ c)) →
     ((k : ℕ) → k < all → known k ≡ true →
     get_or xs (k / r) false ≡ get_or (code_symbols (replicate 8 false) bits) (k / s) false) →
@@ -159,8 +154,7 @@ agreeing_give known xs r s n all bits size copies agree =
 -- ---- codewords that end in zeros
 
 -- the state after such a codeword, of eight bits or more
-ended_zeros : (bits : List Bool) → 8 ≤ length bits →
-    drop (length bits - 8) bits ≡ replicate 8 false →
+ended_zeros : (bits : List Bool) → 8 ≤ length bits → drop (length bits - 8) bits ≡ replicate 8 false →
     list_any (λ bit. bit) (state_after (replicate 8 false) bits) ≡ false
 ended_zeros bits long ends =
     let zeros = replicate 8 false in
@@ -192,18 +186,15 @@ module _ {R : Type 0} (repeats size : R → ℕ) (all : ℕ)
   sent_at r xs = sent_by (λ i. repeated i / repeats r) 384 xs
 
   abbrev shown_to : R → List Bool → R → ℕ → List Bool
-  shown_to rate bits r =
-      symbols_known_of known (code_symbols (replicate 8 false) bits) (repeats rate) (repeats r)
+  shown_to rate bits r = symbols_known_of known (code_symbols (replicate 8 false) bits) (repeats rate) (repeats r)
 
   -- Where only a frame's own codeword gives what it shows, no other allowed codeword shares its symbols.
   one_shares : (rate r : R) (bits : List Bool) (v own : Codeword) →
       codewords_giving (shown_to rate bits rate) (size rate) 0 (replicate 8 false) ≡ bits ∷ [] →
       ((q : R) → q ≢ rate →
       codewords_giving (shown_to rate bits q) (size q) 0 (replicate 8 false) ≡ []) →
-      IsAllowed Zero (size r) v →
-      AgreeElsewhere replaced (sent_at rate (code_symbols (replicate 8 false) bits))
-      (sent_at r (code_symbols v.start v.bits)) → (bits ≡ v.bits → v ≡ own) →
-      (r ≡ rate) × (v ≡ own)
+      IsAllowed Zero (size r) v → AgreeElsewhere replaced (sent_at rate (code_symbols (replicate 8 false) bits))
+      (sent_at r (code_symbols v.start v.bits)) → (bits ≡ v.bits → v ≡ own) → (r ≡ rate) × (v ≡ own)
   one_shares rate r bits v own alone others allowed agree is =
       let xs = code_symbols (replicate 8 false) bits in
       let from_zeros : AgreeElsewhere replaced (sent_at rate xs)
@@ -211,8 +202,7 @@ module _ {R : Type 0} (repeats size : R → ℕ) (all : ℕ)
       subst (λ (s : List Bool). AgreeElsewhere replaced (sent_at rate xs)
       (sent_at r (code_symbols s v.bits))) allowed.begins agree in
       let zeros = replicate 8 false in
-      let giving = agreeing_give known xs (repeats rate) (repeats r) (size r) all v.bits allowed.bits_long
-      (copies r)
+      let giving = agreeing_give known xs (repeats rate) (repeats r) (size r) all v.bits allowed.bits_long (copies r)
       (λ k low kept. known_agree repeated replaced xs (code_symbols zeros v.bits)
       (repeats rate) (repeats r) k (there k low kept) from_zeros) in
       let ends = closed (size r) v (enough r) allowed in
@@ -249,8 +239,7 @@ distinct_by_sharing replaced rate information none r v allowed agree =
     one_shares repeats_of frame_bits 384 copies_of same_rate bits_least (address data_shape)
     (is_kept (lost_symbols replaced)) replaced (symbol_there replaced) rate r
     (traffic_codeword rate information) v (frame_codeword rate information) none.own none.others
-    allowed agree
-    (λ same. codewords_same v (frame_codeword rate information) allowed.begins (sym same))
+    allowed agree (λ same. codewords_same v (frame_codeword rate information) allowed.begins (sym same))
 
 -- ---- rate set 2
 

@@ -50,12 +50,10 @@ one_subchannel f = refl
 module _ (t : Tuning) (traffic : Traffic) (m : Mark) (legs : ℕ → List Leg) (k : ℕ)
     (is : IsOnePilot traffic (legs k)) where
   pub one_stream_is : stream_of t traffic m legs k ≡ one_stream t traffic m
-  one_stream_is =
-      ap (traffic_stream traffic m) (one_fingers traffic t.phase t.deltas (legs k) is)
+  one_stream_is = ap (traffic_stream traffic m) (one_fingers traffic t.phase t.deltas (legs k) is)
 
   -- its power control bits are heard of all of its fingers
-  pub one_sums : (samples : List Sample) →
-      all_sums t traffic m legs samples k
+  pub one_sums : (samples : List Sample) → all_sums t traffic m legs samples k
       ≡ group_sums (replaced_in traffic m k) (raw_softs t traffic m legs samples k) ∷ []
   one_sums samples =
       let one : List Leg = record { reference = true; finger = is.finger; subchannel = 0 } ∷ [] in
@@ -72,8 +70,7 @@ module _ (t : Tuning) (traffic : Traffic) (m : Mark) (legs : ℕ → List Leg) (
 module _ (t : Tuning) (traffic : Traffic) (m : Mark) (legs : ℕ → List Leg)
     (one : (k : ℕ) → IsOnePilot traffic (legs k)) where
   -- the frames that end at a number of samples are the stream's
-  pub one_now : (n : ℕ) →
-      frames_now t traffic m legs n ≡ known_now t.count (one_stream t traffic m) n (frames_bound n)
+  pub one_now : (n : ℕ) → frames_now t traffic m legs n ≡ known_now t.count (one_stream t traffic m) n (frames_bound n)
   one_now n =
       filter_ext_places (ends_now t traffic m legs n)
       (λ k. is_in_file t.count (one_stream t traffic m) k
@@ -94,8 +91,7 @@ module _ (t : Tuning) (traffic : Traffic) (m : Mark) (legs : ℕ → List Leg)
 module _ (t : Tuning) (traffic : Traffic) (m : Mark) (legs legs' : ℕ → List Leg)
     (one : (k : ℕ) → IsOnePilot traffic (legs k))
     (one' : (k : ℕ) → IsOnePilot traffic (legs' k)) where
-  same_fingers : (k : ℕ) →
-      all_fingers t.phase t.deltas (legs k) ≡ all_fingers t.phase t.deltas (legs' k)
+  same_fingers : (k : ℕ) → all_fingers t.phase t.deltas (legs k) ≡ all_fingers t.phase t.deltas (legs' k)
   same_fingers k =
       one_fingers traffic t.phase t.deltas (legs k) (one k)
       ∙ sym (one_fingers traffic t.phase t.deltas (legs' k) (one' k))
@@ -105,8 +101,7 @@ module _ (t : Tuning) (traffic : Traffic) (m : Mark) (legs legs' : ℕ → List 
   unfolding decoded_at
   same_decoded samples k =
       ap (λ (fingers : List Finger).
-      decoded (replaced_in traffic m k)
-      (frame_softs samples (traffic_stream traffic m fingers) k))
+      decoded (replaced_in traffic m k) (frame_softs samples (traffic_stream traffic m fingers) k))
       (same_fingers k)
 
   same_power_bits : (samples : List Sample) (k : ℕ) →
@@ -123,8 +118,7 @@ module _ (t : Tuning) (traffic : Traffic) (m : Mark) (legs legs' : ℕ → List 
   same_heard : (samples : List Sample) (n k : ℕ) →
       frame_heard t traffic m legs samples n k ≡ frame_heard t traffic m legs' samples n k
   same_heard samples n k =
-      ap (λ (d : Decoded). frame_event n d (power_bits_at t traffic m legs samples k))
-      (same_decoded samples k)
+      ap (λ (d : Decoded). frame_event n d (power_bits_at t traffic m legs samples k)) (same_decoded samples k)
       ∙ ap (frame_event n (decoded_at t traffic m legs' samples k)) (same_power_bits samples k)
 
   same_now : (n : ℕ) → frames_now t traffic m legs n ≡ frames_now t traffic m legs' n
@@ -137,8 +131,7 @@ module _ (t : Tuning) (traffic : Traffic) (m : Mark) (legs legs' : ℕ → List 
   same_frames samples n =
       ap (map (frame_heard t traffic m legs samples n)) (same_now n)
       ∙ map_same (frame_heard t traffic m legs samples n)
-      (frame_heard t traffic m legs' samples n) (frames_now t traffic m legs' n)
-      (same_heard samples n)
+      (frame_heard t traffic m legs' samples n) (frames_now t traffic m legs' n) (same_heard samples n)
 
   same_before : (samples : List Sample) (k : ℕ) →
       signals_before t traffic m legs samples k ≡ signals_before t traffic m legs' samples k
@@ -149,8 +142,7 @@ module _ (t : Tuning) (traffic : Traffic) (m : Mark) (legs legs' : ℕ → List 
       ap (flat_map (own legs))
       (filter_ext_places (has_frame t traffic m legs) (has_frame t traffic m legs') k
       (λ j below.
-      ap (λ (fingers : List Finger). is_in_file t.count (traffic_stream traffic m fingers) j)
-      (same_fingers j)))
+      ap (λ (fingers : List Finger). is_in_file t.count (traffic_stream traffic m fingers) j) (same_fingers j)))
       ∙ flat_map_ext_filter_places (has_frame t traffic m legs') (own legs) (own legs') k
       (λ j below inside.
       ap (λ (d : Decoded). option_to_list (signal_of d)) (same_decoded samples j))
@@ -161,10 +153,8 @@ module _ (t : Tuning) (traffic : Traffic) (m : Mark) (legs legs' : ℕ → List 
   same_message samples n k =
       let of : List (List Bool) → Option (List Bool) → List Event =
       λ before signal. message_events n (signal_in t.check16 (capsule_with before signal)) in
-      ap (λ (before : List (List Bool)). of before (signal_at t traffic m legs samples k))
-      (same_before samples k)
-      ∙ ap (λ (d : Decoded). of (signals_before t traffic m legs' samples k) (signal_of d))
-      (same_decoded samples k)
+      ap (λ (before : List (List Bool)). of before (signal_at t traffic m legs samples k)) (same_before samples k)
+      ∙ ap (λ (d : Decoded). of (signals_before t traffic m legs' samples k) (signal_of d)) (same_decoded samples k)
 
   -- and so are the messages that these complete
   pub same_messages : (samples : List Sample) (n : ℕ) →
@@ -192,19 +182,14 @@ module _ (t : Tuning) (traffic : Traffic) (m : Mark) (alone : t.deltas ≡ one_p
 
   pub traffic_file_from : (k : ℕ) → end_after traffic m k ≤ t.count →
       is_in_file t.count (one_stream t traffic m) k ≡ true
-  traffic_file_from k h =
-      inside_alone t.count (one_stream t traffic m) k traffic_alone (omega (arith, h))
+  traffic_file_from k h = inside_alone t.count (one_stream t traffic m) k traffic_alone (omega (arith, h))
 
-  pub traffic_file_to : (k : ℕ) → is_in_file t.count (one_stream t traffic m) k ≡ true →
-      end_after traffic m k ≤ t.count
-  traffic_file_to k h =
-      omega (arith, room_alone t.count (one_stream t traffic m) k traffic_alone h)
+  pub traffic_file_to : (k : ℕ) → is_in_file t.count (one_stream t traffic m) k ≡ true → end_after traffic m k ≤ t.count
+  traffic_file_to k h = omega (arith, room_alone t.count (one_stream t traffic m) k traffic_alone h)
 
   -- it doesn't wait for the next one
-  pub traffic_known_is : (k : ℕ) →
-      known_at t.count (one_stream t traffic m) k ≡ end_after traffic m k
-  traffic_known_is k =
-      known_at_once t.count (one_stream t traffic m) k traffic_alone refl ∙ omega arith
+  pub traffic_known_is : (k : ℕ) → known_at t.count (one_stream t traffic m) k ≡ end_after traffic m k
+  traffic_known_is k = known_at_once t.count (one_stream t traffic m) k traffic_alone refl ∙ omega arith
 
 -- ---- lists
 
@@ -233,8 +218,7 @@ each_of_all P f a (suc n) k low below all =
     let rest = flat_map f (range_with_len (a + 1) n) in
     elim (cases_lt a k) [
       | inl less ↦
-          each_of_all P f (a + 1) n k (omega (arith, less)) (omega (arith, below))
-          (right_all P (f a) rest all)
+          each_of_all P f (a + 1) n k (omega (arith, less)) (omega (arith, below)) (right_all P (f a) rest all)
       | inr most ↦
           let same : a ≡ k = omega (arith, low, most) in
           subst (λ (j : ℕ). All P (f j)) same (left_all P (f a) rest all)
@@ -280,8 +264,7 @@ module _ (m : Mark) (row : ℕ) where
       either_steady (f.pn == pn) (with_thresholds (system_thresholds f) s) s
       (record { waiting = st.waiting; pilot = st.pilot }) st
   page_steady pn (pages.Neighbors f) s st =
-      either_steady (f.pn == pn) (with_neighbors f.pns s) s
-      (record { waiting = st.waiting; pilot = st.pilot }) st
+      either_steady (f.pn == pn) (with_neighbors f.pns s) s (record { waiting = st.waiting; pilot = st.pilot }) st
   page_steady pn message s st = st
 
   body_steady : (first : ℕ) (body : TrafficBody) (s : Standing) → IsNoDirection body →
@@ -293,10 +276,8 @@ module _ (m : Mark) (row : ℕ) where
 
   event_steady : (pn first : ℕ) (event : Event) (s : Standing) → IsNotDirected event →
       IsSteady m row s → IsSteady m row (noted_with pn first event s)
-  event_steady pn first (kinds.Paging n capsule message) s none st =
-      page_steady pn message s st
-  event_steady pn first (kinds.Traffic n capsule message) s none st =
-      body_steady first message.body s none st
+  event_steady pn first (kinds.Paging n capsule message) s none st = page_steady pn message s st
+  event_steady pn first (kinds.Traffic n capsule message) s none st = body_steady first message.body s none st
   event_steady pn first event s none st = st
 
   all_steady : (es : List Event) (s : Standing) → All IsNotDirected es → IsSteady m row s →
@@ -339,10 +320,8 @@ passed_steady m row samples j s st =
 module _ (t : Tuning) (traffic : Traffic) (m : Mark) (samples : List Sample) (n : ℕ)
     (undirected : (i : ℕ) → i < n → All IsNotDirected (messages_at t traffic m samples i)) where
   -- the messages between two moments are those that are heard there
-  messages_between : (j i : ℕ) → i < 98304 →
-      messages_by t traffic m (legs_by traffic m (kept_to t traffic m samples j))
-      (take (moment_place m j + i + 1) (take (moment_place m (j + 1)) samples))
-      (moment_place m j + i + 1)
+  messages_between : (j i : ℕ) → i < 98304 → messages_by t traffic m (legs_by traffic m (kept_to t traffic m samples j))
+      (take (moment_place m j + i + 1) (take (moment_place m (j + 1)) samples)) (moment_place m j + i + 1)
       ≡ messages_at t traffic m samples (moment_place m j + i + 1)
   messages_between j i below =
       let place : ℕ = moment_place m j + i + 1 in
@@ -351,12 +330,10 @@ module _ (t : Tuning) (traffic : Traffic) (m : Mark) (samples : List Sample) (n 
       messages_by t traffic m (legs_by traffic m (kept_to t traffic m samples j)) cut place)
       (take-take place (moment_place m (j + 1)) samples (omega (arith, below)))
       ∙ ap (λ (b : ℕ).
-      messages_by t traffic m (legs_by traffic m (kept_to t traffic m samples b))
-      (take place samples) place) moment
+      messages_by t traffic m (legs_by traffic m (kept_to t traffic m samples b)) (take place samples) place) moment
 
   -- none of what is heard there directs a handoff
-  told_undirected : (j i : ℕ) → i < 98304 → moment_place m (suc j) < n →
-      All IsNotDirected
+  told_undirected : (j i : ℕ) → i < 98304 → moment_place m (suc j) < n → All IsNotDirected
       (told_by t traffic m (legs_by traffic m (kept_to t traffic m samples j))
       (take (moment_place m (j + 1)) samples) (moment_place m j + i + 1))
   unfolding told_by frames_by
@@ -368,16 +345,14 @@ module _ (t : Tuning) (traffic : Traffic) (m : Mark) (samples : List Sample) (n 
       All-append IsNotDirected (map (page_event place) heard)
       (frames_by t traffic m legs cut place ++ messages_by t traffic m legs cut place)
       (All-map IsNotDirected (page_event place) heard (λ k d below. tt))
-      (All-append IsNotDirected (frames_by t traffic m legs cut place)
-      (messages_by t traffic m legs cut place)
+      (All-append IsNotDirected (frames_by t traffic m legs cut place) (messages_by t traffic m legs cut place)
       (All-map IsNotDirected (frame_heard t traffic m legs cut place) (frames_now t traffic m legs place)
       (λ k d below. tt))
       (All-same IsNotDirected (messages_by t traffic m legs cut place)
       (messages_at t traffic m samples place) (messages_between j i below)
       (undirected place (omega (arith, below, most)))))
 
-  heard_steady : (j : ℕ) → moment_place m (suc j) < n →
-      IsSteady m traffic.row (kept_to t traffic m samples j j) →
+  heard_steady : (j : ℕ) → moment_place m (suc j) < n → IsSteady m traffic.row (kept_to t traffic m samples j j) →
       IsSteady m traffic.row
       (heard_from t traffic m (kept_to t traffic m samples j)
       (take (moment_place m (j + 1)) samples) j 98304)
@@ -387,8 +362,7 @@ module _ (t : Tuning) (traffic : Traffic) (m : Mark) (samples : List Sample) (n 
       let told : ℕ → List Event = λ i. told_by t traffic m (legs_by traffic m kept)
       (take (moment_place m (j + 1)) samples) (moment_place m j + i + 1) in
       all_steady m traffic.row (flat_map told (range_with_len 0 98304)) (kept j)
-      (gathered_all IsNotDirected told 0 98304
-      (λ i low below. told_undirected j i (omega (arith, below)) most))
+      (gathered_all IsNotDirected told 0 98304 (λ i low below. told_undirected j i (omega (arith, below)) most))
       st
 
   -- so what is kept after each moment is steady
@@ -402,8 +376,7 @@ module _ (t : Tuning) (traffic : Traffic) (m : Mark) (samples : List Sample) (n 
       let next : j + 1 ≡ suc j = omega arith in
       let same : (s : Standing) → kept_to t traffic m samples (j + 1) i ≡ s →
       IsSteady m traffic.row s → IsSteady m traffic.row (kept_to t traffic m samples (suc j) i) =
-      λ s is st. subst (IsSteady m traffic.row)
-      (sym is ∙ ap (λ (b : ℕ). kept_to t traffic m samples b i) next) st in
+      λ s is st. subst (IsSteady m traffic.row) (sym is ∙ ap (λ (b : ℕ). kept_to t traffic m samples b i) next) st in
       elim (cases_lt j i) [
         | inl less ↦
             same _ (kept_new t traffic m samples j i less)
@@ -418,8 +391,7 @@ pub one_pilot_before : (t : Tuning) (traffic : Traffic) (m : Mark) (samples : Li
 one_pilot_before t traffic m samples n k undirected =
     let j : ℕ = moments_before m n in
     steady_pilot m traffic (kept_to t traffic m samples j (moment_of traffic k))
-    (kept_steady t traffic m samples n undirected j (λ some. omega (arith, some))
-    (moment_of traffic k))
+    (kept_steady t traffic m samples n undirected j (λ some. omega (arith, some)) (moment_of traffic k))
 
 -- ---- the law
 
@@ -428,8 +400,7 @@ one_pilot_heard t traffic m samples n k undirected =
     one_pilot_before t traffic m samples n k (λ i less. undirected i (omega (arith, less)))
 
 -- of what is followed from the mark on, what ends at n is told by its kinds
-pub events_at_all : (t : Tuning) (xs : List Sample) (n : ℕ) →
-    events_at t xs n
+pub events_at_all : (t : Tuning) (xs : List Sample) (n : ℕ) → events_at t xs n
     ≡ sync_events_at t xs n
     ++ (paging_events_at t xs n
     ++ (frame_events_at t xs n ++ (message_events_at t xs n ++ sets_events_at t xs n)))
@@ -437,8 +408,7 @@ unfolding events_at paging_events_at frame_events_at message_events_at sets_even
 events_at_all t xs n =
     ap (λ (es : List Event). sync_events_at t xs n ++ es) (by_kinds t.traffic (mark t xs n))
   where
-    by_kinds : (traffic : Option Traffic) (m : Option Mark) →
-        told_after t (Some (Paging t.paging)) m xs n
+    by_kinds : (traffic : Option Traffic) (m : Option Mark) → told_after t (Some (Paging t.paging)) m xs n
         ++ (told_after t (option_map OnTraffic traffic) m xs n ++ [])
         ≡ map (page_event n) (pages_if_marked t t.paging m xs n)
         ++ (if_followed (λ traffic m. frames_at t traffic m xs n) traffic m
@@ -458,13 +428,11 @@ module _ (t : Tuning) (near : AreNear (sync_stream t).fingers) (followed : Optio
     (samples : List Sample) (n : ℕ) where
   pub frames_from_mark :
       OpensAfter n (if_followed (λ traffic m. frames_at t traffic m samples n) followed)
-  frames_from_mark =
-      opens_followed _ (λ traffic m. frames_later t near traffic m samples n) followed
+  frames_from_mark = opens_followed _ (λ traffic m. frames_later t near traffic m samples n) followed
 
   pub messages_from_mark :
       OpensAfter n (if_followed (λ traffic m. messages_at t traffic m samples n) followed)
-  messages_from_mark =
-      opens_followed _ (λ traffic m. messages_later t near traffic m samples n) followed
+  messages_from_mark = opens_followed _ (λ traffic m. messages_later t near traffic m samples n) followed
 
 -- ---- in a file
 
@@ -472,10 +440,8 @@ module _ (t : Tuning) (near : AreNear (sync_stream t).fingers) (followed : Optio
 abbrev pub first_legs : Traffic → Mark → ℕ → List Leg
 first_legs traffic m k = legs_of m (new_standing m.pilot traffic.row)
 
-pub first_pilot : (traffic : Traffic) (m : Mark) (k : ℕ) →
-    IsOnePilot traffic (first_legs traffic m k)
-first_pilot traffic m k =
-    steady_pilot m traffic (new_standing m.pilot traffic.row) (first_steady m traffic.row)
+pub first_pilot : (traffic : Traffic) (m : Mark) (k : ℕ) → IsOnePilot traffic (first_legs traffic m k)
+first_pilot traffic m k = steady_pilot m traffic (new_standing m.pilot traffic.row) (first_steady m traffic.row)
 
 module _ (t : Tuning) (traffic : Traffic) (m : Mark) (legs : ℕ → List Leg) (samples : List Sample)
     (one : (k : ℕ) → IsOnePilot traffic (legs k)) (n : ℕ) (few : n ≤ length samples)
@@ -494,14 +460,11 @@ module _ (t : Tuning) (traffic : Traffic) (m : Mark) (legs : ℕ → List Leg) (
       ∙ ap (λ (all : List Sample). frames_by t traffic m legs all n) whole
 
   -- and the messages
-  pub messages_of_one : t.deltas ≡ one_path →
-      messages_at t traffic m samples n ≡ messages_by t traffic m legs samples n
+  pub messages_of_one : t.deltas ≡ one_path → messages_at t traffic m samples n ≡ messages_by t traffic m legs samples n
   messages_of_one alone =
-      same_messages t traffic m (legs_at t traffic m samples n) legs heard one
-      (take n samples) n
+      same_messages t traffic m (legs_at t traffic m samples n) legs heard one (take n samples) n
       ∙ sym
-      (messages_sooner t traffic m legs (one_close t traffic m legs one alone) (take n samples)
-      (drop n samples) n long)
+      (messages_sooner t traffic m legs (one_close t traffic m legs one alone) (take n samples) (drop n samples) n long)
       ∙ ap (λ (all : List Sample). messages_by t traffic m legs all n) whole
 
 -- ---- by the events of a file
@@ -528,8 +491,7 @@ module _ (t : Tuning) (near : AreNear (sync_stream t).fingers) (samples : List S
 
   -- by the mark of all samples
   pub undirected_after : (traffic : Traffic) (m : Mark) → t.traffic ≡ Some traffic →
-      mark t samples (length samples) ≡ Some m →
-      IsUndirected t traffic m samples (length samples)
+      mark t samples (length samples) ≡ Some m → IsUndirected t traffic m samples (length samples)
   unfolding message_events_at
   undirected_after traffic m followed set n few =
       let heard : Traffic → Mark → List Event = λ traffic m. messages_at t traffic m samples n in

@@ -28,8 +28,7 @@ strength_some width plan form gain is some =
 pub channel_signs : laws.ChannelsHaveSentSigns
 channel_signs width plan c form u frame is has at long =
     signed_is (soft_strength plan form c.gain) (c.symbols frame)
-    (softs (made_samples plan) (path_finger plan c.row ∷ []) form u)
-    (clean_relates is c form has frame u at long)
+    (softs (made_samples plan) (path_finger plan c.row ∷ []) form u) (clean_relates is c form has frame u at long)
 
 pub noisy_signs : NoisyChannelsHaveSentSigns
 noisy_signs width plan c form u frame e samples is has at long near bears =
@@ -60,8 +59,7 @@ stream_symbols width plan c s bits_of base k is has heard read here =
 pub noisy_shown : {width : Width} {plan : CellPlan} {c : Carrier} {s : StreamOf Channel}
     {bits_of : ℕ → List Bool} {base : ℕ} (e : ℕ) (samples : List Sample) → IsReceivable width plan →
     Contains (carriers plan) c → IsHeardBy plan c s base → AreReadBy c s bits_of base →
-    IsNear e samples (made_samples plan) → Bears plan c.gain e →
-    IsShown plan.link.samples samples s bits_of base
+    IsNear e samples (made_samples plan) → Bears plan c.gain e → IsShown plan.link.samples samples s bits_of base
 noisy_shown {width} {plan} {c} {s} {base = base} e samples is has heard read near bears =
     heard_shown samples (λ k. noisy_relates is c s.form e samples has near bears (base + k)) heard read
 

@@ -20,8 +20,7 @@ pub record IsInSpan (P : ℕ → Bool) (k first frames : ℕ) : Type 0 where
 
 -- the span from a frame that is k or before it, up to the next one after k, where that is in the file
 spanned : (P : ℕ → Bool) (k first : ℕ) (b : Bool) → P (k + 1) ≡ b → P k ≡ true → first ≤ k →
-    ((n : ℕ) → first ≤ n → n < k → P n ≡ true) →
-    IsInSpan P k first ((if b then k + 2 else k + 1) - first)
+    ((n : ℕ) → first ≤ n → n < k → P n ≡ true) → IsInSpan P k first ((if b then k + 2 else k + 1) - first)
 spanned P k first true next here low before = record {
   from = low;
   to = omega (arith, low);
@@ -42,8 +41,7 @@ spanned P k first false next here low before = record {
 }
 
 either : (P : ℕ → Bool) (k : ℕ) (a b : Bool) → P k ≡ a → P (suc k + 1) ≡ b → P (suc k) ≡ true →
-    IsInSpan P (suc k) (if a then k else suc k)
-    ((if b then suc k + 2 else suc k + 1) - (if a then k else suc k))
+    IsInSpan P (suc k) (if a then k else suc k) ((if b then suc k + 2 else suc k + 1) - (if a then k else suc k))
 either P k true b before next here =
     spanned P (suc k) k b next here (omega arith) (λ n low less. let e : k ≡ n = omega (arith, low, less) in
     subst (λ (m : ℕ). P m ≡ true) e before)
@@ -67,14 +65,12 @@ length-descrambled : (bits symbols : List Bool) → length bits ≡ length symbo
 length-descrambled [] [] long = refl
 length-descrambled [] (b ∷ symbols) long = absurd (omega (arith, long))
 length-descrambled (a ∷ bits) [] long = absurd (omega (arith, long))
-length-descrambled (a ∷ bits) (b ∷ symbols) long =
-    ap suc (length-descrambled bits symbols (omega (arith, long)))
+length-descrambled (a ∷ bits) (b ∷ symbols) long = ap suc (length-descrambled bits symbols (omega (arith, long)))
 
 pub length-scrambled : (n : ℕ) (bits symbols : List Bool) → Scrambles bits n → length symbols ≡ n →
     length (scrambled_with bits symbols) ≡ n
 length-scrambled n [] symbols scrambles long = long
-length-scrambled n (b ∷ bits) symbols scrambles long = ⊎_elim
-    (λ (none : b ∷ bits ≡ []). absurd (cc))
+length-scrambled n (b ∷ bits) symbols scrambles long = ⊎_elim (λ (none : b ∷ bits ≡ []). absurd (cc))
     (λ (all : length (b ∷ bits) ≡ n).
     length-descrambled (b ∷ bits) symbols (all ∙ sym long) ∙ long)
     scrambles
@@ -95,14 +91,12 @@ pub record IsShown (count : ℕ) (samples : List Sample) (s : StreamOf Channel) 
 
 -- the sent codeword of the span of a frame
 abbrev pub sent_codeword : ℕ → StreamOf Channel → (ℕ → List Bool) → ℕ → ℕ → Codeword
-sent_codeword count s bits_of base k =
-    span_codeword bits_of (base + span_first count s k) (span_frames count s k)
+sent_codeword count s bits_of base k = span_codeword bits_of (base + span_first count s k) (span_frames count s k)
 
 -- what is decoded of a frame, of the soft values of its span
 abbrev pub own_of_span : ℕ → List Sample → StreamOf Channel → ℕ → List Bool
 own_of_span count samples s k =
-    own_bits s.channel (span_frames count s k) (k - span_first count s k)
-    (span_frame_softs count samples s k)
+    own_bits s.channel (span_frames count s k) (k - span_first count s k) (span_frame_softs count samples s k)
 
 module _ {count : ℕ} {samples : List Sample} {s : StreamOf Channel} {bits_of : ℕ → List Bool} {base : ℕ}
     (is : IsShown count samples s bits_of base) (k : ℕ) (here : is_in_file count s k ≡ true) where
@@ -113,8 +107,7 @@ module _ {count : ℕ} {samples : List Sample} {s : StreamOf Channel} {bits_of :
   frames = span_frames count s k
 
   -- the soft values of the span have the signs of the sent codeword's symbols
-  span_shows : ShowCodeword s.channel frames (sent_codeword count s bits_of base k)
-      (span_frame_softs count samples s k)
+  span_shows : ShowCodeword s.channel frames (sent_codeword count s bits_of base k) (span_frame_softs count samples s k)
   span_shows =
       let at = in_span count s k here in
       subst (λ (xs : List Bool). HaveSigns xs (span_frame_softs count samples s k))
@@ -168,8 +161,7 @@ module _ {count : ℕ} {samples : List Sample} {s : StreamOf Channel} {bits_of :
 -- ---- a stream whose soft values are 0
 
 -- frames of one value each are one list of it
-constant_frames : {A : Type 0} (m n : ℕ) (x : A) →
-    flat_map (λ j. replicate m x) (places n) ≡ replicate (m * n) x
+constant_frames : {A : Type 0} (m n : ℕ) (x : A) → flat_map (λ j. replicate m x) (places n) ≡ replicate (m * n) x
 constant_frames {A} m zero x =
     let e : 0 ≡ m * 0 = omega arith in
     flat_map-zero (λ j. replicate m x) ∙ ap (λ (k : ℕ). replicate k x) e
@@ -184,15 +176,13 @@ constant_frames {A} m (suc n) x =
 pub silent_in_span : (count k : ℕ) (samples : List Sample) (s : StreamOf Channel) → 8 ≤ s.channel.bits →
     ((j : ℕ) → is_in_file count s j ≡ true →
     frame_softs samples s j ≡ replicate (symbols s.form) (pos 0)) →
-    is_in_file count s k ≡ true →
-    own_of_span count samples s k ≡ replicate s.channel.bits false
+    is_in_file count s k ≡ true → own_of_span count samples s k ≡ replicate s.channel.bits false
 silent_in_span count k samples s enough shown here =
     let at = in_span count s k here in
     let first = span_first count s k in
     let frames = span_frames count s k in
     ap (own_bits s.channel frames (k - first))
-    (flat_map_ext_places (λ j. frame_softs samples s (first + j))
-    (λ j. replicate (symbols s.form) (pos 0)) frames
+    (flat_map_ext_places (λ j. frame_softs samples s (first + j)) (λ j. replicate (symbols s.form) (pos 0)) frames
     (λ j lt. shown (first + j) (at.there j lt))
     ∙ constant_frames (symbols s.form) frames (pos 0))
     ∙ silent_own s.channel (symbols s.form * frames) frames (k - first) enough at.to
@@ -207,15 +197,10 @@ heard_begins Data start first channel_first base k is = omega (arith, is)
 
 -- a frame of the stream is one of the channel's
 pub heard_frame : (plan : CellPlan) (c : Carrier) (s : StreamOf Channel) (base k : ℕ) → IsHeardBy plan c s base →
-    is_in_file plan.link.samples s k ≡ true →
-    IsFrameOf plan c s.form (frame_start s k) (base + k)
+    is_in_file plan.link.samples s k ≡ true → IsFrameOf plan c s.form (frame_start s k) (base + k)
 heard_frame plan c s base k heard here = record {
   room = room_alone plan.link.samples s k
-      (record {
-        phase = phase_at plan plan.link.start;
-        row = c.row;
-        fingers = heard.alone;
-      })
+      (record { phase = phase_at plan plan.link.start; row = c.row; fingers = heard.alone })
       here;
   frame_long = heard.frame_long;
   symbol_long = heard.symbol_long;
@@ -227,8 +212,7 @@ module _ (R : Bool → ℤ → Type 0) (turns : Turns R) {plan : CellPlan} {c : 
     (read : AreReadBy c s bits_of base) where
   -- its descrambled soft values stand to the symbols before scrambling as the raw ones to those sent
   pub stream_related : (k : ℕ) → FrameRelates R plan c s.form samples (base + k) →
-      is_in_file plan.link.samples s k ≡ true →
-      AllZip R (order_of s bits_of (base + k)) (frame_softs samples s k)
+      is_in_file plan.link.samples s k ≡ true → AllZip R (order_of s bits_of (base + k)) (frame_softs samples s k)
   stream_related k relates here =
       let bits = s.scrambling k in
       let code = continued_symbols bits_of (base + k) in
@@ -239,17 +223,14 @@ module _ (R : Bool → ℤ → Type 0) (turns : Turns R) {plan : CellPlan} {c : 
       let all : length (c.symbols (base + k)) ≡ symbols s.form =
       ap length (read.sent k)
       ∙ length-scrambled (symbols s.form) bits order (read.scrambles k) long in
-      unscrambled_related R turns (symbols s.form) bits order (softs samples s.fingers s.form u)
-      (read.scrambles k) long
-      (subst (λ (fs : List Finger). AllZip R (scrambled_with bits order) (softs samples fs s.form u))
-      (sym heard.alone)
+      unscrambled_related R turns (symbols s.form) bits order (softs samples s.fingers s.form u) (read.scrambles k) long
+      (subst (λ (fs : List Finger). AllZip R (scrambled_with bits order) (softs samples fs s.form u)) (sym heard.alone)
       (subst (λ (xs : List Bool). AllZip R xs (softs samples (path_finger plan c.row ∷ []) s.form u))
       (read.sent k) (relates u (heard_frame plan c s base k heard here) all)))
 
 pub heard_shown : {plan : CellPlan} {c : Carrier} {s : StreamOf Channel} {bits_of : ℕ → List Bool} {base : ℕ}
     (samples : List Sample) → ((k : ℕ) → FrameRelates HasSign plan c s.form samples (base + k)) →
-    IsHeardBy plan c s base →
-    AreReadBy c s bits_of base → IsShown plan.link.samples samples s bits_of base
+    IsHeardBy plan c s base → AreReadBy c s bits_of base → IsShown plan.link.samples samples s bits_of base
 heard_shown samples relates heard read = record {
   whole = read.whole;
   each = read.each;

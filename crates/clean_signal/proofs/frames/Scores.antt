@@ -27,8 +27,7 @@ frame_at {A} f b (suc m) k each lt =
       | inl low ↦
           let room = within b m k low in
           ap (take b) (drop-append-le (b * k) front (f m) (omega (arith, room, long)))
-          ∙ take-append-le b (drop (b * k) front) (f m)
-          (omega (arith, room, long, length-drop (b * k) front))
+          ∙ take-append-le b (drop (b * k) front) (f m) (omega (arith, room, long, length-drop (b * k) front))
           ∙ frame_at f b m k each low
       | inr high ↦
           let e : k ≡ m = omega (arith, lt, high) in
@@ -48,8 +47,7 @@ length-before bits_of n (suc k) enough each =
     length-drop (length (bits_of k) - 8) (bits_of k) ∙ omega (arith, enough, each k)
 
 -- after the frames of a span the encoder is where the next frame begins
-state_after_span : (bits_of : ℕ → List Bool) (n first frames : ℕ) → 8 ≤ n →
-    ((j : ℕ) → length (bits_of j) ≡ n) →
+state_after_span : (bits_of : ℕ → List Bool) (n first frames : ℕ) → 8 ≤ n → ((j : ℕ) → length (bits_of j) ≡ n) →
     state_after (bits_before bits_of first) (span_codeword bits_of first frames).bits ≡
     bits_before bits_of (first + frames)
 unfolding bits_before
@@ -71,22 +69,19 @@ state_after_span bits_of n first (suc m) enough each =
     ∙ ap (bits_before bits_of) next
 
 -- the code symbols of the frames of a span are those of one codeword
-one_codeword : (bits_of : ℕ → List Bool) (n first frames : ℕ) → 8 ≤ n →
-    ((j : ℕ) → length (bits_of j) ≡ n) →
+one_codeword : (bits_of : ℕ → List Bool) (n first frames : ℕ) → 8 ≤ n → ((j : ℕ) → length (bits_of j) ≡ n) →
     flat_map (λ j. continued_symbols bits_of (first + j)) (places frames) ≡
     code_symbols (bits_before bits_of first) (span_codeword bits_of first frames).bits
 one_codeword bits_of n first zero enough each =
     flat_map-zero (λ j. continued_symbols bits_of (first + j))
-    ∙ sym (ap (code_symbols (bits_before bits_of first))
-    (flat_map-zero (λ j. bits_of (first + j))) ∙
+    ∙ sym (ap (code_symbols (bits_before bits_of first)) (flat_map-zero (λ j. bits_of (first + j))) ∙
     code_symbols-none (bits_before bits_of first))
 one_codeword bits_of n first (suc m) enough each =
     let start = bits_before bits_of first in
     let front = (span_codeword bits_of first m).bits in
     let here = bits_of (first + m) in
     flat_map-next (λ j. continued_symbols bits_of (first + j)) m
-    ∙ ap (λ (xs : List Bool). xs ++ continued_symbols bits_of (first + m))
-    (one_codeword bits_of n first m enough each)
+    ∙ ap (λ (xs : List Bool). xs ++ continued_symbols bits_of (first + m)) (one_codeword bits_of n first m enough each)
     ∙ ap (λ (xs : List Bool). code_symbols start front ++ xs) (continued_is bits_of (first + m))
     ∙ ap (λ (xs : List Bool). code_symbols start front ++ code_symbols xs here)
     (sym (state_after_span bits_of n first m enough each))
@@ -101,22 +96,19 @@ length-continued bits_of n k each =
 
 -- so the symbols of the codeword, as they are sent, are the frames' one after the other
 pub sent_as_one : (c : Channel) (bits_of : ℕ → List Bool) (first frames : ℕ) → 8 ≤ c.bits →
-    ((j : ℕ) → length (bits_of j) ≡ c.bits) →
-    sent_symbols (sending c frames) (span_codeword bits_of first frames) ≡
+    ((j : ℕ) → length (bits_of j) ≡ c.bits) → sent_symbols (sending c frames) (span_codeword bits_of first frames) ≡
     flat_map (λ j. sent c.shape c.repeats (continued_symbols bits_of (first + j))) (places frames)
 sent_as_one c bits_of first frames enough each =
     let code = λ (j : ℕ). continued_symbols bits_of (first + j) in
     let n = 2 * c.bits in
     flat_map_ext_places
     (λ j. sent c.shape c.repeats
-    (take n (drop (n * j)
-    (code_symbols (bits_before bits_of first) (span_codeword bits_of first frames).bits))))
+    (take n (drop (n * j) (code_symbols (bits_before bits_of first) (span_codeword bits_of first frames).bits))))
     (λ j. sent c.shape c.repeats (code j)) frames
     (λ j lt.
     ap (λ (xs : List Bool). sent c.shape c.repeats (take n (drop (n * j) xs)))
     (sym (one_codeword bits_of c.bits first frames enough each))
-    ∙ ap (sent c.shape c.repeats)
-    (frame_at code n frames j (λ i. length-continued bits_of c.bits (first + i) each) lt))
+    ∙ ap (sent c.shape c.repeats) (frame_at code n frames j (λ i. length-continued bits_of c.bits (first + i) each) lt))
 
 -- ---- equal sent symbols come from equal codewords
 
@@ -124,13 +116,10 @@ times_over : (c repeats : ℕ) → 0 < repeats → c * repeats / repeats ≡ c
 times_over c repeats some = div-eq_of_eq-mul_left some refl
 
 -- a code symbol where it is first sent
-sent_back : (kind : Kind) (repeats c : ℕ) (code : List Bool) → 0 < repeats →
-    c * repeats < size (shape_of kind) →
-    get_or (sent (shape_of kind) repeats code) (place (shape_of kind) (c * repeats)) false ≡
-    get_or code c false
+sent_back : (kind : Kind) (repeats c : ℕ) (code : List Bool) → 0 < repeats → c * repeats < size (shape_of kind) →
+    get_or (sent (shape_of kind) repeats code) (place (shape_of kind) (c * repeats)) false ≡ get_or code c false
 sent_back kind repeats c code some low =
-    get_or-sent (shape_of kind) repeats code (place (shape_of kind) (c * repeats))
-    (place_lt kind (c * repeats) low)
+    get_or-sent (shape_of kind) repeats code (place (shape_of kind) (c * repeats)) (place_lt kind (c * repeats) low)
     ∙ ap (λ (a : ℕ). get_or code (a / repeats) false) (address-place kind (c * repeats) low)
     ∙ ap (λ (a : ℕ). get_or code a false) (times_over c repeats some)
 
@@ -143,8 +132,7 @@ sent_same kind repeats n one other fills long long' same =
     ext_get_or false one other (long ∙ sym long')
     (λ c lt.
     let low : c * repeats < size (shape_of kind) =
-    let most : (c + 1) * repeats ≤ n * repeats =
-    mul-le-mul_right repeats (omega (arith, lt, long)) in
+    let most : (c + 1) * repeats ≤ n * repeats = mul-le-mul_right repeats (omega (arith, lt, long)) in
     omega (arith, most, some, fills) in
     sym (sent_back kind repeats c one some low)
     ∙ ap (λ (xs : List Bool). get_or xs (place (shape_of kind) (c * repeats)) false) same
@@ -171,8 +159,7 @@ piece_long xs size n k long lt =
 frames_same : (kind : Kind) (repeats n frames : ℕ) (one other : List Bool) →
     n * repeats ≡ size (shape_of kind) → length one ≡ n * frames → length other ≡ n * frames →
     flat_map (λ k. sent (shape_of kind) repeats (take n (drop (n * k) one))) (places frames) ≡
-    flat_map (λ k. sent (shape_of kind) repeats (take n (drop (n * k) other))) (places frames) →
-    one ≡ other
+    flat_map (λ k. sent (shape_of kind) repeats (take n (drop (n * k) other))) (places frames) → one ≡ other
 frames_same kind repeats n frames one other fills long long' same =
     let s = shape_of kind in
     let piece = λ (xs : List Bool) (k : ℕ). take n (drop (n * k) xs) in
@@ -197,28 +184,23 @@ frames_same kind repeats n frames one other fills long long' same =
 abbrev channel : Kind → ℕ → ℕ → Channel
 channel kind bits repeats = record { shape = shape_of kind; bits = bits; repeats = repeats }
 
-code_long : (w : Codeword) (bits n : ℕ) → length w.bits ≡ bits * n →
-    length (code_symbols w.start w.bits) ≡ 2 * bits * n
-code_long w bits n long =
-    length-code_symbols w.start w.bits ∙ ap (λ (k : ℕ). 2 * k) long ∙ omega arith
+code_long : (w : Codeword) (bits n : ℕ) → length w.bits ≡ bits * n → length (code_symbols w.start w.bits) ≡ 2 * bits * n
+code_long w bits n long = length-code_symbols w.start w.bits ∙ ap (λ (k : ℕ). 2 * k) long ∙ omega arith
 
 codeword_same : (kind : Kind) (bits repeats n : ℕ) (w v : Codeword) →
     2 * bits * repeats ≡ size (shape_of kind) → 8 ≤ bits * n → IsAllowed Free (bits * n) w →
-    IsAllowed Free (bits * n) v →
-    sent_symbols (sending (channel kind bits repeats) n) w ≡
+    IsAllowed Free (bits * n) v → sent_symbols (sending (channel kind bits repeats) n) w ≡
     sent_symbols (sending (channel kind bits repeats) n) v → w ≡ v
 codeword_same kind bits repeats n w v fills enough p q same =
     let symbols =
     frames_same kind repeats (2 * bits) n (code_symbols w.start w.bits)
-    (code_symbols v.start v.bits) fills (code_long w bits n p.bits_long)
-    (code_long v bits n q.bits_long) same in
+    (code_symbols v.start v.bits) fills (code_long w bits n p.bits_long) (code_long v bits n q.bits_long) same in
     let fixed =
     distinct w.start v.start w.bits v.bits p.start_long q.start_long
     (omega (arith, enough, p.bits_long)) (p.bits_long ∙ sym q.bits_long) symbols in
     codewords_same w v fixed.starts fixed.all
 
-length-sent_symbols : (c : Channel) (n : ℕ) (w : Codeword) →
-    length (sent_symbols (sending c n) w) ≡ size c.shape * n
+length-sent_symbols : (c : Channel) (n : ℕ) (w : Codeword) → length (sent_symbols (sending c n) w) ≡ size c.shape * n
 length-sent_symbols c n w =
     length-frames
     (λ k. sent c.shape c.repeats
@@ -240,11 +222,9 @@ module _ (kind : Kind) (bits repeats n : ℕ) (best : Codeword) (softs : List �
   kind_alone : (w : Codeword) → IsAllowed Free (bits * n) w → w ≢ best →
       score softs (sending c n) w <ℤ score softs (sending c n) best
   kind_alone w q other =
-      by_lt_z (score softs (sending c n) w) (score softs (sending c n) best)
-      (λ less. less)
+      by_lt_z (score softs (sending c n) w) (score softs (sending c n) best) (λ less. less)
       (λ reaches. absurd (other (codeword_same kind bits repeats n w best fills enough q p
-      (sym (signs_agree_alone softs (sent_symbols (sending c n) best)
-      (sent_symbols (sending c n) w) show
+      (sym (signs_agree_alone softs (sent_symbols (sending c n) best) (sent_symbols (sending c n) w) show
       (length-sent_symbols c n best ∙ sym (length-sent_symbols c n w)) reaches)))))
 
   -- so it is decoded from the gathered soft values
@@ -258,8 +238,7 @@ module _ (kind : Kind) (bits repeats n : ℕ) (best : Codeword) (softs : List �
             sym (length-gathered_span kind bits repeats n softs fills ∙ omega arith);
         allowed = subst (λ (k : ℕ). IsAllowed Free k best) (sym p.bits_long) p;
         first = λ w q other.
-            let q' : IsAllowed Free (bits * n) w =
-            subst (λ (k : ℕ). IsAllowed Free k w) p.bits_long q in
+            let q' : IsAllowed Free (bits * n) w = subst (λ (k : ℕ). IsAllowed Free k w) p.bits_long q in
             let less = kind_alone w q' other in
             let one = score_is kind bits repeats n softs w fills size_is q'.bits_long in
             let two = score_is kind bits repeats n softs best fills size_is p.bits_long in
@@ -269,16 +248,14 @@ module _ (kind : Kind) (bits repeats n : ℕ) (best : Codeword) (softs : List �
 -- the bits of a frame of it
 kind_own : (kind : Kind) (bits repeats n own : ℕ) (best : Codeword) (softs : List ℤ) →
     2 * bits * repeats ≡ size (shape_of kind) → 8 ≤ bits →
-    ShowCodeword (channel kind bits repeats) n best softs → own < n →
-    IsAllowed Free (bits * n) best →
+    ShowCodeword (channel kind bits repeats) n best softs → own < n → IsAllowed Free (bits * n) best →
     own_bits (channel kind bits repeats) n own softs ≡ take bits (drop (bits * own) best.bits)
 kind_own kind bits repeats n own best softs fills enough show lt p =
     let c = channel kind bits repeats in
     let room = within bits n own lt in
     sym (own_is kind bits repeats n own softs best enough fills
     (AllZip-long HasSign (sent_symbols (sending c n) best) softs show ∙ length-sent_symbols c n best)
-    lt
-    (kind_best kind bits repeats n best softs fills (omega (arith, room, enough)) show p))
+    lt (kind_best kind bits repeats n best softs fills (omega (arith, room, enough)) show p))
 
 -- ---- soft values of 0
 
@@ -291,8 +268,7 @@ silent_own c m n own enough lt =
     let zeros : Codeword = record { start = replicate 8 false; bits = replicate bits false } in
     let long : 8 ≤ bits = omega (arith, room, enough) in
     let best : best_codeword (score (replicate m (pos 0)) (sending c n)) Free bits ≡ zeros =
-    best_codeword-same (score (replicate m (pos 0)) (sending c n))
-    (score_of (replicate (2 * bits) (pos 0))) bits
+    best_codeword-same (score (replicate m (pos 0)) (sending c n)) (score_of (replicate (2 * bits) (pos 0))) bits
     (λ w size. zeros_score m (sent_symbols (sending c n) w) ∙
     sym (zeros_score (2 * bits) (code_symbols w.start w.bits)))
     ∙ sym (by_definition (replicate (2 * bits) (pos 0)) Free bits zeros long
@@ -333,8 +309,7 @@ whole_frames (Paging rate) = record {
     paging_enough R9600 = omega arith
     paging_enough rate = omega arith
 
-kind_of : (c : Channel) (symbols : ℕ) (whole : IsWholeChannel c symbols) →
-    c ≡ channel whole.kind c.bits c.repeats
+kind_of : (c : Channel) (symbols : ℕ) (whole : IsWholeChannel c symbols) → c ≡ channel whole.kind c.bits c.repeats
 kind_of c symbols whole =
     let shaped : Shape → Channel = λ s. record { shape = s; bits = c.bits; repeats = c.repeats } in
     ap shaped whole.shape
@@ -350,12 +325,10 @@ shown_codeword_alone c symbols n best w softs whole enough show p q other =
     (subst (λ (d : Channel). ShowCodeword d n best softs) is show) p w q other)
 
 pub shown_codeword_own : (c : Channel) (symbols n own : ℕ) (best : Codeword) (softs : List ℤ) →
-    IsWholeChannel c symbols → ShowCodeword c n best softs → own < n →
-    IsAllowed Free (c.bits * n) best →
+    IsWholeChannel c symbols → ShowCodeword c n best softs → own < n → IsAllowed Free (c.bits * n) best →
     own_bits c n own softs ≡ take c.bits (drop (c.bits * own) best.bits)
 shown_codeword_own c symbols n own best softs whole show lt p =
     let is = kind_of c symbols whole in
-    subst (λ (d : Channel). own_bits d n own softs ≡ take c.bits (drop (c.bits * own) best.bits))
-    (sym is)
+    subst (λ (d : Channel). own_bits d n own softs ≡ take c.bits (drop (c.bits * own) best.bits)) (sym is)
     (kind_own whole.kind c.bits c.repeats n own best softs (whole.fills ∙ ap size whole.shape)
     whole.enough (subst (λ (d : Channel). ShowCodeword d n best softs) is show) lt p)

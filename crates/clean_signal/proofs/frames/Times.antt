@@ -15,8 +15,7 @@ pub end_of_one : (u phase row : ℕ) (form : Form) →
 end_of_one u phase row form = end_at u (frame_chips form)
 
 -- it lies in the file just where it ends there
-ends_within : (u n count : ℕ) →
-    ((int_le (pos 0) (pos u) && int_le ((pos u -ℤ pos 0) +ℤ pos n) (pos count)) && true) ≡
+ends_within : (u n count : ℕ) → ((int_le (pos 0) (pos u) && int_le ((pos u -ℤ pos 0) +ℤ pos n) (pos count)) && true) ≡
     nat_le (u + n) count
 ends_within u n count = grind (arith, ints)
 
@@ -51,5 +50,4 @@ inside_alone count s k alone h = inside_is count s k alone ∙ le-leb (ends_at s
 
 pub room_alone : (count : ℕ) (s : StreamOf Channel) (k : ℕ) → IsAlone s → is_in_file count s k ≡ true →
     ends_at s k ≤ count
-room_alone count s k alone h =
-    leb-true (ends_at s k) count (sym (inside_is count s k alone) ∙ h)
+room_alone count s k alone h = leb-true (ends_at s k) count (sym (inside_is count s k alone) ∙ h)

@@ -53,8 +53,7 @@ close_added e x y small =
     record { i = omega (arith, ints, p); q = omega (arith, ints, q) }
 
 near_added : (e : ℕ) (xs ys : List Sample) (d : Sample) →
-    ((i : ℕ) → i < length ys → IsSmall e (of_sample (get_or ys i d))) →
-    IsNear e (with_added xs ys) xs
+    ((i : ℕ) → i < length ys → IsSmall e (of_sample (get_or ys i d))) → IsNear e (with_added xs ys) xs
 near_added e [] ys d each = tt
 near_added e (x ∷ xs) [] d each = near-self e (x ∷ xs)
 near_added e (x ∷ xs) (y ∷ ys) d each = (
@@ -108,8 +107,7 @@ distributed d x y = distrib d x (neg_ℤ y) ∙ ap (λ (z : ℤ). (d *ℤ x) +�
 rounded_near : (d e : ℕ) (x r u : ℤ) → unsigned_abs (x -ℤ (pos d *ℤ u)) ≤ e * d →
     IsRounded d x r → unsigned_abs (r -ℤ u) ≤ e
 rounded_near d e x r u near rounded =
-    let whole : unsigned_abs ((pos d *ℤ r) -ℤ (pos d *ℤ u)) < d * (e + 1) =
-    omega (arith, ints, near, rounded) in
+    let whole : unsigned_abs ((pos d *ℤ r) -ℤ (pos d *ℤ u)) < d * (e + 1) = omega (arith, ints, near, rounded) in
     let size : unsigned_abs (pos d *ℤ (r -ℤ u)) ≡ d * unsigned_abs (r -ℤ u) = unsigned_abs-mul (pos d) (r -ℤ u) in
     let less : d * unsigned_abs (r -ℤ u) < d * (e + 1) = rw (← size, distributed (pos d) r u) whole in
     let all = lt_of_mul-lt-mul_left d less in
@@ -134,8 +132,7 @@ rounded_list d e (x ∷ xs) (r ∷ rs) (u ∷ us) near rounded = (
 
 -- ---- a louder link
 
-louder_times : (d : ℕ) (factor chip : Pair) →
-    sample_with (times (scaled (pos d) factor) chip)
+louder_times : (d : ℕ) (factor chip : Pair) → sample_with (times (scaled (pos d) factor) chip)
     ≡ louder_sample d (sample_with (times factor chip))
 louder_times d factor chip =
     let by = mul_assoc_ℤ (pos d) in
@@ -148,8 +145,7 @@ louder_times d factor chip =
       distrib (pos d) (factor.i *ℤ chip.q) (factor.q *ℤ chip.i),
     ) refl
 
-louder_all : (d : ℕ) (plan : CellPlan) (ts : List ℕ) →
-    map sample_with (map (sample_of (louder d plan)) ts)
+louder_all : (d : ℕ) (plan : CellPlan) (ts : List ℕ) → map sample_with (map (sample_of (louder d plan)) ts)
     ≡ map (louder_sample d) (map sample_with (map (sample_of plan) ts))
 unfolding sample_of carriers
 louder_all d plan [] = refl

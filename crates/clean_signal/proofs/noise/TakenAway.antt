@@ -22,15 +22,13 @@ use Rattle.clean_signal.specs.BoundedNoise as laws
 
 -- ---- how near the samples are
 
-close_i : (X Y U V x y : ℤ) (p q : Bool) (n : ℕ) → X ≡ U +ℤ x → Y ≡ V +ℤ y →
-    unsigned_abs x + unsigned_abs y ≤ n →
+close_i : (X Y U V x y : ℤ) (p q : Bool) (n : ℕ) → X ≡ U +ℤ x → Y ≡ V +ℤ y → unsigned_abs x + unsigned_abs y ≤ n →
     unsigned_abs (((U *ℤ sign p) -ℤ (V *ℤ sign q)) -ℤ ((X *ℤ sign p) -ℤ (Y *ℤ sign q))) ≤ n
 close_i X Y U V x y true true n i q few = omega (arith, ints, i, q, few)
 close_i X Y U V x y false true n i q few = omega (arith, ints, i, q, few)
 close_i X Y U V x y b c n i q few = omega (arith, ints, i, q, few)
 
-close_q : (X Y U V x y : ℤ) (p q : Bool) (n : ℕ) → X ≡ U +ℤ x → Y ≡ V +ℤ y →
-    unsigned_abs x + unsigned_abs y ≤ n →
+close_q : (X Y U V x y : ℤ) (p q : Bool) (n : ℕ) → X ≡ U +ℤ x → Y ≡ V +ℤ y → unsigned_abs x + unsigned_abs y ≤ n →
     unsigned_abs (((U *ℤ sign q) +ℤ (V *ℤ sign p)) -ℤ ((X *ℤ sign q) +ℤ (Y *ℤ sign p))) ≤ n
 close_q X Y U V x y true true n i q few = omega (arith, ints, i, q, few)
 close_q X Y U V x y false true n i q few = omega (arith, ints, i, q, few)
@@ -48,14 +46,12 @@ part_small a x y gain few =
     let i = unsigned_abs-mul a x in
     let q = unsigned_abs-mul a y in
     let all : unsigned_abs a * (unsigned_abs x + unsigned_abs y) ≤
-    gain * (unsigned_abs x + unsigned_abs y) =
-    mul-le-mul_right (unsigned_abs x + unsigned_abs y) few in
+    gain * (unsigned_abs x + unsigned_abs y) = mul-le-mul_right (unsigned_abs x + unsigned_abs y) few in
     omega (arith, i, q, all)
 
 -- two samples that differ by a part of the amplitude
 close_part : (a b : ℤ) (gain : ℕ) (h : Pair) (chips : Bool × Bool) → unsigned_abs b ≤ gain →
-    IsCloseSample (gain * (unsigned_abs h.i + unsigned_abs h.q))
-    (sample_with (times (scaled (a -ℤ b) h) (point chips)))
+    IsCloseSample (gain * (unsigned_abs h.i + unsigned_abs h.q)) (sample_with (times (scaled (a -ℤ b) h) (point chips)))
     (sample_with (times (scaled a h) (point chips)))
 close_part a b gain h chips few =
     let n = gain * (unsigned_abs h.i + unsigned_abs h.q) in
@@ -85,8 +81,7 @@ near_places plan c (t ∷ ts) = (
 -- ---- what the channel's row finds
 
 without_sent : (plan : CellPlan) (c : Carrier) →
-    AreSentAs plan (λ chip. amplitudes chip (carriers plan) -ℤ amplitude chip c)
-    (samples_without plan c)
+    AreSentAs plan (λ chip. amplitudes chip (carriers plan) -ℤ amplitude chip c) (samples_without plan c)
 unfolding samples_without
 without_sent plan c = record {
   long = length-map-places (λ t. sample_with (sample_without plan c t)) plan.link.samples;
@@ -96,19 +91,16 @@ without_sent plan c = record {
       lt);
 }
 
-difference : (n : ℕ) (f g : ℕ → ℤ) →
-    sum_below n (λ k. f k -ℤ g k) ≡ sum_below n f -ℤ sum_below n g
+difference : (n : ℕ) (f g : ℕ → ℤ) → sum_below n (λ k. f k -ℤ g k) ≡ sum_below n f -ℤ sum_below n g
 difference n f g = sum_plus n f (λ k. neg_ℤ (g k)) ∙ ap (λ (z : ℤ). sum_below n f +ℤ z) (sum_turned n g)
 
-signed_difference : (b : Bool) (x y : ℤ) →
-    sign b *ℤ (x -ℤ y) ≡ (sign b *ℤ x) -ℤ (sign b *ℤ (y +ℤ pos 0))
+signed_difference : (b : Bool) (x y : ℤ) → sign b *ℤ (x -ℤ y) ≡ (sign b *ℤ x) -ℤ (sign b *ℤ (y +ℤ pos 0))
 signed_difference true x y = omega (arith, ints)
 signed_difference false x y = omega (arith, ints)
 
 -- It finds as much of all channels as of its own alone, and so nothing where that is taken away.
 nothing_left : (row b m : ℕ) (c : Carrier) (cs : List Carrier) (l : ℤ) → row < 64 →
-    All IsAligned cs → All IsAligned (c ∷ []) →
-    ((i : ℕ) → i < m → level_at row cs (64 * (b + i)) ≡ l) →
+    All IsAligned cs → All IsAligned (c ∷ []) → ((i : ℕ) → i < m → level_at row cs (64 * (b + i)) ≡ l) →
     ((i : ℕ) → i < m → level_at row (c ∷ []) (64 * (b + i)) ≡ l) →
     Finds row (λ chip. amplitudes chip cs -ℤ amplitude chip c) b m (pos 0)
 nothing_left row b m c cs l below all one each own =
@@ -117,8 +109,7 @@ nothing_left row b m c cs l below all one each own =
     let x : sum_below (64 * m) f ≡ pos (64 * m) *ℤ l = chips_sum row b m cs l below all each in
     let y : sum_below (64 * m) g ≡ pos (64 * m) *ℤ l = chips_sum row b m (c ∷ []) l below one own in
     sum_same (64 * m) _ _
-    (λ k lt. signed_difference (walsh row (k % 64)) (amplitudes (64 * b + k) cs)
-    (amplitude (64 * b + k) c))
+    (λ k lt. signed_difference (walsh row (k % 64)) (amplitudes (64 * b + k) cs) (amplitude (64 * b + k) c))
     ∙ difference (64 * m) f g
     ∙ no_more (sum_below (64 * m) f) (sum_below (64 * m) g) (64 * m) (x ∙ sym y)
   where
@@ -129,8 +120,7 @@ nothing_left row b m c cs l below all one each own =
 
 -- ---- a soft value without the channel
 
-no_product : (p : Pair) (h : Pair) (n : ℕ) →
-    turned_part p (scaled (pos 2 *ℤ (pos n *ℤ pos 0)) h) ≡ pos 0
+no_product : (p : Pair) (h : Pair) (n : ℕ) → turned_part p (scaled (pos 2 *ℤ (pos n *ℤ pos 0)) h) ≡ pos 0
 no_product p h n =
     let z = times_none (pos 2) (pos n *ℤ pos 0) (times_none (pos n) (pos 0) refl) in
     let i : (pos 2 *ℤ (pos n *ℤ pos 0)) *ℤ h.i ≡ pos 0 = ap (λ (x : ℤ). x *ℤ h.i) z ∙ omega (arith, ints) in
@@ -161,8 +151,7 @@ no_soft {width} {plan} {c} {form} {u} {frame} is has sent j few =
     (nothing_left c.row block (symbol_blocks form) c (carriers plan) l row.row apart.aligned
     (All-cons IsAligned c [] row (All-nil IsAligned)) each
     (λ i lt.
-    level_at-alone (64 * (block + i)) (c ∷ []) c (All-nil (λ (d : Carrier). d.row ≢ c.row), tt)
-    (0, omega arith, refl)
+    level_at-alone (64 * (block + i)) (c ∷ []) c (All-nil (λ (d : Carrier). d.row ≢ c.row), tt) (0, omega arith, refl)
     ∙ sym (level_at-alone (64 * (block + i)) (carriers plan) c apart.own_rows has)
     ∙ each i lt)))
     ∙ no_product p plan.link.factor (symbol_chips form)
@@ -185,12 +174,10 @@ symbols_some Data = omega arith
 near-more : (d e : ℕ) (xs ys : List Sample) → d ≤ e → IsNear d xs ys → IsNear e xs ys
 near-more d e xs ys more near =
     let rest : d + (e - d) ≡ e = omega (arith, more) in
-    subst (λ (n : ℕ). IsNear n xs ys) rest
-    (near-near d (e - d) xs ys ys near (near-self (e - d) ys))
+    subst (λ (n : ℕ). IsNear n xs ys) rest (near-near d (e - d) xs ys ys near (near-self (e - d) ys))
 
 -- no symbol has a soft value of 0
-signs_lost : (bits : List Bool) (n : ℕ) → length bits ≡ n → 0 < n →
-    ¬ (HaveSigns bits (replicate n (pos 0)))
+signs_lost : (bits : List Bool) (n : ℕ) → length bits ≡ n → 0 < n → ¬ (HaveSigns bits (replicate n (pos 0)))
 signs_lost [] n long some signs = absurd (omega (arith, long, some))
 signs_lost (true ∷ bits) (suc n) long some signs =
     let first : pos 0 <ℤ (pos 0 *ℤ sign true) = signs.0 in absurd (omega (arith, ints, first))
@@ -201,8 +188,7 @@ signs_lost (b ∷ bits) zero long some signs = absurd (omega (arith, some))
 pub exact : laws.MarginsAreExact
 exact width plan c form u frame e is has axis soft_enough at long = (
   λ bears samples near. noisy_signs width plan c form u frame e samples is has at long near bears,
-  λ all. ⊎_elim
-      (λ (borne : e < channel_loudness plan c.gain). (below_amplitude plan c.gain e axis soft_enough).1 borne)
+  λ all. ⊎_elim (λ (borne : e < channel_loudness plan c.gain). (below_amplitude plan c.gain e axis soft_enough).1 borne)
       (λ (lost : channel_loudness plan c.gain ≤ e).
       absurd (signs_lost (c.symbols frame) (symbols form) long (symbols_some form)
       (subst (HaveSigns (c.symbols frame)) ((taken_away width plan c is has).1 form u frame at)

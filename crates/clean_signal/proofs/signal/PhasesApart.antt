@@ -41,8 +41,7 @@ turn_of m n = unit (odd_of m n) (way_of m n)
 
 -- ---- sums by index
 
-amount_append : (a : ℕ → ℕ) (n m : ℕ) →
-    amount_to a (n + m) ≡ amount_to a n + amount_to (λ t. a (n + t)) m
+amount_append : (a : ℕ → ℕ) (n m : ℕ) → amount_to a (n + m) ≡ amount_to a n + amount_to (λ t. a (n + t)) m
 unfolding amount_to
 amount_append a n zero = let e : n + 0 ≡ n = omega arith in rw e (omega arith)
 amount_append a n (suc m) =
@@ -71,8 +70,7 @@ abbrev pub side : Bool → Pair → ℤ
 side false z = z.i
 side true z = z.q
 
-at_first : (part : Pair → ℤ) (a : ℕ → ℕ) (phase f : ℕ) →
-    part_at part a phase f 0 ≡ pos (a 0) *ℤ part (turn_of phase f)
+at_first : (part : Pair → ℤ) (a : ℕ → ℕ) (phase f : ℕ) → part_at part a phase f 0 ≡ pos (a 0) *ℤ part (turn_of phase f)
 at_first part a phase f =
     let p : phase + 0 ≡ phase = omega arith in
     let q : f + 0 ≡ f = omega arith in
@@ -92,13 +90,11 @@ front : (part : Pair → ℤ) (a : ℕ → ℕ) (phase f n : ℕ) → part_to pa
 front part a phase f n =
     sum_front n (part_at part a phase f)
     ∙ ap (λ (z : ℤ). z +ℤ sum_below n (λ t. part_at part a phase f (suc t))) (at_first part a phase f)
-    ∙ ap (λ (z : ℤ). (pos (a 0) *ℤ part (turn_of phase f)) +ℤ z)
-    (sum_same n _ _ (λ t lt. at_next part a phase f t))
+    ∙ ap (λ (z : ℤ). (pos (a 0) *ℤ part (turn_of phase f)) +ℤ z) (sum_same n _ _ (λ t lt. at_next part a phase f t))
 
 -- what so many samples add up to at phase f, over the link
 abbrev pub turned_to : (ℕ → ℕ) → ℕ → ℕ → ℕ → Pair
-turned_to a phase f n =
-    record { i = part_to (side false) a phase f n; q = part_to (side true) a phase f n }
+turned_to a phase f n = record { i = part_to (side false) a phase f n; q = part_to (side true) a phase f n }
 
 pub turned_is : (h : Pair) (f phase : ℕ) (a : ℕ → ℕ) (xs : List Sample) → AreSpread h phase a xs →
     sum_of (despread f xs) ≡ times h (turned_to a phase f (length xs))
@@ -175,8 +171,7 @@ module _ (a : ℕ → ℕ) (phase f least : ℕ) (each : (t : ℕ) → least ≤
 
   steady_one_more : (n : ℕ) → IsSteadyTo n → odd_of (phase + n) (f + n) ≡ odd_of phase f →
       way_of (phase + n) (f + n) ≡ way_of phase f → IsSteadyTo (suc n)
-  steady_one_more n steady odd way t lt = ⊎_elim
-      (λ (before : t < n). steady t before)
+  steady_one_more n steady odd way t lt = ⊎_elim (λ (before : t < n). steady t before)
       (λ (last : n ≤ t).
       let same : n ≡ t = omega (arith, lt, last) in
       subst (λ (j : ℕ). (odd_of (phase + j) (f + j) ≡ odd_of phase f)
@@ -207,8 +202,7 @@ module _ (a : ℕ → ℕ) (phase f least : ℕ) (each : (t : ℕ) → least ≤
 
   -- the first turn that differs
   first_apart : (n : ℕ) → IsOneTurnTo n →
-      (odd_of phase f ≡ odd_of (phase + n) (f + n) → way_of phase f ≡ way_of (phase + n) (f + n) → ⊥) →
-      IsLessTo (suc n)
+      (odd_of phase f ≡ odd_of (phase + n) (f + n) → way_of phase f ≡ way_of (phase + n) (f + n) → ⊥) → IsLessTo (suc n)
   unfolding sum_below amount_to
   first_apart zero one differ =
       let p : phase ≡ phase + 0 = omega arith in
@@ -255,8 +249,7 @@ module _ (a : ℕ → ℕ) (phase f least : ℕ) (each : (t : ℕ) → least ≤
   window_less : phase < 32768 → f < 32768 → phase ≢ f → IsLessTo 16
   window_less low_phase low_f differ = ⊎_elim
       (λ (one : IsOneTurnTo 16). absurd (differ (one_phase phase f low_phase low_f one.0)))
-      (λ (less : IsLessTo 16). less)
-      (either_to 16)
+      (λ (less : IsLessTo 16). less) (either_to 16)
 
 -- ---- one window after the other
 
@@ -264,10 +257,8 @@ abbrev turn_by : ℕ → ℕ → Pair
 turn_by m n = let c = pilot_chip m in let d = pilot_chip n in
     unit (odd_step c.0 c.1 d.0 d.1) (way_step c.0 c.1 d.0 d.1)
 
-same_turn : (m n x y : ℕ) → m % 32768 ≡ x % 32768 → n % 32768 ≡ y % 32768 →
-    turn_of m n ≡ turn_of x y
-same_turn m n x y p q =
-    ap (λ (k : ℕ). turn_by k (n % 32768)) p ∙ ap (turn_by (x % 32768)) q
+same_turn : (m n x y : ℕ) → m % 32768 ≡ x % 32768 → n % 32768 ≡ y % 32768 → turn_of m n ≡ turn_of x y
+same_turn m n x y p q = ap (λ (k : ℕ). turn_by k (n % 32768)) p ∙ ap (turn_by (x % 32768)) q
 
 -- one window more
 window_more : (before window both : ℤ) (a w all least k : ℕ) → both ≡ before +ℤ window →
@@ -280,9 +271,7 @@ window_more before window both a w all least k is rest here long =
 
 module _ (a : ℕ → ℕ) (phase f least : ℕ) (each : (t : ℕ) → least ≤ a t) (low_phase : phase < 32768)
     (low_f : f < 32768) (differ : phase ≢ f) where
-  window_part : (part : Pair → ℤ) (k : ℕ) →
-      part_to part a phase f (16 * k + 16) ≡
-      part_to part a phase f (16 * k) +ℤ
+  window_part : (part : Pair → ℤ) (k : ℕ) → part_to part a phase f (16 * k + 16) ≡ part_to part a phase f (16 * k) +ℤ
       part_to part (λ j. a (16 * k + j)) ((phase + 16 * k) % 32768) ((f + 16 * k) % 32768) 16
   window_part part k =
       sum_append (16 * k) 16 (part_at part a phase f)

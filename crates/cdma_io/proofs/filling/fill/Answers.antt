@@ -28,8 +28,7 @@ returns-then-count-eq0-clause-taken g c =
 
 -- what was taken before a take failed, where the buffer had room left
 taken_to_failure : (old mid new : Option (List ℕ)) (buf : List ℕ) (at most : ℕ) →
-    at < length buf → length buf ≡ most → Consumes old mid (take at buf) → Keeps mid new →
-    ConsumesFewer most old new
+    at < length buf → length buf ≡ most → Consumes old mid (take at buf) → Keeps mid new → ConsumesFewer most old new
 taken_to_failure old mid new buf at most within room before kept = record {
   bytes = take at buf;
   fits = omega (arith, length-take-le at buf (omega (arith, within)), within, room);

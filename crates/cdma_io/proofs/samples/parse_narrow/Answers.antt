@@ -11,5 +11,4 @@ returns-clause-spelled c =
     let small : AreBytes bytes = λ k. let fits = c.type_inv.bytes k in omega arith in
     spelled_narrow bytes _ _ c.requires small
     (widened (get_or bytes 0 0) _ _ (small 0) c.cast_signed.ensures c.from.ensures (search rules))
-    (widened (get_or bytes 1 0) _ _ (small 1) c.cast_signed-2.ensures c.from-2.ensures
-    (search rules))
+    (widened (get_or bytes 1 0) _ _ (small 1) c.cast_signed-2.ensures c.from-2.ensures (search rules))

@@ -10,21 +10,14 @@ loop-k-preserved c =
     rw (c.from.ensures, differ_is c.get.result chip) at c.append.ensures in
     record {
       bits = e ∙ mixed_more c.args.symbols.now c.args.chips.now c.loop-k.out c.loop-k.k
-          c.get.result chip c.get.ensures
-          (omega (arith, c.loop-k-test.true, c.len-k-end.ensures.value))
+          c.get.result chip c.get.ensures (omega (arith, c.loop-k-test.true, c.len-k-end.ensures.value))
           (omega (arith, c.loop-k-test.true, c.len-k-end.ensures.value, c.requires, c.told-chips))
           refl i.bits;
-      count = omega (
-        arith,
-        ap length e,
-        length-append c.loop-k.out (xor c.get.result chip ∷ []),
-        i.count,
-      );
+      count = omega (arith, ap length e, length-append c.loop-k.out (xor c.get.result chip ∷ []), i.count);
     }
 
 pub returns-clause-value : goal.returns-clause-value
 returns-clause-value c =
     let end = c.len-k-end.ensures.value in
-    mixed_all c.args.symbols.now c.args.chips.now c.loop-k.out c.loop-k.k
-    (omega (arith, c.loop-k-test.false, end))
+    mixed_all c.args.symbols.now c.args.chips.now c.loop-k.out c.loop-k.k (omega (arith, c.loop-k-test.false, end))
     (omega (arith, c.loop-k-test.false, end, c.requires, c.told-chips)) c.loop-k.invariant.bits

@@ -23,19 +23,15 @@ loop-n-preserved c =
     let old = c.loop-n.channels in
     let channel = get_or old n c.index-channels-n.result in
     let cs = map carrier_of c.args.channels.now in
-    let here : n < length cs =
-    omega (arith, c.loop-n-test.true, lists.length-map c.args.channels.now carrier_of) in
-    let room : n < length c.loop-n.levels =
-    omega (arith, c.loop-n-test.true, c.requires.few, inv.long) in
+    let here : n < length cs = omega (arith, c.loop-n-test.true, lists.length-map c.args.channels.now carrier_of) in
+    let room : n < length c.loop-n.levels = omega (arith, c.loop-n-test.true, c.requires.few, inv.long) in
     let is : get_or cs n (carrier_of c.index-channels-n.result) ≡ carrier_of channel =
     get_or-map carrier_of c.args.channels.now n c.index-channels-n.result
-    ∙ ap (λ (xs : List ChannelState). carrier_of (get_or xs n c.index-channels-n.result))
-    (sym inv.same) in
+    ∙ ap (λ (xs : List ChannelState). carrier_of (get_or xs n c.index-channels-n.result)) (sym inv.same) in
     let one = c.keep_level-is_same in
     let kept_is : one.new.levels ≡ set c.loop-n.levels n c.level-level.result =
     one.ensures.set
-    ∙ ap (set c.loop-n.levels n)
-    (read64 c.level-level.result (omega (arith, c.level-level.ensures.bound))) in
+    ∙ ap (set c.loop-n.levels n) (read64 c.level-level.result (omega (arith, c.level-level.ensures.bound))) in
     record {
       same = ap (set old n) c.level-level.ensures.same
           ∙ lists.set-get_or old n c.index-channels-n.result ∙ inv.same;

@@ -40,13 +40,10 @@ loop-n-preserved c =
     let l = get_or c.args.levels.now n (pos 0) in
     let inside : c.from-row.result < length c.loop-n.sums =
     omega (arith, c.from-row.ensures, c.row.ensures.below, inv.long) in
-    let here : n < length cs =
-    omega (arith, c.loop-n-test.true, lists.length-map channels carrier_of) in
+    let here : n < length cs = omega (arith, c.loop-n-test.true, lists.length-map channels carrier_of) in
     let room : n < length c.args.levels.now = omega (arith, c.loop-n-test.true, c.requires.few) in
-    let small : unsigned_abs l ≤ 65535 =
-    All-get_or IsLevel c.args.levels.now n (pos 0) room c.requires.small in
-    let is : get_or cs n (carrier_of item) ≡ carrier_of channel =
-    get_or-map carrier_of channels n item in
+    let small : unsigned_abs l ≤ 65535 = All-get_or IsLevel c.args.levels.now n (pos 0) room c.requires.small in
+    let is : get_or cs n (carrier_of item) ≡ carrier_of channel = get_or-map carrier_of channels n item in
     let read : to_z w64 (of_z w64 l) ≡ l = read64 l (omega (arith, small)) in
     let added : c.with_level.result
     ≡ plus (get_or c.loop-n.sums c.from-row.result origin) (scaled l c.args.factor) =

@@ -3,8 +3,7 @@ use Rattle.cell_samples.proofs.Blocks.{level_part_fits, level_sum_fits}
 use Rattle.cell_samples.proofs.block.with_level.Goals as goal
 
 pub overflow_mul-result : goal.overflow_mul-result
-overflow_mul-result c =
-    level_part_fits c.args.level c.args.factor.i c.requires.level c.requires.factor.0
+overflow_mul-result c = level_part_fits c.args.level c.args.factor.i c.requires.level c.requires.factor.0
 
 pub overflow_add-result : goal.overflow_add-result
 overflow_add-result c =
@@ -12,8 +11,7 @@ overflow_add-result c =
     level_sum_fits c.args.sum.i c.args.level c.args.factor.i r.sum.0 r.level r.factor.0
 
 pub overflow_mul-result-2 : goal.overflow_mul-result-2
-overflow_mul-result-2 c =
-    level_part_fits c.args.level c.args.factor.q c.requires.level c.requires.factor.1
+overflow_mul-result-2 c = level_part_fits c.args.level c.args.factor.q c.requires.level c.requires.factor.1
 
 pub overflow_add-result-2 : goal.overflow_add-result-2
 overflow_add-result-2 c =

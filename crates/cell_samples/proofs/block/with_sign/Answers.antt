@@ -12,5 +12,4 @@ returns-clause-value c =
     c.from.ensures
 
 pub returns-clause-bound : goal.returns-clause-bound
-returns-clause-bound c =
-    rw (returns-clause-value c) (signed_within c.args.part c.args.sign c.requires.sign)
+returns-clause-bound c = rw (returns-clause-value c) (signed_within c.args.part c.args.sign c.requires.sign)

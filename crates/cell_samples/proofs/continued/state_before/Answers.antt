@@ -12,7 +12,6 @@ returns-clause-value c =
     let source = c.args.source.now in
     let bits = c.frame_bits in
     let next : c.args.frame - 1 + 1 ≡ c.args.frame = omega (arith, c.if-frame-eq0.false) in
-    last_before (frame_bits_of source)
-    (c.args.frame - 1) 0 c.encode_into.result bits.result bits.ensures.value
+    last_before (frame_bits_of source) (c.args.frame - 1) 0 c.encode_into.result bits.result bits.ensures.value
     (omega (arith, bits.ensures.count, eight_bits source)) c.encode_into.ensures.last
     ∙ ap (bits_before (frame_bits_of source)) next

@@ -20,11 +20,7 @@ capsule_of-capsule-requires c =
 
 pub put-requires-clause-some : goal.put-requires-clause-some
 put-requires-clause-some c =
-    omega (
-      arith,
-      ap length c.capsule_of-capsule.ensures,
-      length-capsule M30 c.args.form c.page-item.result.body,
-    )
+    omega (arith, ap length c.capsule_of-capsule.ensures, length-capsule M30 c.args.form c.page-item.result.body)
 
 pub put-requires-clause-room : goal.put-requires-clause-room
 put-requires-clause-room c = omega (arith, c.loop-page.invariant.most)

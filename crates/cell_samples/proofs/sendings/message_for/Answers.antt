@@ -13,8 +13,7 @@ returns-clause-value c =
     let told = (c.args.sending + 1) * c.args.superframes + 4 in
     let same : told ≡ told_superframes cell m c.args.sending =
     ap (λ (n : ℕ). (c.args.sending + 1) * n + 4) c.requires.superframes in
-    let state : c.unwrap-state.result ≡ cell.lc =
-    (rw c.unwrap-state.ensures at c.new.ensures).1 in
+    let state : c.unwrap-state.result ≡ cell.lc = (rw c.unwrap-state.ensures at c.new.ensures).1 in
     let lc : c.value.result ≡ after cell.lc (98304 * told) = c.value.ensures.value
     ∙ c.jump.ensures.later ∙ ap (λ (s : ℕ). after s (98304 * told)) state in
     ap (λ (lc : ℕ). refilled m cell.pn (cell.time + told) lc) lc
@@ -29,6 +28,5 @@ returns-clause-is c =
     let r = c.requires in
     let early : cell.time + ((c.args.sending + 1) * c.args.superframes + 4) < 2 ^ 36 =
     told_early cell.time c.args.sending c.args.superframes r.sendable.time r.few r.early in
-    refilled_is c.args.message.now cell.pn
-    (cell.time + ((c.args.sending + 1) * c.args.superframes + 4)) c.value.result
+    refilled_is c.args.message.now cell.pn (cell.time + ((c.args.sending + 1) * c.args.superframes + 4)) c.value.result
     r.sendable.message r.sendable.pn early c.value.ensures.state.1

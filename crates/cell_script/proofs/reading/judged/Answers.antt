@@ -11,14 +11,12 @@ loop-rest-init c =
 pub returns-in_default-clause-fault : goal.returns-in_default-clause-fault
 returns-in_default-clause-fault c =
     faulty_line c.args.script.now c.loop-rest.rest.now c.loop-rest.stage c.loop-rest.judge
-    c.loop-rest.n c.in_default.ensures
-    (is_left _ _ c.is_empty.ensures c.loop-rest-test.true) c.loop-rest.invariant
+    c.loop-rest.n c.in_default.ensures (is_left _ _ c.is_empty.ensures c.loop-rest-test.true) c.loop-rest.invariant
 
 pub returns-in_default-after-clause-fault : goal.returns-in_default-after-clause-fault
 returns-in_default-after-clause-fault c =
     refused_line c.args.script.now c.loop-rest.rest.now c.loop-rest.stage c.loop-rest.judge
-    c.loop-rest.n c.in-Some.statement c.in-Some.ensures.0
-    (sym c.in_default-after.ensures) c.loop-rest.invariant
+    c.loop-rest.n c.in-Some.statement c.in-Some.ensures.0 (sym c.in_default-after.ensures) c.loop-rest.invariant
 
 pub loop-rest-preserved : goal.loop-rest-preserved
 loop-rest-preserved c =
@@ -31,13 +29,11 @@ loop-rest-preserved c =
 pub returns-then-is_complete-clause-judged : goal.returns-then-is_complete-clause-judged
 returns-then-is_complete-clause-judged c =
     all_read c.args.script.now c.loop-rest.rest.now c.loop-rest.stage c.loop-rest.judge
-    c.loop-rest.n
-    (none_left _ _ c.is_empty.ensures c.loop-rest-test.false)
+    c.loop-rest.n (none_left _ _ c.is_empty.ensures c.loop-rest-test.false)
     (sym c.is_complete.ensures ∙ c.if-is_complete.true) c.requires c.loop-rest.invariant
 
 pub returns-else-is_complete-clause-fault : goal.returns-else-is_complete-clause-fault
 returns-else-is_complete-clause-fault c =
     missing_line c.args.script.now c.loop-rest.rest.now c.loop-rest.stage c.loop-rest.judge
-    c.loop-rest.n
-    (none_left _ _ c.is_empty.ensures c.loop-rest-test.false)
+    c.loop-rest.n (none_left _ _ c.is_empty.ensures c.loop-rest-test.false)
     (sym c.is_complete.ensures ∙ c.if-is_complete.false) c.loop-rest.invariant

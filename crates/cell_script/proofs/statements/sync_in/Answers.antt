@@ -7,5 +7,4 @@ sync_after-requires-clause-network c =
     numbers_up_to network_rows _ c.in_ok-network.network (sym c.in_ok-network.ensures.value)
 
 pub sync_after-requires-clause-local : goal.sync_after-requires-clause-local
-sync_after-requires-clause-local c =
-    numbers_up_to local_rows _ c.in_ok-local.local (sym c.in_ok-local.ensures.value)
+sync_after-requires-clause-local c = numbers_up_to local_rows _ c.in_ok-local.local (sym c.in_ok-local.ensures.value)

@@ -2,7 +2,4 @@ use Rattle.clean_link.proofs.frames.ChannelFrames.{codewords_alone, paging_codew
 use Rattle.clean_link.proofs.laws.sent_codewords_are_the_only_best.Goals as goal
 
 pub returns : goal.returns
-returns c = record {
-  sent = codewords_alone;
-  paging = paging_codewords_alone;
-}
+returns c = record { sent = codewords_alone; paging = paging_codewords_alone }

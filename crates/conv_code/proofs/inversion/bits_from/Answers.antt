@@ -36,10 +36,7 @@ loop-i-preserved c =
     let same =
     both_same one two c.get-first.result c.get-second.result (sym c.if-ne.false ∙ c.ne.ensures)
     in
-    let read : AreAt symbols i one two = record {
-      even = first ∙ sym same.0;
-      odd = second ∙ sym same.1;
-    } in
+    let read : AreAt symbols i one two = record { even = first ∙ sym same.0; odd = second ∙ sym same.1 } in
     record {
       given = ap (code_symbols (binary 8 start)) c.append.ensures
           ∙ sym (symbols_more start register bits (take (2 * i) symbols) bit one two (sym inv.given)
@@ -51,8 +48,7 @@ loop-i-preserved c =
       only = λ codeword gives.
           let within : i < length codeword = within_codeword start i symbols codeword gives (omega arith) in
           let here =
-          codeword_at start register i bits symbols codeword gives within inv.state
-          (inv.only codeword gives) in
+          codeword_at start register i bits symbols codeword gives within inv.state (inv.only codeword gives) in
           let next : get_or codeword i false ≡ bit =
           c.bit_for-bit.ensures (get_or codeword i false) (sym here.even ∙ first) in
           c.append.ensures
@@ -78,12 +74,10 @@ returns-then-ne-clause-none c codeword gives =
     get_or_from_slice_get symbols (2 * i + 1) c.get-second.result false c.get-second.ensures in
     let within : i < length codeword = within_codeword start i symbols codeword gives (omega arith) in
     let here =
-    codeword_at start register i c.loop-i.bits symbols codeword gives within inv.state
-    (inv.only codeword gives) in
+    codeword_at start register i c.loop-i.bits symbols codeword gives within inv.state (inv.only codeword gives) in
     let next : get_or codeword i false ≡ bit =
     c.bit_for-bit.ensures (get_or codeword i false) (sym here.even ∙ first) in
-    not_both c.push.result.0 c.push.result.1 c.get-first.result c.get-second.result
-    (sym c.if-ne.true ∙ c.ne.ensures)
+    not_both c.push.result.0 c.push.result.1 c.get-first.result c.get-second.result (sym c.if-ne.true ∙ c.ne.ensures)
     (c.push.ensures.first ∙
     ap (λ (b : Bool). symbol g0 (binary 8 register ++ b ∷ []) 0) (sym next) ∙ sym here.even ∙
     first)

@@ -7,13 +7,10 @@ pub returns : goal.returns
 returns c start bits eight gives =
     let symbols = c.args.symbols.now in
     let pushed = eight_pushed (binary 8 c.new-register.result)
-    (binary 8 c.push.new.self) (binary 8 c.push-2.new.self) (binary 8 c.push-3.new.self)
-    (binary 8 c.push-4.new.self)
-    (binary 8 c.push-5.new.self) (binary 8 c.push-6.new.self) (binary 8 c.push-7.new.self)
-    (binary 8 c.push-8.new.self)
+    (binary 8 c.push.new.self) (binary 8 c.push-2.new.self) (binary 8 c.push-3.new.self) (binary 8 c.push-4.new.self)
+    (binary 8 c.push-5.new.self) (binary 8 c.push-6.new.self) (binary 8 c.push-7.new.self) (binary 8 c.push-8.new.self)
     c.sum_at.result c.sum_at-2.result c.sum_at-3.result c.sum_at-4.result c.sum_at-5.result
-    c.sum_at-6.result c.sum_at-7.result c.sum_at-8.result
-    (length-binary 8 c.new-register.result)
+    c.sum_at-6.result c.sum_at-7.result c.sum_at-8.result (length-binary 8 c.new-register.result)
     c.push.ensures.last c.push-2.ensures.last c.push-3.ensures.last c.push-4.ensures.last
     c.push-5.ensures.last c.push-6.ensures.last c.push-7.ensures.last c.push-8.ensures.last in
     let entry : (i : ℕ) → i < 8 → get_or start i false

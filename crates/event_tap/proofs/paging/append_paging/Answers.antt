@@ -5,8 +5,7 @@ use Rattle.event_tap.proofs.paging.append_paging.Goals as goal
 
 pub append_message-requires-clause-line : goal.append_message-requires-clause-line
 append_message-requires-clause-line c =
-    rw (c.layout.ensures.names, c.layout.ensures.shape)
-    (paging_lines (paging_kind_of c.args.message.now))
+    rw (c.layout.ensures.names, c.layout.ensures.shape) (paging_lines (paging_kind_of c.args.message.now))
 
 pub append_named-requires-clause-ascii : goal.append_named-requires-clause-ascii
 append_named-requires-clause-ascii c = grind (ints, arith, common_steps)

@@ -28,8 +28,7 @@ pub append_value-requires-clause-few : goal.append_value-requires-clause-few
 append_value-requires-clause-few c =
     let table = c.args.table.now in
     value_short (map (λ row. row.0.now) table) (map (λ row. row.1) table) c.args.values.now
-    c.loop-i.i c.requires.short c.requires.fit
-    (omega (arith, length-map table (λ row. row.1), c.loop-i-test.true))
+    c.loop-i.i c.requires.short c.requires.fit (omega (arith, length-map table (λ row. row.1), c.loop-i-test.true))
     (omega (arith, c.requires.all, c.loop-i-test.true))
 
 -- One value more stands in the text, after its own name, and the text is at most 16 bytes longer:

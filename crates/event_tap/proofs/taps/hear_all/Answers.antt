@@ -72,8 +72,7 @@ returns-in_err-gave-clause-err g c =
     c.in_err-gave.ensures.err)
 
 pub returns-clause-kept : goal.returns-clause-kept
-returns-clause-kept g c =
-    All-seen-back g.T.Tap.shape g.T.Tap.left c.loop-place.taps.items c.loop-place.invariant.0.kept
+returns-clause-kept g c = All-seen-back g.T.Tap.shape g.T.Tap.left c.loop-place.taps.items c.loop-place.invariant.0.kept
 
 pub loop-place-smaller : goal.loop-place-smaller
 loop-place-smaller g c = grind (ints, arith, common_steps)

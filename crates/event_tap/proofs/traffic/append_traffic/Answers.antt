@@ -4,5 +4,4 @@ use Rattle.event_tap.proofs.traffic.append_traffic.Goals as goal
 
 pub append_body-requires-clause-records : goal.append_body-requires-clause-records
 append_body-requires-clause-records c =
-    few_records_in c.args.message.now c.body.result c.body.ensures.spelled
-    (sym c.body.ensures.value)
+    few_records_in c.args.message.now c.body.result c.body.ensures.spelled (sym c.body.ensures.value)

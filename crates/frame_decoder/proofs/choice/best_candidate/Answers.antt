@@ -38,7 +38,6 @@ loop-format-preserved g c =
 
 pub returns-clause-value : goal.returns-clause-value
 returns-clause-value g c =
-    let past : length c.args.formats.now ≤ c.loop-format.format-index =
-    omega (arith, c.loop-format-test.false) in
+    let past : length c.args.formats.now ≤ c.loop-format.format-index = omega (arith, c.loop-format-test.false) in
     rising_end (candidate_in c.args.softs.now) c.args.formats.now c.loop-format.format-index _
     c.loop-format.best past c.loop-format.invariant.rest

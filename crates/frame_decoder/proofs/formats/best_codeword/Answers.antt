@@ -42,5 +42,4 @@ returns-clause-score g c =
     ∙ gathered_score softs format (codeword_in softs format) c.requires.format long (length-codeword_in softs format)
 
 pub returns-clause-count : goal.returns-clause-count
-returns-clause-count g c =
-    ap length (returns-clause-bits g c) ∙ length-codeword_in c.args.softs.now c.args.format.now
+returns-clause-count g c = ap length (returns-clause-bits g c) ∙ length-codeword_in c.args.softs.now c.args.format.now

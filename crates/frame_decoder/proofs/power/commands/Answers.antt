@@ -10,8 +10,7 @@ loop-group-preserved c =
     let p = c.args.softs.now in
     let g = c.loop-group.group in
     let had = c.loop-group.invariant in
-    let room : g < length c.loop-group.bits =
-    omega (arith, had.long, c.loop-group-test.true) in
+    let room : g < length c.loop-group.bits = omega (arith, had.long, c.loop-group-test.true) in
     record {
       long = length-set c.loop-group.bits g _ ∙ had.long;
       each = set_more (power_bit (summed_subchannels p)) c.loop-group.bits g _ false room

@@ -31,8 +31,7 @@ loop-group-preserved c =
     let long : length softs ≡ 384 = search rules in
     let many : length replaced ≡ 32 = search rules in
     let had = c.loop-group.invariant in
-    let room : g < length c.loop-group.sums =
-    omega (arith, had.long, c.loop-group-test.true) in
+    let room : g < length c.loop-group.sums = omega (arith, had.long, c.loop-group-test.true) in
     let small = pair_small replaced softs g first second c.from-first.ensures
     c.from-second.ensures c.loop-group-test.true many long c.requires.below c.requires.rising
     c.requires.bound in

@@ -3,8 +3,7 @@ use Rattle.frame_decoder.proofs.Unreplaced.{none_replaced, one_replaced, one_sma
 use Rattle.frame_decoder.proofs.replaced.without_power_bits.Goals as goal
 
 pub loop-place-init : goal.loop-place-init
-loop-place-init c =
-    record { value = none_replaced c.args.softs.now; bound = omega arith }
+loop-place-init c = record { value = none_replaced c.args.softs.now; bound = omega arith }
 
 -- One place more is set to 0: clearing it in the values that are 0 at all earlier places gives
 -- those that are 0 at this one too, and makes no sum of sizes greater.

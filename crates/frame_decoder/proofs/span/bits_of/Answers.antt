@@ -12,12 +12,7 @@ best_codeword-codeword-requires c =
     ap length c.gather_span.ensures.value
     ∙ length-gathered_span l.kind l.bits l.repeats n c.args.softs.now c.requires.sent in
     let room = c.requires.room in
-    record {
-      even = search rules;
-      least = search rules;
-      most = omega (arith, long, room);
-      bound = search rules;
-    }
+    record { even = search rules; least = search rules; most = omega (arith, long, room); bound = search rules }
 
 -- The codeword has all bits of the frame that is asked for: the best codeword has the bits of the
 -- whole span, and the frame is one of those that were sent in it.

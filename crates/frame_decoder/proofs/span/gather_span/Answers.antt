@@ -20,8 +20,7 @@ pub slice_bounds-gather_into-end-in-loop-frame : goal.slice_bounds-gather_into-e
 slice_bounds-gather_into-end-in-loop-frame c =
     let code = c.code_symbols-code.result in
     let frame = c.loop-frame.frame in
-    let more : frame < c.args.frames =
-    omega (arith, c.loop-frame-test.true, c.from-frame-end.ensures) in
+    let more : frame < c.args.frames = omega (arith, c.loop-frame-test.true, c.from-frame-end.ensures) in
     let in_span = within code c.args.frames frame more in
     let long : length c.loop-frame.out ≡ code * c.args.frames =
     c.loop-frame.auto.out ∙ c.requires.out
@@ -39,8 +38,7 @@ gather_into-requires-clause-bounded c =
     let count = size (shape_of c.args.span_format.kind) in
     let bound = c.requires.bounded in
     let small = frame_small count frame softs in
-    rw (frame_is symbols.result count frame softs symbols.ensures.value)
-    (omega (arith, bound, small))
+    rw (frame_is symbols.result count frame softs symbols.ensures.value) (omega (arith, bound, small))
 
 -- The code symbols of one frame more are gathered after those of the frames before it, so the first
 -- part of the output is what the definition gathers of that many frames, and its values are bounded
@@ -55,8 +53,7 @@ loop-frame-preserved c =
     let code = c.code_symbols-code.result in
     let symbols = c.symbols-symbols in
     let had = c.loop-frame.invariant in
-    let more : frame < c.args.frames =
-    omega (arith, c.loop-frame-test.true, c.from-frame-end.ensures) in
+    let more : frame < c.args.frames = omega (arith, c.loop-frame-test.true, c.from-frame-end.ensures) in
     let in_span = within code c.args.frames frame more in
     let whole : length out ≡ code * c.args.frames =
     c.loop-frame.auto.out ∙ c.requires.out

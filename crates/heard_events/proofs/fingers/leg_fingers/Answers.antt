@@ -11,8 +11,7 @@ unreachable-requires c =
     let legs = c.args.legs.now in
     let some = all_some c.args.phase (take count deltas) legs c.requires.some
     (omega (arith, length-take count deltas, c.requires.least)) in
-    let none : [] ≡ all_fingers c.args.phase (take count deltas) legs =
-    c.in-None.ensures.value in
+    let none : [] ≡ all_fingers c.args.phase (take count deltas) legs = c.in-None.ensures.value in
     omega (arith, some, ap length none)
 
 pub returns-clause-rows : goal.returns-clause-rows

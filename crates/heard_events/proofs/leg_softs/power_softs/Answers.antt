@@ -20,12 +20,10 @@ loop-subchannel-preserved c =
     let i = c.loop-subchannel.subchannel in
     let paths = take c.args.near.now.count c.args.near.now.deltas in
     let replaced = c.args.replaced.now in
-    let f : List Sample → ℕ → List ℤ =
-    λ heard. sums_on heard c.args.phase paths legs c.args.start replaced in
+    let f : List Sample → ℕ → List ℤ = λ heard. sums_on heard c.args.phase paths legs c.args.start replaced in
     elim c.if-has_subchannel.branch [
       | then-has_subchannel w ↦
-          let has : has_subchannel legs i ≡ true =
-          sym c.has_subchannel.ensures ∙ w.if-has_subchannel.true in
+          let has : has_subchannel legs i ≡ true = sym c.has_subchannel.ensures ∙ w.if-has_subchannel.true in
           rw w.sums-is (record {
             sums = λ heard holds.
                 w.push.ensures.value
@@ -34,8 +32,7 @@ loop-subchannel-preserved c =
             few = omega (arith, w.push.ensures.count, had.few);
           })
       | else-has_subchannel w ↦
-          let none : has_subchannel legs i ≡ false =
-          sym c.has_subchannel.ensures ∙ w.if-has_subchannel.false in
+          let none : has_subchannel legs i ≡ false = sym c.has_subchannel.ensures ∙ w.if-has_subchannel.false in
           rw w.sums-is (record {
             sums = λ heard holds.
                 had.sums heard holds ∙ sym (sums_same (f heard) legs i none);

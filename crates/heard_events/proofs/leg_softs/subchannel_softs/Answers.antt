@@ -33,5 +33,4 @@ returns-then-all-clause-value c = λ heard holds.
     on_whole i legs
     (omega (arith, on, ap length c.all.ensures.value, ap length c.all-2.ensures.value, c.if-all.true)) in
     c.requires.all heard holds
-    ∙ ap (λ (ls : List Leg). softs heard (all_fingers c.args.phase paths ls) Data c.args.start)
-    (sym all)
+    ∙ ap (λ (ls : List Leg). softs heard (all_fingers c.args.phase paths ls) Data c.args.start) (sym all)

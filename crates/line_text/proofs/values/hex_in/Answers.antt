@@ -6,8 +6,7 @@ pub returns-in_err-hex_digit-clause-value : goal.returns-in_err-hex_digit-clause
 returns-in_err-hex_digit-clause-value c =
     c.from_residual.ensures
     ∙ hex_missing c.args.text.now c.loop-digit.number c.loop-digit.digit-index
-    c.loop-digit-test.true
-    (sym c.hex_digit.ensures.value ∙ c.in_err-hex_digit.was) c.loop-digit.invariant.left
+    c.loop-digit-test.true (sym c.hex_digit.ensures.value ∙ c.in_err-hex_digit.was) c.loop-digit.invariant.left
 
 pub with_hex_digit-number-requires-clause-number : goal.with_hex_digit-number-requires-clause-number
 with_hex_digit-number-requires-clause-number c =

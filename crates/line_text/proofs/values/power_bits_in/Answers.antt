@@ -24,7 +24,6 @@ loop-k-preserved c = record {
 pub returns : goal.returns
 returns c =
     sym (sixteen c.args.text.now c.if-text-ne16.false
-    ∙ digits_read c.args.text.now c.loop-k.power_bits c.loop-k.k
-    (omega (arith, c.loop-k-test.false))
+    ∙ digits_read c.args.text.now c.loop-k.power_bits c.loop-k.k (omega (arith, c.loop-k-test.false))
     (omega (arith, c.loop-k-test.false, c.loop-k.invariant.long, c.if-text-ne16.false))
     c.loop-k.invariant.bits)

@@ -16,8 +16,7 @@ picked-requires-clause-odd_room c =
     let gain = c.args.gain in
     let small = c.requires.small in
     let fits : SFits w64 gain = search rules in
-    let turned_fits : SFits w64 (pos 0 -ℤ gain) =
-    fits_signed_from_abs w64 _ (omega (arith, ints, small)) in
+    let turned_fits : SFits w64 (pos 0 -ℤ gain) = fits_signed_from_abs w64 _ (omega (arith, ints, small)) in
     rw (to_z-of_z w64 gain fits, to_z-of_z w64 (pos 0 -ℤ gain) turned_fits)
     (turned_room gain (pos 0 -ℤ gain) c.index-column-before-2.result refl
     (item_room c.args.column.now gain (2 * (c.args.state % 128) + 1) c.index-column-before-2.result
@@ -30,10 +29,8 @@ returns c =
     let gain = c.args.gain in
     let small = c.requires.small in
     let fits : SFits w64 gain = search rules in
-    let turned_fits : SFits w64 (pos 0 -ℤ gain) =
-    fits_signed_from_abs w64 _ (omega (arith, ints, small)) in
+    let turned_fits : SFits w64 (pos 0 -ℤ gain) = fits_signed_from_abs w64 _ (omega (arith, ints, small)) in
     by_made c.args.column.now gain (pos 0 -ℤ gain) c.args.k c.args.state (2 * (c.args.state % 128))
     c.index-column-before.result c.index-column-before-2.result c.picked.new.scores c.picked.result
-    refl
-    (omega (arith, c.requires.whole)) c.index-column-before.is c.index-column-before-2.is refl
+    refl (omega (arith, c.requires.whole)) c.index-column-before.is c.index-column-before-2.is refl
     (rw (to_z-of_z w64 gain fits, to_z-of_z w64 (pos 0 -ℤ gain) turned_fits) at c.picked.ensures)

@@ -77,8 +77,7 @@ loop-n-preserved c =
           odd g h scores choices (choices + c.weight_of-choices.result) weight value b inv.power
           (omega (arith, before, c.loop-n-test.true, c.requires.even_full))
           (omega (arith, before, c.loop-n-test.true, c.requires.odd_full))
-          b_is value_is
-          (ap (λ (w : ℕ). choices + w) c.weight_of-choices.ensures.value)
+          b_is value_is (ap (λ (w : ℕ). choices + w) c.weight_of-choices.ensures.value)
           (omega (arith, before, one, few)) (omega (arith, one)) inv.picked;
     })
 

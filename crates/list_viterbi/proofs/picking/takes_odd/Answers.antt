@@ -4,8 +4,7 @@ use Rattle.list_viterbi.proofs.picking.takes_odd.Goals as goal
 
 pub returns-then-j-len : goal.returns-then-j-len
 returns-then-j-len c =
-    sym (odd_over c.args.i c.args.j c.args.even_gain c.args.odd_gain c.args.even.now c.args.odd.now
-    (omega arith))
+    sym (odd_over c.args.i c.args.j c.args.even_gain c.args.odd_gain c.args.even.now c.args.odd.now (omega arith))
 
 pub returns-then-i-len : goal.returns-then-i-len
 returns-then-i-len c =

@@ -30,8 +30,7 @@ loop-n-preserved g c =
       | else-takes_second+then-i-len w ↦
           let next : second_is_next score (drop c.loop-n.i xs) (drop c.loop-n.j ys) ≡ false =
           sym w.if-takes_second.ensures in
-          let within : c.loop-n.i < length xs =
-          omega (arith, w.if-i-len.true, w.len.ensures.value) in
+          let within : c.loop-n.i < length xs = omega (arith, w.if-i-len.true, w.len.ensures.value) in
           let long = length-append before (w.get-then-i-len.result.now ∷ []) in
           rw (w.taken-is, w.i-is, w.j-is, w.push-then-i-len.ensures) (record {
             first_place = omega (arith, within);
@@ -43,8 +42,7 @@ loop-n-preserved g c =
       | else-takes_second+else-i-len w ↦
           let next : second_is_next score (drop c.loop-n.i xs) (drop c.loop-n.j ys) ≡ false =
           sym w.if-takes_second.ensures in
-          let over : length xs ≤ c.loop-n.i =
-          omega (arith, w.if-i-len.false, w.len.ensures.value) in
+          let over : length xs ≤ c.loop-n.i = omega (arith, w.if-i-len.false, w.len.ensures.value) in
           rw (w.taken-is, w.i-is, w.j-is) (record {
             first_place = h.first_place;
             second_place = h.second_place;

@@ -7,8 +7,7 @@ loop-i-preserved c =
     c.push.ensures
     ∙ ap (λ (e : Entry). c.loop-i.codewords ++ e ∷ []) c.traced.ensures
     ∙ map_more (entry_at c.args.columns.now) c.args.finds.now c.loop-i.codewords c.loop-i.i
-    c.get.result.now
-    (omega (arith, c.loop-i-test.true)) c.get.ensures.value c.loop-i.invariant
+    c.get.result.now (omega (arith, c.loop-i-test.true)) c.get.ensures.value c.loop-i.invariant
 
 pub push-requires : goal.push-requires
 push-requires c = grind (ints, arith, common_steps)

@@ -7,8 +7,7 @@ loop-lower-init c = record { value = sym (ones_none c.args.choices); most = omeg
 
 pub loop-lower-preserved : goal.loop-lower-preserved
 loop-lower-preserved c =
-    let one : c.from-ones.result ≡ digit c.is_odd.result =
-    c.from-ones.ensures ∙ bool_byte-digit c.is_odd.result in
+    let one : c.from-ones.result ≡ digit c.is_odd.result = c.from-ones.ensures ∙ bool_byte-digit c.is_odd.result in
     let few = digit_le c.is_odd.result in
     let most = c.loop-lower.invariant.most in
     record {

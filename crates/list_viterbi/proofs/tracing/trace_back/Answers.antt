@@ -30,10 +30,8 @@ loop-back-preserved c =
     let pointer : c.pointer_at-pointer.result ≡ back_of columns j state rank =
     rw same at c.pointer_at-pointer.ensures in
     let before : 2 * (state % 128) + c.pointer_at-pointer.result % 2
-    ≡ list_state_before columns j state rank =
-    ap (λ (b : ℕ). 2 * (state % 128) + b % 2) pointer in
-    let place : c.pointer_at-pointer.result / 2 ≡ place_before columns j state rank =
-    ap (λ (b : ℕ). b / 2) pointer in
+    ≡ list_state_before columns j state rank = ap (λ (b : ℕ). 2 * (state % 128) + b % 2) pointer in
+    let place : c.pointer_at-pointer.result / 2 ≡ place_before columns j state rank = ap (λ (b : ℕ). b / 2) pointer in
     record {
       long = search rules;
       small = omega arith;

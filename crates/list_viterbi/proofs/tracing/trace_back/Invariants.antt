@@ -9,6 +9,5 @@ invariant-loop-back l = record {
   start : list_origin l.columns (length l.columns - l.back) l.state l.rank
       ≡ list_origin l.columns (length l.columns) l.end l.place;
   whole : list_path l.columns (length l.columns - l.back) l.state l.rank
-      ++ drop (length l.columns - l.back) l.bits
-      ≡ list_path l.columns (length l.columns) l.end l.place;
+      ++ drop (length l.columns - l.back) l.bits ≡ list_path l.columns (length l.columns) l.end l.place;
 }

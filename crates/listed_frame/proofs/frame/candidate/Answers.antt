@@ -10,8 +10,7 @@ pub returns-then-is_right : goal.returns-then-is_right
 returns-then-is_right c =
     let format = c.args.format.now in
     let codewords = c.args.codewords.now in
-    let within : c.loop-i.i < length codewords =
-    omega (arith, c.loop-i-test.true, c.len-i-end.ensures.value) in
+    let within : c.loop-i.i < length codewords = omega (arith, c.loop-i-test.true, c.len-i-end.ensures.value) in
     let score = c.get-entry.result.now.score in
     let fits : FitsSigned w64 score = search rules in
     ap Some c.frame_in.ensures
@@ -25,11 +24,9 @@ pub loop-i-preserved : goal.loop-i-preserved
 loop-i-preserved c =
     let format = c.args.format.now in
     let codewords = c.args.codewords.now in
-    let within : c.loop-i.i < length codewords =
-    omega (arith, c.loop-i-test.true, c.len-i-end.ensures.value) in
+    let within : c.loop-i.i < length codewords = omega (arith, c.loop-i-test.true, c.len-i-end.ensures.value) in
     found_later (λ e. is_right format e.word.bits) codewords c.loop-i.i c.get-entry.result.now within
-    c.get-entry.ensures.value c.loop-i.invariant
-    (sym c.is_right.ensures ∙ c.if-is_right.false)
+    c.get-entry.ensures.value c.loop-i.invariant (sym c.is_right.ensures ∙ c.if-is_right.false)
 
 pub returns : goal.returns
 returns c = grind (ints, arith, common_steps)

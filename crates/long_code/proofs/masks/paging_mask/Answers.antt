@@ -2,8 +2,7 @@ use Rattle.long_code.proofs.Common.{◌≡◌, ◌<◌, ◌+◌, ◌*◌, ◌%�
 use Rattle.long_code.proofs.Fields.{paging_mask_is, paging_word}
 use Rattle.long_code.proofs.masks.paging_mask.Goals as goal
 
-word_is : (channel pilot first second : ℕ) → channel < 8 → pilot < 512 → first ≡ channel →
-    second ≡ pilot →
+word_is : (channel pilot first second : ℕ) → channel < 8 → pilot < 512 → first ≡ channel → second ≡ pilot →
     bit_or (bit_or 3408593420288 (first * 2097152 % 18446744073709551616)) second ≡
     (203168 * 8 + channel) * 2097152 + pilot
 word_is channel pilot first second p q d e =

@@ -7,10 +7,7 @@ use Rattle.long_code.proofs.symbol_step.times_x64.Goals as goal
 pub loop-row-init : goal.loop-row-init
 loop-row-init c =
     let none : c.args.value % 1 ≡ 0 = omega arith in
-    record {
-      left = omega arith;
-      sum = sym (ap (λ (s : ℕ). after s 64) none ∙ after-zero 64);
-    }
+    record { left = omega arith; sum = sym (ap (λ (s : ℕ). after s 64) none ∙ after-zero 64) }
 
 pub loop-row-preserved : goal.loop-row-preserved
 unfolding after binary places

@@ -3,8 +3,7 @@ use Rattle.message_layout.proofs.Loops.{column_read, widths_taken}
 use Rattle.message_layout.proofs.reading.read_column.Goals as goal
 
 pub size_of-requires-clause-widths : goal.size_of-requires-clause-widths
-size_of-requires-clause-widths c =
-    widths_taken (λ row. row.1) c.args.fields.now c.args.j c.requires.widths
+size_of-requires-clause-widths c = widths_taken (λ row. row.1) c.args.fields.now c.args.j c.requires.widths
 
 pub returns : goal.returns
 returns c =

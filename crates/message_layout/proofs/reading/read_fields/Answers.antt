@@ -7,8 +7,7 @@ read_number-requires-clause-width c =
     let rows = c.args.rows.now in
     let ws = map (λ row. row.1) rows in
     rw c.width_in.ensures
-    (width_within ws c.loop-i.i c.requires.widths
-    (omega (arith, length-map rows (λ row. row.1), c.loop-i-test.true))).1
+    (width_within ws c.loop-i.i c.requires.widths (omega (arith, length-map rows (λ row. row.1), c.loop-i-test.true))).1
 
 -- Where a field's number can't be read the table's fields can't either: the bits that are left
 -- after the fields before it are fewer than its width.
@@ -16,8 +15,7 @@ pub returns-in_err-value-clause-values : goal.returns-in_err-value-clause-values
 returns-in_err-value-clause-values c =
     let rows = c.args.rows.now in
     let ws = map (λ row. row.1) rows in
-    let lt : c.loop-i.i < length ws =
-    omega (arith, length-map rows (λ row. row.1), c.loop-i-test.true) in
+    let lt : c.loop-i.i < length ws = omega (arith, length-map rows (λ row. row.1), c.loop-i-test.true) in
     let left = drop c.loop-i.place c.args.bits.now in
     let none : c.from_residual.result ≡ None = cc in
     rw none
@@ -32,8 +30,7 @@ append-requires c =
     let long = length-map rows (λ row. row.1) in
     omega (
       arith,
-      fields_few ws c.loop-i.i (drop c.args.from c.args.bits.now)
-          (drop c.loop-i.place c.args.bits.now) c.loop-i.values
+      fields_few ws c.loop-i.i (drop c.args.from c.args.bits.now) (drop c.loop-i.place c.args.bits.now) c.loop-i.values
           (omega (arith, long, c.loop-i-test.true)) c.loop-i.invariant.fields,
       c.loop-i-test.true,
       c.requires.room,
@@ -46,8 +43,7 @@ loop-i-preserved c =
     let rows = c.args.rows.now in
     let ws = map (λ row. row.1) rows in
     let bits = c.args.bits.now in
-    let lt : c.loop-i.i < length ws =
-    omega (arith, length-map rows (λ row. row.1), c.loop-i-test.true) in
+    let lt : c.loop-i.i < length ws = omega (arith, length-map rows (λ row. row.1), c.loop-i-test.true) in
     let left = drop c.loop-i.place bits in
     let next = drop c.in_ok-value.next bits in
     let taken = number_taken c.width_in.result c.in_ok-value.value left next
@@ -63,7 +59,6 @@ pub returns-clause-values : goal.returns-clause-values
 returns-clause-values c =
     let rows = c.args.rows.now in
     let ws = map (λ row. row.1) rows in
-    let all : length ws ≤ c.loop-i.i =
-    omega (arith, length-map rows (λ row. row.1), c.loop-i-test.false) in
+    let all : length ws ≤ c.loop-i.i = omega (arith, length-map rows (λ row. row.1), c.loop-i-test.false) in
     fields_end ws c.loop-i.i (drop c.args.from c.args.bits.now)
     (drop c.loop-i.place c.args.bits.now) c.loop-i.values all c.loop-i.invariant.fields

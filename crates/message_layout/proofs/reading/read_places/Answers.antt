@@ -28,8 +28,7 @@ loop-i-preserved c =
     c.loop-i.invariant c.number_from.ensures.value c.push_number.ensures refl
 
 pub overflow_cast-number_from : goal.overflow_cast-number_from
-overflow_cast-number_from c =
-    omega (arith, number_small _ _ c.number_from.ensures.fits c.requires.width.1)
+overflow_cast-number_from c = omega (arith, number_small _ _ c.number_from.ensures.fits c.requires.width.1)
 
 pub overflow_add-place : goal.overflow_add-place
 overflow_add-place c =

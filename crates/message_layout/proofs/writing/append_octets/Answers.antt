@@ -4,11 +4,7 @@ use Rattle.message_layout.proofs.writing.append_octets.Goals as goal
 
 pub append_number-requires-clause-room : goal.append_number-requires-clause-room
 append_number-requires-clause-room c =
-    omega (
-      arith,
-      c.requires.room,
-      length-octets c.args.layout.zeros c.args.layout.width c.args.octets.now,
-    )
+    omega (arith, c.requires.room, length-octets c.args.layout.zeros c.args.layout.width c.args.octets.now)
 
 pub append_number-requires-2-clause-room : goal.append_number-requires-2-clause-room
 append_number-requires-2-clause-room c =

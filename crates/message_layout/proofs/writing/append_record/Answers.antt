@@ -72,8 +72,7 @@ returns c =
     let rows = c.args.fields.now in
     let ws = map (λ row. row.1) rows in
     let vs = record_at c.args.i c.args.columns.now in
-    let all : length ws ≤ c.loop-j.j =
-    omega (arith, length-map rows (λ row. row.1), c.loop-j-test.false) in
+    let all : length ws ≤ c.loop-j.j = omega (arith, length-map rows (λ row. row.1), c.loop-j-test.false) in
     c.loop-j.invariant ∙ ap (λ fs. c.args.body.now ++ spelled fs) (sent_all ws vs c.loop-j.j all)
 
 pub get-requires : goal.get-requires

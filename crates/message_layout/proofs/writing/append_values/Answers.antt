@@ -7,8 +7,7 @@ append_number-requires-clause-width c =
     let rows = c.args.rows.now in
     let ws = map (λ row. row.1) rows in
     rw c.width_in.ensures
-    (width_within ws c.loop-i.i c.requires.widths
-    (omega (arith, length-map rows (λ row. row.1), c.loop-i-test.true)))
+    (width_within ws c.loop-i.i c.requires.widths (omega (arith, length-map rows (λ row. row.1), c.loop-i-test.true)))
 
 -- The number that is added fits into its field's bits: it is the value at this place, and all
 -- values fit.
@@ -16,11 +15,9 @@ pub append_number-requires-clause-fits : goal.append_number-requires-clause-fits
 append_number-requires-clause-fits c =
     let rows = c.args.rows.now in
     let ws = map (λ row. row.1) rows in
-    let lt : c.loop-i.i < length ws =
-    omega (arith, length-map rows (λ row. row.1), c.loop-i-test.true) in
+    let lt : c.loop-i.i < length ws = omega (arith, length-map rows (λ row. row.1), c.loop-i-test.true) in
     rw (c.width_in.ensures, c.get.ensures)
-    (fit_value ws c.args.values.now c.loop-i.i c.requires.values.fit lt
-    (omega (arith, c.requires.values.all, lt)))
+    (fit_value ws c.args.values.now c.loop-i.i c.requires.values.fit lt (omega (arith, c.requires.values.all, lt)))
 
 -- There is room for the next value: the values before it and this one are the first fields of a
 -- list that has room as a whole.
@@ -52,8 +49,7 @@ loop-i-preserved c =
     let vs = c.args.values.now in
     let i = c.loop-i.i in
     let v = get_or vs i 0 in
-    let lt : c.loop-i.i < length ws =
-    omega (arith, length-map rows (λ row. row.1), c.loop-i-test.true) in
+    let lt : c.loop-i.i < length ws = omega (arith, length-map rows (λ row. row.1), c.loop-i-test.true) in
     written_more ws vs i c.loop-i.body c.append_number.new.self c.args.body.now lt
     (omega (arith, c.requires.values.all, lt)) c.loop-i.invariant
     (c.append_number.ensures ∙ ap (λ n. c.loop-i.body ++ binary c.width_in.result n) c.get.ensures

@@ -9,5 +9,4 @@ returns-clause-padded c layout l bits large laid =
     ∙ ap (λ r. r ++ replicate (fill layout.size (length l.body)) false) (sym laid.spelled)
 
 pub returns-clause-carried : goal.returns-clause-carried
-returns-clause-carried c rate puts is lawful =
-    laid_is_carried (half_frame_body rate) puts (rate_large rate) lawful
+returns-clause-carried c rate puts is lawful = laid_is_carried (half_frame_body rate) puts (rate_large rate) lawful

@@ -5,5 +5,4 @@ pub returns-clause-fills : goal.returns-clause-fills
 returns-clause-fills c m is = message_fills m is
 
 pub returns-clause-admitted : goal.returns-clause-admitted
-returns-clause-admitted c body fills =
-    (λ h. admits_message body fills h, λ has. message_is_admitted body has)
+returns-clause-admitted c body fills = (λ h. admits_message body fills h, λ has. message_is_admitted body has)

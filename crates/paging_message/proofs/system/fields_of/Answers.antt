@@ -7,8 +7,7 @@ use Rattle.paging_message.proofs.system.fields_of.Goals as goal
 value_fits : (values : List ℕ) →
     FieldsFit (in_widths system_widths (system_values (system_of values []))) → (i : ℕ) → i < 37 →
     get_or (system_values (system_of values [])) i 0 < 2 ^ (get_or system_widths i 0)
-value_fits values fit i within =
-    fit_value system_widths (system_values (system_of values [])) i fit within within
+value_fits values fit i within = fit_value system_widths (system_values (system_of values [])) i fit within within
 
 pub overflow_cast-fields_of_values-fields_of_values-18 : goal.overflow_cast-fields_of_values-fields_of_values-18
 unfolding system_of

@@ -18,8 +18,7 @@ returns c =
     kept_units (sample_at c.args.points.now) g first c.parts_of.result units
     (point_signs c.args.points.now) c.parts_of.ensures.value in
     let turned =
-    kept_units (sample_at c.args.turned.now) (λ t. across (g t)) first c.parts_of-2.result
-    (units_across g units)
+    kept_units (sample_at c.args.turned.now) (λ t. across (g t)) first c.parts_of-2.result (units_across g units)
     (λ t. turned_signs c.args.turned.now signs t c.requires.across) c.parts_of-2.ensures.value in
     are_products c.args.samples.now signs first c.pair_sums.result c.pair_sums-2.result
     c.parts_of-numbers.ensures.short units

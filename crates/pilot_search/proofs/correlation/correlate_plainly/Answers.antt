@@ -37,21 +37,9 @@ returns c = record {
 pub overflow_add-sum : goal.overflow_add-sum
 overflow_add-sum c =
     kept_sum_fits c.loop-t.sum.i c.despread-product.result.i
-    (omega (
-      arith,
-      c.loop-t.invariant.i_bound,
-      c.despread-product.ensures.i_bound,
-      c.loop-t-test.true,
-      c.requires.few,
-    ))
+    (omega (arith, c.loop-t.invariant.i_bound, c.despread-product.ensures.i_bound, c.loop-t-test.true, c.requires.few))
 
 pub overflow_add-sum-in-loop-t : goal.overflow_add-sum-in-loop-t
 overflow_add-sum-in-loop-t c =
     kept_sum_fits c.loop-t.sum.q c.despread-product.result.q
-    (omega (
-      arith,
-      c.loop-t.invariant.q_bound,
-      c.despread-product.ensures.q_bound,
-      c.loop-t-test.true,
-      c.requires.few,
-    ))
+    (omega (arith, c.loop-t.invariant.q_bound, c.despread-product.ensures.q_bound, c.loop-t-test.true, c.requires.few))

@@ -6,8 +6,7 @@ use Rattle.pilot_search.proofs.correlation.correlation_at.Goals as goal
 
 pub correlate-first-requires-clause-units : goal.correlate-first-requires-clause-units
 correlate-first-requires-clause-units c =
-    rw (c.split_at.ensures.back, c.table.ensures.value)
-    (All-drop IsUnit c.from.result pilot_signs units)
+    rw (c.split_at.ensures.back, c.table.ensures.value) (All-drop IsUnit c.from.result pilot_signs units)
 
 pub correlate-rest-requires-clause-units : goal.correlate-rest-requires-clause-units
 correlate-rest-requires-clause-units c = rw c.table-2.ensures.value units
@@ -52,17 +51,13 @@ returns-clause-value c =
 
 pub returns-clause-i_bound : goal.returns-clause-i_bound
 returns-clause-i_bound c =
-    kept_sum_within c.correlate-first.result.i c.correlate-rest.result.i
-    (65536 * length c.args.samples.now)
-    (omega (arith, c.correlate-first.ensures.i_bound, c.correlate-rest.ensures.i_bound))
-    (omega (arith, c.requires))
+    kept_sum_within c.correlate-first.result.i c.correlate-rest.result.i (65536 * length c.args.samples.now)
+    (omega (arith, c.correlate-first.ensures.i_bound, c.correlate-rest.ensures.i_bound)) (omega (arith, c.requires))
 
 pub returns-clause-q_bound : goal.returns-clause-q_bound
 returns-clause-q_bound c =
-    kept_sum_within c.correlate-first.result.q c.correlate-rest.result.q
-    (65536 * length c.args.samples.now)
-    (omega (arith, c.correlate-first.ensures.q_bound, c.correlate-rest.ensures.q_bound))
-    (omega (arith, c.requires))
+    kept_sum_within c.correlate-first.result.q c.correlate-rest.result.q (65536 * length c.args.samples.now)
+    (omega (arith, c.correlate-first.ensures.q_bound, c.correlate-rest.ensures.q_bound)) (omega (arith, c.requires))
 
 pub overflow_add-result-2 : goal.overflow_add-result-2
 overflow_add-result-2 c =

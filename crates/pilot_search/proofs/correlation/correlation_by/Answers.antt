@@ -6,8 +6,7 @@ use Rattle.pilot_search.proofs.correlation.correlation_by.Goals as goal
 -- the points from a chip on have the signs from that chip on
 ahead : (points back : List Sample) (n : ℕ) → back ≡ drop n points → map both points ≡ pilot_signs →
     map both back ≡ drop n pilot_signs
-ahead points back n is all =
-    ap (map both) is ∙ sym (drop-map both n points) ∙ ap (drop n) all
+ahead points back n is all = ap (map both) is ∙ sym (drop-map both n points) ∙ ap (drop n) all
 
 turned_ahead : (points back : List Sample) (n : ℕ) → back ≡ drop n points →
     map both points ≡ map across pilot_signs → map both back ≡ map across (drop n pilot_signs)

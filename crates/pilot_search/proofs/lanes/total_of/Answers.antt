@@ -18,8 +18,7 @@ loop-lane-preserved c =
     (Each1-get_or (λ x. unsigned_abs x < 2 ^ 31) lanes k (pos 0)
     (omega (arith, c.loop-lane-test.true, c.requires.long)) c.requires.fit) in
     let here : c.from-sum.result ≡ get_or items k (pos 0) = c.from-sum.ensures ∙
-    to_z-of_z w32 (get_or items k (pos 0))
-    (fits_signed_from_abs w32 (get_or items k (pos 0)) small) in
+    to_z-of_z w32 (get_or items k (pos 0)) (fits_signed_from_abs w32 (get_or items k (pos 0)) small) in
     let added = subst (λ (r : ℤ). unsigned_abs r < 2 ^ 31) (sym here) small in
     let s = to_z w64 c.loop-lane.sum-bits in
     let near : unsigned_abs s ≤ 2 ^ 40 = omega (arith, inv.bound, c.loop-lane-test.true) in
@@ -42,5 +41,4 @@ returns c =
     let kept : items ≡ lanes = kept_lanes lanes c.requires.fit in
     let long : length items ≡ 8 = ap (λ (xs : List ℤ). length xs) kept ∙ c.requires.long in
     c.loop-lane.invariant.sum ∙
-    ap total (take_all c.loop-lane.lane-index items
-    (omega (arith, long, c.loop-lane-test.false))) ∙ ap total kept
+    ap total (take_all c.loop-lane.lane-index items (omega (arith, long, c.loop-lane-test.false))) ∙ ap total kept

@@ -11,8 +11,7 @@ pub returns-then-count-eq2-clause-deltas : goal.returns-then-count-eq2-clause-de
 returns-then-count-eq2-clause-deltas c =
     let two : c.args.count ≡ 2 = omega arith in
     let round = c.measured_round-round.ensures in
-    let delta : to_z w8 (of_z w8 c.delta_of.result) ≡ pos c.next_place-second.result -ℤ pos 32 =
-    omega (arith, ints) in
+    let delta : to_z w8 (of_z w8 c.delta_of.result) ≡ pos c.next_place-second.result -ℤ pos 32 = omega (arith, ints) in
     rw (
       two,
       two_deltas c.args.samples.now c.args.best.phase c.args.best.energy
@@ -27,8 +26,7 @@ returns-clause-deltas c =
     let round = c.measured_round-round.ensures in
     let second : to_z w8 (of_z w8 c.delta_of-2.result) ≡ pos c.next_place-second.result -ℤ pos 32 =
     omega (arith, ints) in
-    let third : to_z w8 (of_z w8 c.delta_of-3.result) ≡ pos c.next_place-third.result -ℤ pos 32 =
-    omega (arith, ints) in
+    let third : to_z w8 (of_z w8 c.delta_of-3.result) ≡ pos c.next_place-third.result -ℤ pos 32 = omega (arith, ints) in
     rw (
       three,
       three_deltas c.args.samples.now c.args.best.phase c.args.best.energy

@@ -20,8 +20,7 @@ returns-clause-found g t c =
     let both =
     both_found c.args.samples.now (worker_start c.args.first c.args.workers)
     (worker_start middle c.args.workers) (worker_start end c.args.workers) c.join-left.result.0.0
-    c.join-left.result.1.0
-    (start_up c.args.first middle c.args.workers some low)
+    c.join-left.result.1.0 (start_up c.args.first middle c.args.workers some low)
     (start_up middle end c.args.workers some high) (start_most end c.args.workers some most)
     c.join-left.ensures.first.0 right in
     subst (λ (o : Option Best). IsFound c.args.samples.now (worker_start c.args.first c.args.workers)

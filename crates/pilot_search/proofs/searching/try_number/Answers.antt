@@ -16,8 +16,7 @@ returns-in_err-energy-clause-found c =
     let same : c.unwrap-phase.result ≡ c.args.n = search rules in
     let low : c.try_phase.new.seat.floor ≤ greatest c.args.samples.now =
     omega (arith, e.most, e.ceiling, c.requires.ceiling) in
-    let none =
-    left_out c.args.samples.now c.unwrap-phase.result c.try_phase.new.seat.floor e.only low in
+    let none = left_out c.args.samples.now c.unwrap-phase.result c.try_phase.new.seat.floor e.only low in
     let none_at = subst (λ (n : ℕ). IsFound c.args.samples.now n (n + 1) None) same none in
     subst (λ (o : Option Best). IsFound c.args.samples.now c.args.n (c.args.n + 1) o)
     (sym c.from_residual.ensures) none_at

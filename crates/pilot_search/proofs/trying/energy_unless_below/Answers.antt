@@ -5,8 +5,7 @@ use Rattle.pilot_search.proofs.trying.energy_unless_below.Goals as goal
 
 pub returns-then-is_empty : goal.returns-then-is_empty
 returns-then-is_empty c =
-    let none : length c.args.samples.now ≡ 0 =
-    (first_of (search rules, grind (arith, common_steps))) in
+    let none : length c.args.samples.now ≡ 0 = (first_of (search rules, grind (arith, common_steps))) in
     none_left c.args.samples.now c.args.phase c.args.limit none
 
 -- The energy that is answered is the phase's, and no bound is below the limit: the sum before the

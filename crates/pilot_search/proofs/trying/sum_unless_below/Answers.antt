@@ -21,10 +21,8 @@ loop-j-preserved c =
     let j = c.loop-j.j in
     let rest = c.loop-j.rest.now in
     let chunks = c.before_the_end-chunks.result in
-    let some : chunks ≤ c.args.last - j =
-    omega (arith, c.before_the_end-chunks.ensures.most, c.stride.ensures.most) in
-    let room : 64 * chunks ≤ length rest =
-    omega (arith, some, inv.left, inv.within, c.requires.last) in
+    let some : chunks ≤ c.args.last - j = omega (arith, c.before_the_end-chunks.ensures.most, c.stride.ensures.most) in
+    let room : 64 * chunks ≤ length rest = omega (arith, some, inv.left, inv.within, c.requires.last) in
     let from : c.from.result ≡ chunks = omega arith in
     let front : c.split_at.result.0.now ≡ take (64 * chunks) rest =
     c.split_at.ensures.front ∙ ap (λ (n : ℕ). take (64 * n) rest) from in
@@ -50,8 +48,7 @@ loop-j-preserved c =
       within = omega (arith, some, c.loop-j-test.true);
       sum = sum_more xs rest c.args.phase j chunks c.loop-j.sum c.correlation_by-part.result _ _
           (omega (arith, inv.left)) inv.rest inv.sum part near_i near_q
-          (kept_sum_back c.loop-j.sum.i c.correlation_by-part.result.i
-          (omega (arith, inv.sum.i_bound, near_i, few)))
+          (kept_sum_back c.loop-j.sum.i c.correlation_by-part.result.i (omega (arith, inv.sum.i_bound, near_i, few)))
           (kept_sum_back c.loop-j.sum.q c.correlation_by-part.result.q
           (omega (arith, inv.sum.q_bound, near_q, few)));
       rest = back ∙ ap (drop (64 * chunks)) inv.rest ∙ drop-drop (64 * chunks) (64 * j) xs

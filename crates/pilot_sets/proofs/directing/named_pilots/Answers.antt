@@ -4,8 +4,7 @@ use Rattle.pilot_sets.proofs.directing.named_pilots.Goals as goal
 
 pub loop-i-preserved : goal.loop-i-preserved
 loop-i-preserved c =
-    let below : c.loop-i.i < length c.args.pns.now =
-    omega (arith, c.loop-i-test.true, c.len-i-end.ensures.value) in
+    let below : c.loop-i.i < length c.args.pns.now = omega (arith, c.loop-i-test.true, c.len-i-end.ensures.value) in
     rw c.push.ensures (
       named_more c.args.pns.now c.args.combs.now c.args.rows.now c.loop-i.named c.loop-i.i
           c.get.result c.get-in-loop-i-2.result c.get-in-loop-i.result below

@@ -21,11 +21,7 @@ loop-i-preserved c =
           ∙ sym c.has.ensures
           ∙ c.if-has.false)
           ∙ ap (λ l. first_repeated l rest) (sym c.push.ensures),
-      rw c.push.ensures (omega (
-        arith,
-        length-append c.loop-i.seen (c.get-pilot.result ∷ []),
-        c.loop-i.invariant.1,
-      )),
+      rw c.push.ensures (omega (arith, length-append c.loop-i.seen (c.get-pilot.result ∷ []), c.loop-i.invariant.1)),
     )
 
 pub overflow_cast-pilot : goal.overflow_cast-pilot

@@ -5,10 +5,8 @@ use Rattle.pilot_sets.proofs.hearing.firsts.Goals as goal
 
 pub loop-i-preserved : goal.loop-i-preserved
 loop-i-preserved c =
-    let below : c.loop-i.i < length c.args.pilots.now =
-    omega (arith, c.loop-i-test.true, c.len-i-end.ensures.value) in
-    let seen =
-    ap (λ l. has_pilot l c.get-pilot.result) (sym c.all.ensures.value) ∙ sym c.has.ensures in
+    let below : c.loop-i.i < length c.args.pilots.now = omega (arith, c.loop-i-test.true, c.len-i-end.ensures.value) in
+    let seen = ap (λ l. has_pilot l c.get-pilot.result) (sym c.all.ensures.value) ∙ sym c.has.ensures in
     elim c.if-not-has.branch [
       | then-not-has w ↦ rw (w.seen-is, w.push.ensures) (
         firsts_new c.args.pilots.now c.loop-i.seen c.loop-i.i c.get-pilot.result below

@@ -35,8 +35,7 @@ returns g c =
     all_written f c.args.workers (length c.as_mut_slice.result.now) c.in_ok-ranks.ranks.len
     c.run.new.ranks (drop (length c.run.new.ranks) c.in_ok-ranks.ranks.items) (omega arith) long
     room c.run.ensures in
-    let moved =
-    subst (λ (rs : List Rank). IsPermutation rs c.of.result) written c.of.ensures.permutation in
+    let moved = subst (λ (rs : List Rank). IsPermutation rs c.of.result) written c.of.ensures.permutation in
     ranking_only c.args.samples.now c.args.base c.args.width c.of.result
     (sorted_ranking c.args.samples.now c.args.base c.args.width c.of.result moved
     c.of.ensures.order)

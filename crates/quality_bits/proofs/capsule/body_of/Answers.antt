@@ -9,7 +9,6 @@ returns-clause-only c body fills is =
     let bits = c.args.bits.now in
     let count : c.in_ok-count.count ≡ length body = cc (c.in_ok-count.ensures.only body fills is) in
     let long = length-capsule c.args.kind c.args.form body in
-    let here : length body ≡ length bits - 8 - (generator_of c.args.kind).degree =
-    omega (arith, ap length is, long) in
+    let here : length body ≡ length bits - 8 - (generator_of c.args.kind).degree = omega (arith, ap length is, long) in
     ap Ok (c.part.ensures ∙ ap (λ (n : ℕ). take n (drop 8 bits)) (count ∙ here)
     ∙ ap (inner c.args.kind) is ∙ inner-capsule c.args.kind c.args.form body)

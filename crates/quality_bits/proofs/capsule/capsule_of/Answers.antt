@@ -4,18 +4,11 @@ use Rattle.quality_bits.proofs.capsule.capsule_of.Goals as goal
 
 pub append_all-requires : goal.append_all-requires
 append_all-requires c =
-    rw (c.append_number.ensures, c.empty-bits.ensures, length-binary)
-    (omega (arith, c.requires.whole, c.requires.most))
+    rw (c.append_number.ensures, c.empty-bits.ensures, length-binary) (omega (arith, c.requires.whole, c.requires.most))
 
 pub append_check-requires : goal.append_check-requires
 append_check-requires c =
-    rw (
-      c.append_all.ensures,
-      c.append_number.ensures,
-      c.empty-bits.ensures,
-      length-append,
-      length-binary,
-    )
+    rw (c.append_all.ensures, c.append_number.ensures, c.empty-bits.ensures, length-append, length-binary)
     (omega (arith, c.requires.whole, c.requires.most))
 
 -- What is appended is the capsule: the number of octets in 8 bits and then the body are its front,

@@ -10,8 +10,7 @@ returns c =
     let form = c.args.form in
     let bits = c.args.bits.now in
     let here = c.len.result - c.divisor.result.degree in
-    let body : here ≡ body_length kind bits =
-    omega (arith, c.len.ensures.value, c.divisor.ensures.degree) in
+    let body : here ≡ body_length kind bits = omega (arith, c.len.ensures.value, c.divisor.ensures.degree) in
     let sent = sent_check kind form (take (body_length kind bits) bits) in
     let end = drop (body_length kind bits) bits in
     let long : length end ≡ length sent =

@@ -16,8 +16,6 @@ returns-in-Complemented c =
     let some : 0 < g.degree = omega (arith, d.least, degree) in
     let bound : 2 ^ d.degree ≤ 2 ^ 30 = pow_mono d.most in
     let long : length checked ≡ d.degree = length-check_bits g bits some ∙ sym degree in
-    let plain : c.value-plain.result ≡ number checked =
-    c.value-plain.ensures.value c.args.kind bits c.taken.ensures in
-    let sum : number (map not checked) + number checked + 1 ≡ 2 ^ d.degree =
-    rw long at (number-inverted checked) in
+    let plain : c.value-plain.result ≡ number checked = c.value-plain.ensures.value c.args.kind bits c.taken.ensures in
+    let sum : number (map not checked) + number checked + 1 ≡ 2 ^ d.degree = rw long at (number-inverted checked) in
     rw c.in-Complemented.is (omega (arith, sum, plain, bound))

@@ -10,13 +10,11 @@ returns-in_err-stated c =
 pub returns-then-len-stated : goal.returns-then-len-stated
 returns-then-len-stated c =
     let told = c.in_ok-stated.ensures in
-    sym (front-short c.args.bits.now
-    (omega (arith, told.1, c.len.ensures.value, c.if-len-stated.true)))
+    sym (front-short c.args.bits.now (omega (arith, told.1, c.len.ensures.value, c.if-len-stated.true)))
 
 pub returns : goal.returns
 returns c =
     let told = c.in_ok-stated.ensures in
     let whole =
-    front-whole c.args.bits.now told.0
-    (omega (arith, told.1, c.len.ensures.value, c.if-len-stated.false)) in
+    front-whole c.args.bits.now told.0 (omega (arith, told.1, c.len.ensures.value, c.if-len-stated.false)) in
     ap Some (c.part.ensures ∙ ap (λ (n : ℕ). take n c.args.bits.now) told.1) ∙ sym whole

@@ -66,8 +66,7 @@ loop-symbol-preserved c =
     value_small form sums.result.pilot sum value sums.ensures.pilot_i sums.ensures.pilot_q
     (sums.ensures.small k few) c.turned_by.ensures.bound in
     let of : window ≡ _ = sym (window_of form window symbol low high) in
-    let within : symbol < length out = let w =
-    symbol_within form window symbol c.requires.window high in omega arith in
+    let within : symbol < length out = let w = symbol_within form window symbol c.requires.window high in omega arith in
     let value_is : (samples : List Sample) → HoldsLast ring samples →
     value ≡ soft samples finger form start symbol =
     λ samples held. c.turned_by.ensures.value

@@ -20,8 +20,7 @@ loop-i-preserved c =
 pub returns-clause-value : goal.returns-clause-value
 returns-clause-value c = λ samples held.
     softs_are c.args.ring.now c.args.fingers.now c.args.form c.args.start c.loop-i.i c.loop-i.out
-    samples c.loop-i.invariant (omega arith) held
-    (take_all c.loop-i.i c.args.fingers.now (omega arith))
+    samples c.loop-i.invariant (omega arith) held (take_all c.loop-i.i c.args.fingers.now (omega arith))
 
 pub returns-clause-bound : goal.returns-clause-bound
 returns-clause-bound c =

@@ -45,8 +45,7 @@ loop-k-preserved c =
     let made = c.covered_products in
     let le : 8 * k + 8 ≤ length xs = omega (arith, c.loop-k-test.true) in
     let ge : 8 * k + 8 ≤ length gs = omega (arith, le, c.requires.room) in
-    let ge' : 8 * k + 8 ≤ length (covered_signs row 0 gs) =
-    omega (arith, ge, length-covered row 0 gs) in
+    let ge' : 8 * k + 8 ≤ length (covered_signs row 0 gs) = omega (arith, ge, length-covered row 0 gs) in
     let few : k + 1 ≤ 4096 = omega (arith, le, c.requires.few) in
     record {
       plain = sums_kept xs gs (k + 1) one.result.0 one.result.1 few

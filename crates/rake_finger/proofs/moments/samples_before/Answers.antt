@@ -33,8 +33,7 @@ loop-k-preserved c =
     record {
       value = λ samples held.
           let t = held.taken in
-          let inside : k < length (drop place samples) =
-          omega (arith, length-drop place samples, t, old.taken, lt) in
+          let inside : k < length (drop place samples) = omega (arith, length-drop place samples, t, old.taken, lt) in
           let read : get_or (drop place samples) k sample ≡ sample =
           get_or-drop place samples k sample ∙
           held_sample ring samples (place + k) cell sample held (omega (arith, old.taken, lt))

@@ -10,8 +10,7 @@ returns-clause-energy c = λ samples held.
     phase + 32768 - window / 2 = omega arith in
     strongest_energy c.samples_before-samples.result phase window _ c.strongest-energy.result.1
     c.strongest-energy.result.0 (omega arith) low c.strongest-energy.ensures
-    ∙ ap (λ (xs : List Sample). (strength xs phase window).energy)
-    (c.samples_before-samples.ensures.value samples held)
+    ∙ ap (λ (xs : List Sample). (strength xs phase window).energy) (c.samples_before-samples.ensures.value samples held)
 
 -- The delta is the definition's: the strongest place was counted from half a window below the phase
 -- that meets the first of the last 512 samples, and the place less that half fits into 16 bits.
@@ -28,8 +27,7 @@ returns-clause-delta c = λ samples held.
     same
     ∙ strongest_delta c.samples_before-samples.result phase window _ place
     c.strongest-energy.result.0 (omega arith) low c.strongest-energy.ensures
-    ∙ ap (λ (xs : List Sample). (strength xs phase window).delta)
-    (c.samples_before-samples.ensures.value samples held)
+    ∙ ap (λ (xs : List Sample). (strength xs phase window).delta) (c.samples_before-samples.ensures.value samples held)
 
 -- The energy is at most 2^51: it is that of 512 samples, each of which fits into 16 bits.
 pub returns-clause-most : goal.returns-clause-most

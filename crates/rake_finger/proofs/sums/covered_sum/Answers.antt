@@ -24,8 +24,7 @@ loop-k-preserved c =
     let k = c.loop-k.k in
     let place = c.args.place in
     let sample = c.get-sample.result in
-    let phase : c.from.result + place + c.from-in-loop-k.result ≡ c.args.phase + place + k =
-    omega arith in
+    let phase : c.from.result + place + c.from-in-loop-k.result ≡ c.args.phase + place + k = omega arith in
     let code : c.chip-code.result ≡ pilot_chip ((c.args.phase + place + k) % 32768) =
     c.chip-code.ensures ∙ ap (λ (n : ℕ). pilot_chip (n % 32768)) phase in
     let is =
@@ -35,8 +34,7 @@ loop-k-preserved c =
       q = pos 0;
     }) (times (of_sample sample) (conjugate (point c.chip-code.result))))
     c.chip-row_chip.ensures
-    ∙ ap (λ (chips : Bool × Bool). times (row_sign row k)
-    (times (of_sample sample) (conjugate (point chips)))) code in
+    ∙ ap (λ (chips : Bool × Bool). times (row_sign row k) (times (of_sample sample) (conjugate (point chips)))) code in
     let sum = c.loop-k.sum in
     let product = c.covered-product.result in
     let most = 65536 * (k + 1) in

@@ -4,8 +4,7 @@ use Rattle.rake_finger.proofs.sums.covered_sum.Given as goal
 
 abbrev pub invariant-loop-k : goal.invariant-loop-k
 invariant-loop-k l = record {
-  value : (samples : List Sample) → HoldsLast l.ring samples →
-      l.sum ≡ sum_of
+  value : (samples : List Sample) → HoldsLast l.ring samples → l.sum ≡ sum_of
       (covered_from l.row 0
       (despread (l.fn.phase + l.place) (take l.k (drop l.place samples))));
   cell : l.cell ≡ (l.place + l.k) % l.ring.room;

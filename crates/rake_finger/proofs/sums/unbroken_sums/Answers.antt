@@ -5,8 +5,7 @@ use Rattle.rake_finger.proofs.sums.unbroken_sums.Goals as goal
 
 pub symbol_sums_on_lanes-requires-clause-units : goal.symbol_sums_on_lanes-requires-clause-units
 symbol_sums_on_lanes-requires-clause-units c =
-    rw (c.split_at.ensures.back, c.table.ensures.value)
-    (All-drop IsUnit c.from.result pilot_signs units)
+    rw (c.split_at.ensures.back, c.table.ensures.value) (All-drop IsUnit c.from.result pilot_signs units)
 
 -- Both sums of an unbroken run are the definition's: the ring's run is the samples from the place
 -- on, the table from its first chip on is the code's signs from there, and neither reaches past its

@@ -30,8 +30,7 @@ returns-clause-value c = λ samples held.
     let wide = c.window_chips-wide in
     let first = c.place_of-first.result in
     let window : ℕ = chips.result * c.args.symbol / wide.result in
-    let at : first + c.from.result ≡ finger_place finger c.args.start + wide.result * window =
-    omega arith in
+    let at : first + c.from.result ≡ finger_place finger c.args.start + wide.result * window = omega arith in
     let place : first + c.from-2.result ≡
     finger_place finger c.args.start + chips.result * c.args.symbol = omega arith in
     let same : to_z w64 (of_z w64 c.turned_by.result) ≡ c.turned_by.result = omega (arith, ints) in
@@ -44,8 +43,7 @@ returns-clause-value c = λ samples held.
     chips.ensures place (c.covered_sum-sum.ensures.value samples held) in
     same ∙ c.turned_by.ensures.value
     ∙ ap (turned_part c.covered_sum-pilot.result) sum
-    ∙ ap (λ (p : Pair). turned_part p
-    (symbol_sum samples finger form c.args.start c.args.symbol)) pilot
+    ∙ ap (λ (p : Pair). turned_part p (symbol_sum samples finger form c.args.start c.args.symbol)) pilot
     ∙ rw (chips.ensures, wide.ensures) (soft_is samples finger form c.args.start c.args.symbol)
 
 -- A soft value is within its form's bound: both parts of the pilot's sum and of the symbol's are at

@@ -25,8 +25,7 @@ overflow_add-pilot-in-loop-k c =
     c.loop-k.invariant.pilot_q (omega (arith, chips, sums.ensures.small.plain.1))
 
 pub bounds-symbols-from : goal.bounds-symbols-from
-bounds-symbols-from c =
-    omega (arith, most_symbols c.args.form, c.loop-k-test.true, c.window_symbols-k-end.ensures)
+bounds-symbols-from c = omega (arith, most_symbols c.args.form, c.loop-k-test.true, c.window_symbols-k-end.ensures)
 
 -- One symbol more of the window is summed: its chips follow those of the symbols before it and are
 -- still in the ring, its plain sum goes on with the pilot's, and the sum with the row's signs is
@@ -46,11 +45,9 @@ loop-k-preserved c =
     let place : ℕ = first + c.from-in-loop-k.result in
     let far = ap (λ (n : ℕ). n * k) chips in
     let wide = ap (λ (n : ℕ). n * window) c.window_chips.ensures in
-    let begun : first ≡ finger_place finger start + window_chips form * window =
-    omega (arith, wide) in
+    let begun : first ≡ finger_place finger start + window_chips form * window = omega (arith, wide) in
     let at : place ≡ first + symbol_chips form * k = omega (arith, far) in
-    let few : k < window_symbols form =
-    omega (arith, c.loop-k-test.true, c.window_symbols-k-end.ensures) in
+    let few : k < window_symbols form = omega (arith, c.loop-k-test.true, c.window_symbols-k-end.ensures) in
     let held_all : IsHeldInRing ring place (symbol_chips form) =
     symbol_held ring finger form start window k place c.requires.ring c.requires.window few
     (omega (arith, at, begun)) in
@@ -71,8 +68,7 @@ loop-k-preserved c =
           sum_of (despread_at samples finger.phase (first + symbol_chips form * k)
           (symbol_chips form)) =
           (sums.ensures.sums samples held).plain
-          ∙ ap (λ (n : ℕ × ℕ). sum_of (despread_at samples finger.phase n.0 n.1))
-          (λ i. (at i, chips i)) in
+          ∙ ap (λ (n : ℕ × ℕ). sum_of (despread_at samples finger.phase n.0 n.1)) (λ i. (at i, chips i)) in
           pilot_more samples finger.phase first (symbol_chips form * k) (symbol_chips form)
           (symbol_chips form * (k + 1)) c.loop-k.pilot sums.result.plain _ _
           (omega (arith, taken, t, at)) (chips_more form k) (inv.pilot samples held) is
@@ -85,8 +81,7 @@ loop-k-preserved c =
           (inv.symbols samples held)
           (symbol_is samples finger form start (window_symbols form * window + k) place
           c.symbol_chips-chips.result sums.result.covered chips
-          (rw chips
-          (symbol_place form (finger_place finger start) window k place (omega (arith, at, begun))))
+          (rw chips (symbol_place form (finger_place finger start) window k place (omega (arith, at, begun))))
           (sums.ensures.sums samples held).covered);
       pilot_i = bound_kept form k c.loop-k.pilot.i sums.result.plain.i few inv.pilot_i plain_i;
       pilot_q = bound_kept form k c.loop-k.pilot.q sums.result.plain.q few inv.pilot_q plain_q;

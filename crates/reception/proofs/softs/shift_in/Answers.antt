@@ -23,8 +23,7 @@ returns-clause-value c =
     ap (take (1152 - n)) after ∙ take_at (drop n xs) (take n xs) (1152 - n) long in
     let size : ℕ = 1152 - (1152 - n) in
     let back : post_of (1152 - n) size turned ≡ [] =
-    drop_all size (drop (1152 - n) turned)
-    (omega (arith, length-drop (1152 - n) turned, whole)) in
+    drop_all size (drop (1152 - n) turned) (omega (arith, length-drop (1152 - n) turned, whole)) in
     rw (front, copied, back, append-nil) refl
 
 pub returns-clause-small : goal.returns-clause-small

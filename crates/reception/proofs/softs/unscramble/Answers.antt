@@ -22,8 +22,7 @@ loop-i-preserved c =
     let many : i < length old = search rules in
     let value : v ≡ sign (get_or bits i false) *ℤ x =
     c.descrambled_value.ensures.value ∙ ap (λ y. sign (get_or bits i false) *ℤ y) read in
-    let size : unsigned_abs v ≡ unsigned_abs x =
-    c.descrambled_value.ensures.size ∙ ap unsigned_abs read in
+    let size : unsigned_abs v ≡ unsigned_abs x = c.descrambled_value.ensures.size ∙ ap unsigned_abs read in
     rw kept (record {
       value = descrambled_more bits old now i v few many c.loop-i.invariant.value value;
       small =

@@ -8,5 +8,4 @@ returns-clause-value c =
 
 pub returns-clause-bound : goal.returns-clause-bound
 returns-clause-bound c =
-    rw (returns-clause-value c)
-    (branch_most c.args.branch c.args.sign c.ranges.branch c.requires)
+    rw (returns-clause-value c) (branch_most c.args.branch c.args.sign c.ranges.branch c.requires)

@@ -9,5 +9,4 @@ pub returns-clause-once : goal.returns-clause-once
 returns-clause-once c = address-injective
 
 pub returns-clause-each : goal.returns-clause-each
-returns-clause-each c =
-    λ kind a h. (place (shape_of kind) a, place_lt kind a h, address-place kind a h)
+returns-clause-each c = λ kind a h. (place (shape_of kind) a, place_lt kind a h, address-place kind a h)

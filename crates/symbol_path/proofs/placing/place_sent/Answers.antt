@@ -4,10 +4,7 @@ use Rattle.symbol_path.proofs.Interleaving.{read_symbol_lt, read_repeats_some, s
 use Rattle.symbol_path.proofs.placing.place_sent.Goals as goal
 
 pub loop-i-init : goal.loop-i-init
-loop-i-init c = record {
-  value = rw places-none c.empty.ensures;
-  count = ap length c.empty.ensures;
-}
+loop-i-init c = record { value = rw places-none c.empty.ensures; count = ap length c.empty.ensures }
 
 pub nonzero_div-repeated : goal.nonzero_div-repeated
 nonzero_div-repeated c =
@@ -28,8 +25,7 @@ append-requires c =
 -- repetition over the repeats is the code symbol that was read.
 pub loop-i-preserved : goal.loop-i-preserved
 loop-i-preserved c =
-    let symbol : ℕ → Bool =
-    λ i. get_or c.args.code.now (repeated_as c.args.symbols i / c.args.repeats) false in
+    let symbol : ℕ → Bool = λ i. get_or c.args.code.now (repeated_as c.args.symbols i / c.args.repeats) false in
     let here : c.repeated.result / c.from.result ≡ repeated_as c.args.symbols c.loop-i.i / c.args.repeats =
     rw (c.repeated.ensures.value, c.from.ensures) in
     let read : symbol c.loop-i.i ≡ c.get.result =
@@ -44,7 +40,6 @@ loop-i-preserved c =
 pub returns-clause-value : goal.returns-clause-value
 unfolding sent_by
 returns-clause-value c =
-    let symbol : ℕ → Bool =
-    λ i. get_or c.args.code.now (repeated_as c.args.symbols i / c.args.repeats) false in
+    let symbol : ℕ → Bool = λ i. get_or c.args.code.now (repeated_as c.args.symbols i / c.args.repeats) false in
     let ended : c.loop-i.i ≡ sent_count c.args.symbols = omega (arith, c.count-i-end.ensures) in
     c.loop-i.invariant.value ∙ ap (λ (n : ℕ). map symbol (places n)) ended

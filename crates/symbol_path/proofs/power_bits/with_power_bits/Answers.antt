@@ -3,10 +3,7 @@ use Rattle.symbol_path.proofs.Common.{map-places-more, length-map-places, symbol
 use Rattle.symbol_path.proofs.power_bits.with_power_bits.Goals as goal
 
 pub loop-i-init : goal.loop-i-init
-loop-i-init c = record {
-  value = rw places-none c.empty-out.ensures;
-  count = ap length c.empty-out.ensures;
-}
+loop-i-init c = record { value = rw places-none c.empty-out.ensures; count = ap length c.empty-out.ensures }
 
 pub loop-i-preserved : goal.loop-i-preserved
 loop-i-preserved c =

@@ -30,8 +30,7 @@ loop-chip-preserved c =
 pub returns-clause-chips : goal.returns-clause-chips
 returns-clause-chips c =
     symbol_chips_all c.args.state.now c.args.mask (length c.args.out.now) c.loop-chip.out
-    c.loop-chip.auto.out
-    (λ k lt. c.loop-chip.invariant.chips k (omega (arith, lt)))
+    c.loop-chip.auto.out (λ k lt. c.loop-chip.invariant.chips k (omega (arith, lt)))
 
 pub returns-clause-later : goal.returns-clause-later
 returns-clause-later c = λ n.

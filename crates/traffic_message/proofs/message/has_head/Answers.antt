@@ -4,8 +4,7 @@ use Rattle.traffic_message.proofs.message.has_head.Goals as goal
 
 pub returns-then-len-ge17 : goal.returns-then-len-ge17
 returns-then-len-ge17 c =
-    is_body_by c.args.body.now c.fills_capsule.result
-    (omega (arith, c.if-len-ge17.true, c.len.ensures.value))
+    is_body_by c.args.body.now c.fills_capsule.result (omega (arith, c.if-len-ge17.true, c.len.ensures.value))
     (c.fills_capsule.ensures c.args.body.now (sym c.len-then-len-ge17.ensures.value))
 
 pub returns-else-len-ge17 : goal.returns-else-len-ge17

@@ -16,8 +16,7 @@ loop-frame-preserved c =
     record {
       value = c.in_ok-push.ensures.ok
           ∙ ap (λ (fs : List TrafficFrame). fs ++ c.frame.result ∷ []) inv.value
-          ∙ ap (λ (f : TrafficFrame). frames_drawn s k ++ f ∷ [])
-          (c.frame.ensures.value ∙ ap frame_drawn inv.state)
+          ∙ ap (λ (f : TrafficFrame). frames_drawn s k ++ f ∷ []) (c.frame.ensures.value ∙ ap frame_drawn inv.state)
           ∙ sym (frames_drawn_more s k);
       state = c.frame.ensures.state ∙ ap past_frame inv.state ∙ sym (frames_more s k);
     }
@@ -25,6 +24,5 @@ loop-frame-preserved c =
 pub returns : goal.returns
 returns c =
     let s = c.args.draws.now.state in
-    let all : c.loop-frame._frame ≡ 100 =
-    omega (arith, c.loop-frame-test.false, c.loop-frame.auto._frame-end) in
+    let all : c.loop-frame._frame ≡ 100 = omega (arith, c.loop-frame-test.false, c.loop-frame.auto._frame-end) in
     c.loop-frame.invariant.value ∙ ap (frames_drawn s) all

@@ -4,8 +4,7 @@ use Rattle.cell_plan.specs.SomeMessage.{some_message, some_sync}
 use Rattle.trial_link.proofs.trial.sync_channel.Goals as goal
 
 -- three zeros after no bits
-three_zeros : (before after : List Bool) → before ≡ [] → after ≡ before ++ binary 3 0 →
-    after ≡ replicate 3 false
+three_zeros : (before after : List Bool) → before ≡ [] → after ≡ before ++ binary 3 0 → after ≡ replicate 3 false
 unfolding binary
 three_zeros before after none is = is ∙ ap (λ (bits : List Bool). bits ++ binary 3 0) none
 

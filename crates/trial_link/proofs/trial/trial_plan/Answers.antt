@@ -16,8 +16,7 @@ plan_with cell sync paging traffic = record {
 }
 
 plan_made : (number : ℕ) (cell : CellIdentity) (sync : SyncPlan) (paging : List PagingPlan)
-    (traffic : List TrafficPlan) → cell ≡ trial_cell number → sync ≡ trial_sync →
-    paging ≡ trial_paging cell.pn ∷ [] →
+    (traffic : List TrafficPlan) → cell ≡ trial_cell number → sync ≡ trial_sync → paging ≡ trial_paging cell.pn ∷ [] →
     traffic ≡ trial_traffic (trial_serial_number number) (trial_frames number) →
     plan_with cell sync paging traffic ≡ trial_plan number
 unfolding trial_plan
@@ -32,12 +31,10 @@ plan_made number cell sync paging traffic cell_is sync_is paging_is traffic_is =
 frames_from : (number state : ℕ) (frames : List TrafficFrame) → frames ≡ frames_drawn state 100 →
     state ≡ past_draws number 5 → frames ≡ trial_frames number
 unfolding trial_frames
-frames_from number state frames is state_is =
-    is ∙ ap (λ (s : ℕ). frames_drawn s 100) state_is
+frames_from number state frames is state_is = is ∙ ap (λ (s : ℕ). frames_drawn s 100) state_is
 
 channels_from : (number esn : ℕ) (frames : List TrafficFrame) (traffic : List TrafficPlan) →
-    traffic ≡ trial_traffic esn frames → esn ≡ trial_serial_number number →
-    frames ≡ trial_frames number →
+    traffic ≡ trial_traffic esn frames → esn ≡ trial_serial_number number → frames ≡ trial_frames number →
     traffic ≡ trial_traffic (trial_serial_number number) (trial_frames number)
 channels_from number esn frames traffic is esn_is frames_is =
     is ∙ ap (λ (e : ℕ). trial_traffic e frames) esn_is

@@ -8,8 +8,7 @@ use Rattle.tuned_listener.proofs.frame_writer.hear_frames.Goals as goal
 
 -- before the first sample no text is written
 writes_none : (t : Tuning) (channel : Channel) (m : Mark) (form : TunedText) (tuner : Tuner)
-    (writer : FrameWriter) (heard samples : List Sample) (sink : Option (List ℕ)) →
-    IsTunedTo t channel m tuner heard →
+    (writer : FrameWriter) (heard samples : List Sample) (sink : Option (List ℕ)) → IsTunedTo t channel m tuner heard →
     HoldsFrames writer t.check30 (slot_after [] (soft_frames t channel m heard)) →
     WritesFrames t channel m form tuner writer heard (heard ++ take 0 samples) sink sink
 writes_none t channel m form tuner writer heard samples sink tuned holds =
@@ -51,8 +50,7 @@ loop-taken-preserved-in-Continue-1 g c =
       text = search rules;
       writes = λ (t : Tuning) (channel : Channel) (heard : List Sample)
           (tuned : IsTunedTo t channel m c.args.tuner.now heard)
-          (holds : HoldsFrames c.args.writer.now t.check30
-          (slot_after [] (soft_frames t channel m heard))).
+          (holds : HoldsFrames c.args.writer.now t.check30 (slot_after [] (soft_frames t channel m heard))).
           let now = heard ++ take taken samples in
           let slot = slot_after [] (soft_frames t channel m now) in
           let so_far = inv.writes t channel heard tuned holds in
@@ -60,8 +58,7 @@ loop-taken-preserved-in-Continue-1 g c =
           heard samples _ taken c.step-step.result _ _ _ (take_rest samples taken) c.step-step.ensures
           so_far c.write.new.self
           (frame_written t channel m form now c.step-step.result.frame frame _ _ some
-          (subst (λ (f : TunedText). Appends (g.K.Sink.written c.loop-taken.sink)
-          (g.K.Sink.written c.write.new.sink)
+          (subst (λ (f : TunedText). Appends (g.K.Sink.written c.loop-taken.sink) (g.K.Sink.written c.write.new.sink)
           (tuned_frame_text f t.check30 m (slot_more slot frame) frame)) inv.text
           (c.in_ok-write.ensures.ok t.check30 slot so_far.holds)))
           (frame_kept t channel m form now c.step-step.result.frame frame c.write.new.self some
@@ -86,14 +83,12 @@ loop-taken-preserved g c =
       text = search rules;
       writes = λ (t : Tuning) (channel : Channel) (heard : List Sample)
           (tuned : IsTunedTo t channel m c.args.tuner.now heard)
-          (holds : HoldsFrames c.args.writer.now t.check30
-          (slot_after [] (soft_frames t channel m heard))).
+          (holds : HoldsFrames c.args.writer.now t.check30 (slot_after [] (soft_frames t channel m heard))).
           let now = heard ++ take taken samples in
           let so_far = inv.writes t channel heard tuned holds in
           writes_more t channel m form c.loop-taken.tuner c.step-step.new.self c.loop-taken.writer
           heard samples _ taken c.step-step.result _ _ _ (take_rest samples taken) c.step-step.ensures
-          so_far c.loop-taken.writer
-          (none_written t channel m form now c.step-step.result.frame _ none)
+          so_far c.loop-taken.writer (none_written t channel m form now c.step-step.result.frame _ none)
           (none_kept t channel m form now c.step-step.result.frame c.loop-taken.writer none
           so_far.holds);
       later = search rules;
@@ -113,8 +108,7 @@ returns-in_err-write-clause-err g c =
     let p = err_from_is_err_and c.from_residual.result c.from_residual.ensures.1 in
     rw p.1 (λ (t : Tuning) (channel : Channel) (heard : List Sample)
     (tuned : IsTunedTo t channel m c.args.tuner.now heard)
-    (holds : HoldsFrames c.args.writer.now t.check30
-    (slot_after [] (soft_frames t channel m heard))).
+    (holds : HoldsFrames c.args.writer.now t.check30 (slot_after [] (soft_frames t channel m heard))).
     let now = heard ++ take taken samples in
     let slot = slot_after [] (soft_frames t channel m now) in
     let so_far = inv.writes t channel heard tuned holds in
@@ -122,8 +116,7 @@ returns-in_err-write-clause-err g c =
     heard samples _ taken c.step-step.result _ _ _ (take_rest samples taken) c.step-step.ensures
     so_far
     (frame_cut t channel m form now c.step-step.result.frame frame _ _ some
-    (subst (λ (f : TunedText). AppendsPrefix (g.K.Sink.written c.loop-taken.sink)
-    (g.K.Sink.written c.write.new.sink)
+    (subst (λ (f : TunedText). AppendsPrefix (g.K.Sink.written c.loop-taken.sink) (g.K.Sink.written c.write.new.sink)
     (tuned_frame_text f t.check30 m (slot_more slot frame) frame)) inv.text
     (c.in_err-write.ensures.err t.check30 slot so_far.holds))))
 

@@ -42,8 +42,7 @@ returns-in-Some-clause-set c = λ m e t heard is.
     let told : c.mark.result ≡ Some m = c.in-Some.is ∙ e in
     marked_here c.loop-taken.mobile c.step-step.new.self _ c.step-step.result
     c.step-step.ensures.steps t heard samples taken m (take_rest samples taken)
-    (c.loop-taken.invariant.none t heard is.has)
-    (λ now given stands. c.mark.ensures.set t now given stands m told)
+    (c.loop-taken.invariant.none t heard is.has) (λ now given stands. c.mark.ensures.set t now given stands m told)
 
 -- A step after which the handset tells no mark leaves it ahead of its mark: it tells one just where
 -- one of the events that it has given sets it, so this step's event sets none, and neither did

@@ -6,8 +6,7 @@ use Rattle.viterbi.proofs.lanes.block_step.Goals as goal
 
 pub gains_of-requires-clause-fit : goal.gains_of-requires-clause-fit
 gains_of-requires-clause-fit g c j b =
-    rw (c.requires.gains j b)
-    (gain_fits c.args.first c.args.second (get_or lane_codes j 0) c.requires.column.pair)
+    rw (c.requires.gains j b) (gain_fits c.args.first c.args.second (get_or lane_codes j 0) c.requires.column.pair)
 
 lanes_of : (g : Over) (c : After-gains_of g) →
     BlockLanes c.args.column.now c.args.top c.args.first c.args.second c.args.block
@@ -32,8 +31,7 @@ returns-clause-metrics g c l b =
     let lanes = lanes_of g (goal.at.returns-clause-metrics g c).After-gains_of in
     block_metric c.args.column.now c.args.top c.args.first c.args.second c.args.block l _
     (get_or c.neighbours.result.0 l (pos 0)) (get_or c.neighbours.result.1 l (pos 0))
-    (get_or c.gains_of.result l (pos 0)) _
-    (lanes.even_is l b) (lanes.odd_is l b)
+    (get_or c.gains_of.result l (pos 0)) _ (lanes.even_is l b) (lanes.odd_is l b)
     (rw (lanes.even_kept, lanes.odd_kept, lanes.gain_kept) at (c.selected_block.ensures.metrics l b))
 
 pub returns-clause-choices : goal.returns-clause-choices
@@ -41,8 +39,7 @@ returns-clause-choices g c l b =
     let lanes = lanes_of g (goal.at.returns-clause-choices g c).After-gains_of in
     block_chosen c.args.column.now c.args.top c.args.first c.args.second c.args.block l _
     (get_or c.neighbours.result.0 l (pos 0)) (get_or c.neighbours.result.1 l (pos 0))
-    (get_or c.gains_of.result l (pos 0)) _
-    (lanes.even_is l b) (lanes.odd_is l b)
+    (get_or c.gains_of.result l (pos 0)) _ (lanes.even_is l b) (lanes.odd_is l b)
     (rw (lanes.even_kept, lanes.odd_kept, lanes.gain_kept) at (c.selected_block.ensures.choices l b))
 
 pub neighbours-requires-clause-less : goal.neighbours-requires-clause-less

@@ -24,14 +24,12 @@ moved_lanes-requires-clause-odd g c =
     ) c.requires.odd
 
 -- the lanes that are compared
-even_is : (g : Over) (c : After-moved_lanes g) →
-    passed c.moved_lanes.result.0 ≡ even_of c.args.a c.args.gain
+even_is : (g : Over) (c : After-moved_lanes g) → passed c.moved_lanes.result.0 ≡ even_of c.args.a c.args.gain
 even_is g c =
     made_is (λ x y. x +ℤ y) _ _ _ c.requires.a_long c.requires.gain_long c.requires.even
     c.moved_lanes.ensures.even
 
-odd_is : (g : Over) (c : After-moved_lanes g) →
-    passed c.moved_lanes.result.1 ≡ odd_of c.args.b c.args.gain
+odd_is : (g : Over) (c : After-moved_lanes g) → passed c.moved_lanes.result.1 ≡ odd_of c.args.b c.args.gain
 odd_is g c =
     made_is (λ x y. x -ℤ y) _ _ _ c.requires.b_long c.requires.gain_long c.requires.odd
     c.moved_lanes.ensures.odd
@@ -59,8 +57,7 @@ selected_lanes-requires-clause-odd_long g c =
 pub returns-then-this-ne0-clause-metrics : goal.returns-then-this-ne0-clause-metrics
 returns-then-this-ne0-clause-metrics g c l b =
     let even = even_is g (goal.at.returns-then-this-ne0-clause-metrics g c).After-moved_lanes in
-    let is : FORCED-type (number g.row.FORCED) ≡ true =
-    grind (arith, nat_tests, c.if-this-ne0.true) in
+    let is : FORCED-type (number g.row.FORCED) ≡ true = grind (arith, nat_tests, c.if-this-ne0.true) in
     rw is
     (ap (λ (xs : List ℤ). get_or xs l (pos 0)) even
     ∙ made_at (λ x y. x +ℤ y) c.args.a c.args.gain l c.requires.a_long c.requires.gain_long b)

@@ -23,8 +23,7 @@ loop-k-init g c =
       metrics = λ t b none. nothing_yet t none;
       chosen = λ t b none. nothing_yet t none;
       tops = rw (et, ef, es)
-          (tops_first
-          (λ t. metric_into forced c.args.column.now c.args.first c.args.second t -ℤ c.args.top)
+          (tops_first (λ t. metric_into forced c.args.column.now c.args.first c.args.second t -ℤ c.args.top)
           (metric_fits forced c.args.column.now c.args.top c.args.first c.args.second 0
           c.requires.column));
     }

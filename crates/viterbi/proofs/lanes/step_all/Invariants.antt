@@ -8,11 +8,9 @@ invariant-loop-k g l = record {
   whole : length l.next ≡ 256;
   long : length l.choices ≡ 32;
   metrics : (t : ℕ) → t < 256 → t / 8 % 16 < l.k →
-      get_or l.next t (pos 0) ≡ metric_into (FORCED-type (number g.row.FORCED)) l.column l.first
-      l.second t -ℤ l.top;
+      get_or l.next t (pos 0) ≡ metric_into (FORCED-type (number g.row.FORCED)) l.column l.first l.second t -ℤ l.top;
   chosen : (t : ℕ) → t < 256 → t / 8 % 16 < l.k →
       took l.choices t ≡ choice_into (FORCED-type (number g.row.FORCED)) l.column l.first l.second t;
-  tops : AreTops
-      (λ t. metric_into (FORCED-type (number g.row.FORCED)) l.column l.first l.second t -ℤ l.top) l.k
+  tops : AreTops (λ t. metric_into (FORCED-type (number g.row.FORCED)) l.column l.first l.second t -ℤ l.top) l.k
       (map (to_z w64) l.most);
 }

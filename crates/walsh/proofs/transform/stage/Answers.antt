@@ -5,8 +5,7 @@ use Rattle.walsh.proofs.transform.stage.Goals.{then-low-apart-eq0, else-low-apar
 use Rattle.walsh.proofs.transform.stage.Goals as goal
 
 -- the partner of a lower place
-partner_room : (bit l : ℕ) → bit < 6 → l < 64 →
-    bit_and l (step bit) ≡ 0 → l + step bit < 64
+partner_room : (bit l : ℕ) → bit < 6 → l < 64 → bit_and l (step bit) ≡ 0 → l + step bit < 64
 partner_room bit l few small apart =
     let room = (low bit l few small (is_clear bit l few small apart)).room in
     omega (arith, room, shifted bit few)
@@ -54,13 +53,11 @@ pub returns-clause-stage : goal.returns-clause-stage
 returns-clause-stage c =
     let all : c.loop-low.low ≡ 64 = omega arith in
     let P = λ (k : ℕ). IsPartway c.args.bit k c.args.values.now c.loop-low.values in
-    ends c.args.bit c.args.values.now c.loop-low.values c.requires.bit
-    (subst P all c.loop-low.invariant)
+    ends c.args.bit c.args.values.now c.loop-low.values c.requires.bit (subst P all c.loop-low.invariant)
 
 pub returns-clause-small : goal.returns-clause-small
 returns-clause-small c =
     let all : c.loop-low.low ≡ 64 = omega arith in
     let P = λ (k : ℕ). IsPartway c.args.bit k c.args.values.now c.loop-low.values in
     grows c.args.bit c.args.values.now c.loop-low.values c.requires.bit c.requires.small
-    (ends c.args.bit c.args.values.now c.loop-low.values c.requires.bit
-    (subst P all c.loop-low.invariant))
+    (ends c.args.bit c.args.values.now c.loop-low.values c.requires.bit (subst P all c.loop-low.invariant))

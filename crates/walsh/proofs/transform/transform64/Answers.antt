@@ -24,5 +24,4 @@ pub returns-clause-quadrature : goal.returns-clause-quadrature
 returns-clause-quadrature c =
     let all : c.loop-bit.bit ≡ 6 = omega arith in
     let P = λ (k : ℕ). IsCarried k c.args.values.now c.loop-bit.values in
-    quadrature_is c.args.values.now c.loop-bit.values c.told-values
-    (subst P all c.loop-bit.invariant)
+    quadrature_is c.args.values.now c.loop-bit.values c.told-values (subst P all c.loop-bit.invariant)

@@ -6,8 +6,7 @@ pub returns-then-count-lt-HEADER_LEN-clause-told : goal.returns-then-count-lt-HE
 returns-then-count-lt-HEADER_LEN-clause-told g c =
     let long : length c.fill.new.buf ≡ 16 = search rules in
     told_short _ _ c.fill.new.buf c.in_ok-count.count c.in_ok-count.ensures.bound
-    c.if-count-lt-HEADER_LEN.true c.in_ok-count.ensures.bytes
-    (c.in_ok-count.ensures.ends (search rules))
+    c.if-count-lt-HEADER_LEN.true c.in_ok-count.ensures.bytes (c.in_ok-count.ensures.ends (search rules))
 
 -- Where the header has a fault, that fault is the answer: all 16 bytes came, so the buffer is the
 -- front of what the source had, and what `opening` says of it is what was read.

@@ -14,8 +14,7 @@ pub returns-in-Ok-clause-beyond : goal.returns-in-Ok-clause-beyond
 returns-in-Ok-clause-beyond g c = grind (ints, arith, common_steps)
 
 -- the bytes that are asked for are those of the samples that there is room for and are left
-asked : (g : Over) (c : In-Err g) →
-    sample_len c.width-width.result * length (take c.min-wanted.result c.args.out.now)
+asked : (g : Over) (c : In-Err g) → sample_len c.width-width.result * length (take c.min-wanted.result c.args.out.now)
     ≡ sample_len (width_of c.args.self.now.header) * min (length c.args.out.now) c.args.self.now.left
 asked g c =
     let left = ap (λ (r : Reading). r.left) c.self.view_is in
@@ -29,15 +28,13 @@ asked g c =
 
 pub returns-in-Err-clause-fewer : goal.returns-in-Err-clause-fewer
 returns-in-Err-clause-fewer g c = λ fresh.
-    subst
-    (λ n. ConsumesFewer n (g.S.Source.rest c.args.source.now) (g.S.Source.rest c.read_samples.new.source))
+    subst (λ n. ConsumesFewer n (g.S.Source.rest c.args.source.now) (g.S.Source.rest c.read_samples.new.source))
     (asked g (goal.at.returns-in-Err-clause-fewer g c).In-Err)
     c.in-Err.ensures.fewer
 
 pub returns-in-Err-clause-taken : goal.returns-in-Err-clause-taken
 returns-in-Err-clause-taken g c =
-    subst
-    (λ n. ConsumesAtMost n (g.S.Source.rest c.args.source.now) (g.S.Source.rest c.read_samples.new.source))
+    subst (λ n. ConsumesAtMost n (g.S.Source.rest c.args.source.now) (g.S.Source.rest c.read_samples.new.source))
     (asked g (goal.at.returns-in-Err-clause-taken g c).In-Err)
     c.in-Err.ensures.taken
 

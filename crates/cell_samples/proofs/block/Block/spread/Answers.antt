@@ -73,8 +73,7 @@ pub returns-clause-same : goal.returns-clause-same
 returns-clause-same c =
     let s = c.self.inside in
     let lent = c.deref_mut in
-    let again : List ChannelState → BlockState =
-    λ cs. record { channels = cs; factor = s.factor } in
+    let again : List ChannelState → BlockState = λ cs. record { channels = cs; factor = s.factor } in
     ap again
     (written_back s.channels.items _ s.channels.len (c.renew.ensures.same ∙ lent.ensures.value)
     (ap length c.renew.ensures.same ∙ lent.ensures.len))

@@ -9,10 +9,8 @@ invariant_of-self c =
     let bits = c.frame_bits-bits in
     last_before (frame_bits_of source) c.args.frame c.state_at-start.result
     c.encode_into-self-inside.result bits.result
-    bits.ensures.value
-    (omega (arith, bits.ensures.count, eight_bits source)) c.encode_into-self-inside.ensures.last
-    ∙ ap (λ (s : FrameSource). bits_before (frame_bits_of s) (c.args.frame + 1))
-    (sym bits.ensures.same)
+    bits.ensures.value (omega (arith, bits.ensures.count, eight_bits source)) c.encode_into-self-inside.ensures.last
+    ∙ ap (λ (s : FrameSource). bits_before (frame_bits_of s) (c.args.frame + 1)) (sym bits.ensures.same)
 
 pub returns-clause-value : goal.returns-clause-value
 returns-clause-value c =
@@ -20,8 +18,7 @@ returns-clause-value c =
     let bits = c.frame_bits-bits in
     let same : c.self.inside.source ≡ source = c.self.view_is ∙ c.state_at-start.ensures.same in
     coded (frame_bits_of source) c.args.frame c.state_at-start.result bits.result
-    c.encode_into-self-inside.new.out
-    (bits.ensures.value ∙ ap (λ (s : FrameSource). frame_bits_of s c.args.frame) same)
+    c.encode_into-self-inside.new.out (bits.ensures.value ∙ ap (λ (s : FrameSource). frame_bits_of s c.args.frame) same)
     c.state_at-start.ensures.value c.encode_into-self-inside.ensures.symbols
 
 pub returns-clause-count : goal.returns-clause-count

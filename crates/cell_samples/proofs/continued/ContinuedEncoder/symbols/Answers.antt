@@ -12,10 +12,8 @@ returns-clause-value c =
     let placed : c.place_into.new.out
     ≡ sent (shape_of (symbol_kind_of source)) (repeats_in source) code.result =
     c.place_into.ensures.value
-    ∙ ap (λ (k : Kind). sent (shape_of k) c.repeats.result code.result)
-    (c.kind.ensures ∙ ap symbol_kind_of same)
-    ∙ ap (λ (n : ℕ). sent (shape_of (symbol_kind_of source)) n code.result)
-    (c.repeats.ensures ∙ ap repeats_in same) in
+    ∙ ap (λ (k : Kind). sent (shape_of k) c.repeats.result code.result) (c.kind.ensures ∙ ap symbol_kind_of same)
+    ∙ ap (λ (n : ℕ). sent (shape_of (symbol_kind_of source)) n code.result) (c.repeats.ensures ∙ ap repeats_in same) in
     symbols_are source c.args.frame code.result c.scrambled.result code.ensures.value
     (c.scrambled.ensures.value
     ∙ ap (λ (s : FrameSource). scrambled_by s c.args.frame c.place_into.new.out) same

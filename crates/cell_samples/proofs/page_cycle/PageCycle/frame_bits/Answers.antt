@@ -22,8 +22,7 @@ loop-k-preserved c =
     c.append.ensures
     ∙ ap (λ (b : Bool). c.loop-k.bits ++ b ∷ [])
     (c.bit.ensures
-    ∙ ap (λ (n : ℕ). get_or cycle (n % length cycle) false)
-    (rw (c.from.ensures, c.from-in-loop-k.ensures) refl)) in
+    ∙ ap (λ (n : ℕ). get_or cycle (n % length cycle) false) (rw (c.from.ensures, c.from-in-loop-k.ensures) refl)) in
     record {
       value = e ∙ bit_more cycle c.loop-k.bits size c.args.frame c.loop-k.k i.value;
       count = omega (
@@ -40,6 +39,5 @@ pub returns-clause-value : goal.returns-clause-value
 returns-clause-value c =
     let size = c.frame_bits-size in
     frame_is c.args.self.now c.loop-k.bits size.result c.args.frame c.loop-k.k
-    (frame_bits-is c.args.self.now.rate size.result
-    (rw (sym (ap (λ (v : Cycle). v.rate) c.self.view_is)) size.ensures))
+    (frame_bits-is c.args.self.now.rate size.result (rw (sym (ap (λ (v : Cycle). v.rate) c.self.view_is)) size.ensures))
     (omega (arith, c.loop-k-test.false)) c.loop-k.invariant.value

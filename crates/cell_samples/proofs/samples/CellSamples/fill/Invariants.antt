@@ -5,8 +5,7 @@ abbrev pub invariant-loop-done : goal.invariant-loop-done
 invariant-loop-done l = record {
   done : l.done ≤ length l.out;
   state : l.self ≡ record l.fn.self { given = l.fn.self.given + l.done };
-  samples : map of_sample (take l.done l.out) ≡
-      take l.done (drop l.fn.self.given (samples_of l.fn.self.plan));
+  samples : map of_sample (take l.done l.out) ≡ take l.done (drop l.fn.self.given (samples_of l.fn.self.plan));
   fit : All (HasBits l.fn.self.width) (take l.done l.out);
 }
 

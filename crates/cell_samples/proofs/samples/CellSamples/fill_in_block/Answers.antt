@@ -24,8 +24,7 @@ spread-requires-clause-signs c =
     (c.split_at.ensures.back ∙ ap (drop c.from.result) c.table.ensures.value
     ∙ ap (λ (p : ℕ). drop p pilot_signs) c.from.ensures)
     (running.code_goes_on s.plan chip c.phase_for-phase.result n c.self.invariant.lawful.pn
-    c.phase_for-phase.ensures.value
-    (within (goal.at.spread-requires-clause-signs c).After-split_at))
+    c.phase_for-phase.ensures.value (within (goal.at.spread-requires-clause-signs c).After-split_at))
 
 pub spread-requires-clause-points : goal.spread-requires-clause-points
 spread-requires-clause-points c =
@@ -54,8 +53,7 @@ returns c =
     long (within (goal.at.returns c).After-split_at) c.spread.ensures.value in
     record {
       samples =
-          running.samples_given s.plan s.block s.given c.phase_for-phase.result n signs out given
-          (sym long) left
+          running.samples_given s.plan s.block s.given c.phase_for-phase.result n signs out given (sym long) left
           ∙ ap (λ (v : CellState). take n (drop v.given (samples_of v.plan))) c.self.view_is;
       fit =
           subst (λ (v : CellState). All (HasBits v.width) out) c.self.view_is

@@ -5,13 +5,11 @@ use Rattle.cell_samples.proofs.sendings.Sendings.frame_bits.Goals as goal
 -- the capsule of the frame's transmission
 capsule_is : (c : After-capsule_of-capsule) → let s = c.self.inside in
     c.capsule_of-capsule.result
-    ≡ sync_capsule s.cell.check30
-    (message_of s.cell s.message (c.args.frame / (3 * s.superframes)))
+    ≡ sync_capsule s.cell.check30 (message_of s.cell s.message (c.args.frame / (3 * s.superframes)))
 capsule_is c =
     c.capsule_of-capsule.ensures.value
     ∙ ap (λ (t : Sent).
-    sync_capsule t.cell.check30
-    (message_of t.cell t.message (c.args.frame / (3 * c.self.inside.superframes))))
+    sync_capsule t.cell.check30 (message_of t.cell t.message (c.args.frame / (3 * c.self.inside.superframes))))
     (sym c.self.view_is)
 
 pub piece_of-requires : goal.piece_of-requires

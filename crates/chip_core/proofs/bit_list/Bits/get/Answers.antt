@@ -3,8 +3,7 @@ use Rattle.chip_core.proofs.WordBits.{bit_read, length_is}
 use Rattle.chip_core.proofs.bit_list.Bits.get.Goals as goal
 
 pub bounds-self-inside-i : goal.bounds-self-inside-i
-bounds-self-inside-i c =
-    omega (arith, c.requires, length_is _ _ _ c.self.view_is, c.self.invariant.room)
+bounds-self-inside-i c = omega (arith, c.requires, length_is _ _ _ c.self.view_is, c.self.invariant.room)
 
 pub returns : goal.returns
 returns c =

@@ -23,8 +23,7 @@ returns-clause-spelled c =
     let bits = c.self.inside.bits.now in
     let width = c.args.width in
     let ended : c.loop-k.k ≡ width = omega arith in
-    let value : c.loop-k.value ≡ number (take width (drop at bits)) =
-    rw ended at c.loop-k.invariant.value in
+    let value : c.loop-k.value ≡ number (take width (drop at bits)) = rw ended at c.loop-k.invariant.value in
     let room : width ≤ length (drop at bits) = search (rules, length-drop at bits) in
     let rest : drop width (drop at bits) ≡ drop (at + c.from-2.result) bits =
     drop-drop width at bits ∙ ap (λ n. drop (at + n) bits) (sym c.from-2.ensures) in

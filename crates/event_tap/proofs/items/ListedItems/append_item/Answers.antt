@@ -27,8 +27,7 @@ returns-clause-value c =
     ∙ ap (λ n. text ++ decimal n) (sym number))
     ∙ append_assoc text first second)
     ∙ append_assoc text (first ++ second) third
-    ∙ ap (λ xs. text ++ xs)
-    (sym (get_or-map-places (columns_text columns) (height columns) i [] c.requires.within))
+    ∙ ap (λ xs. text ++ xs) (sym (get_or-map-places (columns_text columns) (height columns) i [] c.requires.within))
 
 pub returns-clause-len : goal.returns-clause-len
 returns-clause-len c =

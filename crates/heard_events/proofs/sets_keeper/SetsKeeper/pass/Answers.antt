@@ -39,8 +39,7 @@ returns-clause-sound c =
     (sym (ap (λ (s : Standing). s.deltas) c.due.ensures.sets ∙ due_deltas _ k.sets)) is.close in
     record {
       marked = is.marked;
-      close = subst (λ (ds : List ℤ). All (λ d. unsigned_abs d ≤ 226) ds)
-          (sym (ap (λ (s : Standing). s.deltas) step))
+      close = subst (λ (ds : List ℤ). All (λ d. unsigned_abs d ≤ 226) ds) (sym (ap (λ (s : Standing). s.deltas) step))
           (deltas_close c.measure-strengths.result c.due.new.self.deltas
           c.measure-strengths.ensures.close before);
       few = omega (arith, early);

@@ -3,14 +3,10 @@ use Rattle.line_text.proofs.BinaryDigits.{digit_more, no_digits}
 use Rattle.line_text.proofs.text.Text.append_digits.Goals as goal
 
 pub loop-i-init : goal.loop-i-init
-loop-i-init c = record {
-  value = no_digits c.args.self.now c.args.power_bits.now;
-  long = omega arith;
-}
+loop-i-init c = record { value = no_digits c.args.self.now c.args.power_bits.now; long = omega arith }
 
 pub append_digit-requires : goal.append_digit-requires
-append_digit-requires c =
-    omega (arith, c.loop-i.invariant.long, c.loop-i-test.true, c.requires.room)
+append_digit-requires c = omega (arith, c.loop-i.invariant.long, c.loop-i-test.true, c.requires.room)
 
 pub loop-i-preserved : goal.loop-i-preserved
 loop-i-preserved c = record {

@@ -10,8 +10,6 @@ append-requires-clause-ascii c =
 
 pub returns-clause-value : goal.returns-clause-value
 returns-clause-value c =
-    let digits : c.encode_to_slice.new.output ≡ encode_lower (to_be_bytes w32 c.args.esn) =
-    search rules in
+    let digits : c.encode_to_slice.new.output ≡ encode_lower (to_be_bytes w32 c.args.esn) = search rules in
     c.append.ensures.value ∙
-    ap (λ (ds : List ℕ). c.args.self.now ++ ds)
-    (serial_number_digits c.encode_to_slice.new.output c.args.esn digits)
+    ap (λ (ds : List ℕ). c.args.self.now ++ ds) (serial_number_digits c.encode_to_slice.new.output c.args.esn digits)

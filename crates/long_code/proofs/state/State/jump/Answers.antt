@@ -55,8 +55,7 @@ done value old chips left e none small is =
     let over : left * e ≡ 0 = rw none (omega arith) in
     sym (after_none value small) ∙ ap (after value) (sym over) ∙ is
 
-stays : (value inside old chips : ℕ) → value ≡ after old chips → inside ≡ old → IsState inside →
-    IsState value
+stays : (value inside old chips : ℕ) → value ≡ after old chips → inside ≡ old → IsState inside → IsState value
 stays value inside old chips later same is =
     let P : ℕ → Type 0 = λ n. IsState n in
     subst P (sym (later ∙ ap (λ (s : ℕ). after s chips) (sym same))) (IsState-after inside chips is)

@@ -10,13 +10,8 @@ returns c =
     let start = c.self.inside.start in
     let count = c.self.inside.count in
     let long : length (take count (drop start bits)) ≡ count =
-    length-take-le count (drop start bits) (omega (
-      arith,
-      c.self.invariant,
-      length-drop start bits,
-    )) in
-    let room : c.args.from + c.args.count ≤ count =
-    omega (arith, c.requires, ap length c.self.view_is, long) in
+    length-take-le count (drop start bits) (omega (arith, c.self.invariant, length-drop start bits)) in
+    let room : c.args.from + c.args.count ≤ count = omega (arith, c.requires, ap length c.self.view_is, long) in
     c.part.ensures ∙ slice_part start count c.args.from c.args.count bits room
     ∙ ap (λ bits. take c.args.count (drop c.args.from bits)) c.self.view_is
 

@@ -9,8 +9,7 @@ has_width-requires c =
     let rows = c.args.rows.now in
     let ws = map (λ row. row.1) rows in
     rw c.width_in.ensures
-    (width_within ws c.loop-i.i c.requires.widths
-    (omega (arith, length-map rows (λ row. row.1), c.loop-i-test.true)))
+    (width_within ws c.loop-i.i c.requires.widths (omega (arith, length-map rows (λ row. row.1), c.loop-i-test.true)))
 
 -- Where one value has more bits than its field the answer is no, and the values don't all fit: if
 -- they did, this one would be below two to the power of its field's width.

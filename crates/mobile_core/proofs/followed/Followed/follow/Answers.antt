@@ -19,8 +19,7 @@ returns-in_default-assigned-clause-hears c = λ t before heard taken within sets
     (paging.hears t heard (sym st.phase_is) (sym st.deltas_are) (omega (arith, taken, within))
     (omega (arith, taken, early))) in
     rw set
-    (opened st c.open-self.result f.traffic m opens.1.0 opens.1.1 pages
-    (unassigned st m opens.1.1 (search rules)))
+    (opened st c.open-self.result f.traffic m opens.1.0 opens.1.1 pages (unassigned st m opens.1.1 (search rules)))
 
 -- From its mark on a handset with a traffic channel hears both channels: each receiver was opened
 -- on the handset's own phase and paths, before any frame after the mark could have ended.
@@ -41,12 +40,10 @@ returns-clause-hears c = λ t before heard taken within sets st.
     (omega (arith, taken, early))) in
     let begins = receiver.begins in
     let frames = frames_opened t t.traffic heard traffic m c.open-handoff.result
-    (sym st.assigned_is ∙ channel) receiver.sound receiver.idle
-    (omega (arith, taken, early, begins))
+    (sym st.assigned_is ∙ channel) receiver.sound receiver.idle (omega (arith, taken, early, begins))
     (receiver.hears t heard (sym st.phase_is) (sym st.deltas_are) (omega (arith, taken, within))
     (omega (arith, taken, early))) in
-    rw set
-    (opened st c.open-self.result (Some c.open-handoff.result) m opens.1.0 opens.1.1 pages frames)
+    rw set (opened st c.open-self.result (Some c.open-handoff.result) m opens.1.0 opens.1.1 pages frames)
 
 pub returns-clause-due : goal.returns-clause-due
 returns-clause-due c = grind (ints, arith, common_steps)

@@ -47,8 +47,7 @@ returns-clause-steps c =
           let fits : length heard + length more ≤ c.least_end.result =
           omega (arith, few, long, now, taken, least.waits) in
           let on = stands_taken st m.sound none more c.push_all.new.self
-          (omega (arith, some, few, long, now, least.waits))
-          (omega (arith, long, few, room, taken, within))
+          (omega (arith, some, few, long, now, least.waits)) (omega (arith, long, few, room, taken, within))
           (omega (arith, fits, least.sync)) (least.ends (length heard + length more) fits) holds in
           let come = sync.stands t (heard ++ more) holds waits on.sync in
           let follows = others.hears t t.traffic m.sync.mark (heard ++ more) [] holds

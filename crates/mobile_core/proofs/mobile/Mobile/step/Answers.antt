@@ -18,11 +18,9 @@ returns-then-taken-samples c =
     let samples = c.args.samples.now in
     let taken = c.loop-event.taken in
     let mobile = c.hear_due.new.self in
-    let whole : take taken samples ≡ samples =
-    take_all taken samples (omega (arith, c.if-taken-samples.true)) in
+    let whole : take taken samples ≡ samples = take_all taken samples (omega (arith, c.if-taken-samples.true)) in
     let heard_none = rw c.in_default.is at c.hear_due.ensures.steps in
-    let steps = steps_joined 0 taken None (omega arith) c.loop-event.invariant
-    (heard_none (drop taken samples)) in
+    let steps = steps_joined 0 taken None (omega arith) c.loop-event.invariant (heard_none (drop taken samples)) in
     record {
       steps = steps;
       none = λ e. (
@@ -43,8 +41,7 @@ loop-event-preserved c =
     let taken = c.loop-event.taken in
     let more = c.advance-taken.result in
     let heard_none = rw c.in_default.is at c.hear_due.ensures.steps in
-    let before = steps_joined 0 taken None (omega arith) c.loop-event.invariant
-    (heard_none (drop taken samples)) in
+    let before = steps_joined 0 taken None (omega arith) c.loop-event.invariant (heard_none (drop taken samples)) in
     steps_joined more (taken + more) None refl before
     (subst
     (λ (xs : List Sample). Steps c.hear_due.new.self c.advance-taken.new.self xs

@@ -29,8 +29,7 @@ returns-clause-hears c = λ t heard at' check d st.
     let here : told ≡ heard_at t heard next =
     c.message_in-told.ensures
     ∙ ap (λ form. heard_in form c.push-capsule.result) check
-    ∙ ap (heard_in t.check30)
-    (capsule.capsule before st.framed ∙ ap (λ fs. capsule_ending (map piece fs)) (sym all)) in
+    ∙ ap (heard_in t.check30) (capsule.capsule before st.framed ∙ ap (λ fs. capsule_ending (map piece fs)) (sym all)) in
     let opened : frames ≡ frames_open t heard (next + 1) =
     c.with_frame-self.ensures
     ∙ ap (λ b. frames_with b r.message_frames) (starts_is bits c.get.result c.get.ensures)

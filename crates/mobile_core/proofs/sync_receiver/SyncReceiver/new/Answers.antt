@@ -24,8 +24,7 @@ returns-clause-sound c =
     let fingers = c.reference_fingers-fingers.result in
     let first : ℕ = (32768 - c.from.result) % 32768 in
     let ends : c.new.result.clock.end ≡ frame_end fingers Sync
-    (first + frame_chips Sync * first_frame fingers first) =
-    ap (λ (k : FrameClock). k.end) c.new.ensures.clock in
+    (first + frame_chips Sync * first_frame fingers first) = ap (λ (k : FrameClock). k.end) c.new.ensures.clock in
     let most = first_end Sync first fingers c.reference_fingers-fingers.ensures.near in
     record {
       channel = c.new.ensures.sound;

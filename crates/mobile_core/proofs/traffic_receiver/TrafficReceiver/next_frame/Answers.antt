@@ -13,5 +13,4 @@ returns-clause-says c = λ t traffic m sets heard pages told come sound st.
 
 pub returns-clause-long : goal.returns-clause-long
 returns-clause-long c =
-    rw (c.traffic_frame-decoded.ensures.value)
-    (decoded_long c.power_places-replaced.result c.descramble.new.softs)
+    rw (c.traffic_frame-decoded.ensures.value) (decoded_long c.power_places-replaced.result c.descramble.new.softs)

@@ -12,18 +12,15 @@ are_close c =
     record { some = fingers.least; close = fingers.close }
 
 -- frame 0 begins in the file
-first_clock : (c : After-new-frames) →
-    c.new-frames.result.clock
-    ≡ clock_from c.leg_fingers-fingers.result Data false
-    (c.args.mark.now.sample + 1536 * c.from.result) 0
+first_clock : (c : After-new-frames) → c.new-frames.result.clock
+    ≡ clock_from c.leg_fingers-fingers.result Data false (c.args.mark.now.sample + 1536 * c.from.result) 0
 first_clock c =
     let start : ℕ = c.args.mark.now.sample + 1536 * c.from.result in
     let late = c.requires.mark.late in
     let begun : all_begun start c.leg_fingers-fingers.result ≡ true =
     close_begun start c.leg_fingers-fingers.result (are_close c).close (omega (arith, late)) in
     c.new-frames.ensures.clock
-    ∙ ap {B = FrameClock} (λ b. clock_from c.leg_fingers-fingers.result Data false start
-    (if b then 0 else 1)) begun
+    ∙ ap {B = FrameClock} (λ b. clock_from c.leg_fingers-fingers.result Data false start (if b then 0 else 1)) begun
 
 -- A receiver that was just opened is sound: its fingers are those of the one pilot that is active
 -- at first, its first frame begins at the mark or by the frame offset later, its soft values are 0

@@ -21,8 +21,7 @@ pub power_softs-requires-clause-small : goal.power_softs-requires-clause-small
 power_softs-requires-clause-small c = raw_small (goal.at.power_softs-requires-clause-small c).After-raw
 
 pub power_softs-requires-clause-legs : goal.power_softs-requires-clause-legs
-power_softs-requires-clause-legs c =
-    legs_held c.requires.sound c.args.ring.now c.requires.room c.requires.ended
+power_softs-requires-clause-legs c = legs_held c.requires.sound c.args.ring.now c.requires.room c.requires.ended
 
 -- The receiver stays sound with the frame's soft values and those of its power control bits: both
 -- are bounded, and its clock goes on to a frame that ends early enough to be counted.

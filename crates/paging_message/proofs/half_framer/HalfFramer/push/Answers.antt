@@ -24,8 +24,7 @@ returns-then-self-eq0-clause-stands c bits stood =
 pub returns-then-self-eq0-clause-capsule : goal.returns-then-self-eq0-clause-capsule
 returns-then-self-eq0-clause-capsule c bits stood =
     let own = own_numbers c.self.view_is stood in
-    sci_ends c.self.inside.size bits c.args.bit (omega (arith, c.self.invariant.1))
-    (sym c.if-self-eq0.true ∙ own.0)
+    sci_ends c.self.inside.size bits c.args.bit (omega (arith, c.self.invariant.1)) (sym c.if-self-eq0.true ∙ own.0)
     ∙ ap (λ (f : Framing). half_frame_capsule_ending f.size (bits ++ c.args.bit ∷ [])) c.self.view_is
 
 -- The framer stands for its bits and this one: the bit makes one step of the half-frame under way,
@@ -49,11 +48,9 @@ returns-clause-stands c bits stood =
     record {
       placed = elim c.if-left-eq0.branch [
         | then-left-eq0 w ↦ w.self-is
-            ∙ place_over size place bits c.args.bit own.0
-            (omega (arith, w.if-left-eq0.true, c.self.invariant.0))
+            ∙ place_over size place bits c.args.bit own.0 (omega (arith, w.if-left-eq0.true, c.self.invariant.0))
         | else-left-eq0 w ↦ w.self-is
-            ∙ place_more size place bits c.args.bit own.0
-            (omega (arith, w.if-left-eq0.false, c.self.invariant.0))
+            ∙ place_more size place bits c.args.bit own.0 (omega (arith, w.if-left-eq0.false, c.self.invariant.0))
       ];
       under_way = state;
     }

@@ -22,8 +22,7 @@ returns-then-self-eq0-clause-laid c l laid whole =
     let width : size ≡ c.args.self.now.size = ap (λ (p : Place). p.size) c.self.view_is in
     subst (λ k. HasLaid (record { size = size; place = 2 })
     (bit_on k l c.args.sci c.args.bit) c.append-then-self-eq0.new.self) width
-    (subst (HasLaid (record { size = size; place = 2 })
-    (bit_on size l c.args.sci c.args.bit)) bits done)
+    (subst (HasLaid (record { size = size; place = 2 }) (bit_on size l c.args.sci c.args.bit)) bits done)
 
 -- A bit at any other place goes on with the half-frame under way, whose SCI bit is sent already:
 -- the half-frame's bits are those before and this one, and the place is the next, which is 0 after

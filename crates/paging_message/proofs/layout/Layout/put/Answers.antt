@@ -37,15 +37,13 @@ loop-i-preserved c =
     let i = c.loop-i.i in
     let inv = c.loop-i.invariant in
     let bit = c.get-in-loop-i.result in
-    let next : take (i + 1) capsule ≡ take i capsule ++ bit ∷ [] =
-    taken_more capsule i bit c.get-in-loop-i.ensures in
+    let next : take (i + 1) capsule ≡ take i capsule ++ bit ∷ [] = taken_more capsule i bit c.get-in-loop-i.ensures in
     record {
       size = c.append-in-loop-i.ensures.size ∙ inv.size;
       longer = omega (arith, c.append-in-loop-i.ensures.longer, inv.longer);
       laid = λ was laid.
           let before = laid_on size was follow (take i capsule) in
-          let done = c.append-in-loop-i.ensures.laid before (inv.laid was laid)
-          (λ told. absurd (cc)) in
+          let done = c.append-in-loop-i.ensures.laid before (inv.laid was laid) (λ told. absurd (cc)) in
           subst (λ (m : Laid). HasLaid c.append-in-loop-i.new.self m c.append-in-loop-i.new.out)
           (ap (λ k. bit_on k before false bit) inv.size
           ∙ capsule_next size was follow bit capsule i next) done;

@@ -10,8 +10,7 @@ loop-k-init c = record {
   long = (first_of (search rules, grind (arith, common_steps)));
   value = λ j low lt. get_or-replicate 512 j 0 0 lt ∙
       sym (ap magnitudes (drop_all (64 * j) c.args.samples.now low));
-  below = λ j lt. let z : get_or (Rattle.std.proofs.Common.replicate 512 0) j 0 ≡ 0 =
-      get_or-replicate 512 j 0 0 lt in
+  below = λ j lt. let z : get_or (Rattle.std.proofs.Common.replicate 512 0) j 0 ≡ 0 = get_or-replicate 512 j 0 0 lt in
       subst (λ (n : ℕ). n + 65536 * (64 * j) ≤ 2147483648) (sym z) (omega arith);
 }
 

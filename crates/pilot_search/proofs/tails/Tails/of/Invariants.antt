@@ -10,7 +10,6 @@ invariant-loop-k l = record {
   sum : l.sum ≡ magnitudes (drop l.k l.samples);
   small : l.sum + 65536 * l.k ≤ 65536 * length l.samples;
   long : length l.sums ≡ 512;
-  value : (j : ℕ) → l.k ≤ 64 * j → j < 512 →
-      get_or l.sums j 0 ≡ magnitudes (drop (64 * j) l.samples);
+  value : (j : ℕ) → l.k ≤ 64 * j → j < 512 → get_or l.sums j 0 ≡ magnitudes (drop (64 * j) l.samples);
   below : (j : ℕ) → j < 512 → get_or l.sums j 0 + 65536 * (64 * j) ≤ 2147483648;
 }

@@ -5,8 +5,7 @@ use Rattle.pilot_sets.proofs.sets.Sets.active.Goals as goal
 pub returns-clause-rows : goal.returns-clause-rows
 returns-clause-rows c =
     let is : c.active_list.result ≡ map shown_active c.self.inside.sets.active = search rules in
-    subst (All (λ (a : Active). a.row < 64)) (sym is)
-    (shown_rows c.self.inside.sets.active c.self.invariant.sets.rows)
+    subst (All (λ (a : Active). a.row < 64)) (sym is) (shown_rows c.self.inside.sets.active c.self.invariant.sets.rows)
 
 pub returns-clause-subchannels : goal.returns-clause-subchannels
 returns-clause-subchannels c =

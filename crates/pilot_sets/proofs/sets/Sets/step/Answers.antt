@@ -17,8 +17,7 @@ shown_change changed report = record { changed = changed; report = report }
 change_shown : (s : Standing) (power time : ℕ) (began : Began) (ns : List ℕ) (xs ys : List Strength)
     (new : PilotSets) (changed report : Bool) → began ≡ began_in s → ns ≡ began.neighbors → xs ≡ ys →
     new ≡ measured (energy_in xs) power time ns s.sets → changed ≡ is_changed began new →
-    report ≡ is_reported (energy_in xs) power time ns s.sets →
-    shown_change changed report ≡ change_at ys power time s
+    report ≡ is_reported (energy_in xs) power time ns s.sets → shown_change changed report ≡ change_at ys power time s
 change_shown s power time began ns xs ys new changed report began_is ns_is xs_is new_is changed_is
     report_is = rw (changed_is, report_is, new_is, ns_is, xs_is, began_is) refl
 

@@ -10,15 +10,13 @@ pub invariant_of-self : goal.invariant_of-self
 invariant_of-self c =
     let g = generator_of c.self.inside.kind in
     let d = c.divisor-divisor.result in
-    let fits : c.self.inside.value < 2 ^ d.degree =
-    rw c.divisor-divisor.ensures.degree c.self.invariant in
+    let fits : c.self.inside.value < 2 ^ d.degree = rw c.divisor-divisor.ensures.degree c.self.invariant in
     let moved : c.if-lead-bit.self ≡ next d.degree d.below c.self.inside.value c.args.bit =
     elim c.if-lead-bit.branch [
       | then-lead-bit w ↦ next_then _ _ _ _ _ d.most fits w.if-lead-bit.true w.self-is
       | else-lead-bit w ↦ next_else _ _ _ _ _ d.most fits w.if-lead-bit.false w.self-is
     ] in
-    rw (moved, ← c.divisor-divisor.ensures.degree)
-    (next_lt d.degree d.below c.self.inside.value c.args.bit d.fits)
+    rw (moved, ← c.divisor-divisor.ensures.degree) (next_lt d.degree d.below c.self.inside.value c.args.bit d.fits)
 
 -- One bit more through the register is one step of the division: the register holds the remainder
 -- of the bits before, and whether its highest bit is set or not the next value is the remainder of

@@ -11,8 +11,7 @@ returns-clause-value c = λ count s heard r channel d.
     let told = c.span-span.ensures in
     let kept : ℕ = c.frame_symbols.result * c.from.result in
     let form = r.clocked.form_is in
-    let kept_is : kept ≡ symbols s.form * span.frames =
-    rw (c.frame_symbols.ensures.value, form, c.from.ensures) refl in
+    let kept_is : kept ≡ symbols s.form * span.frames = rw (c.frame_symbols.ensures.value, form, c.from.ensures) refl in
     let softs : List ℤ = take (1152 - (1152 - kept)) (drop (1152 - kept) c.args.self.now.softs) in
     c.span_bits.ensures.value
     ∙ ap (λ channel'. own_bits channel' span.frames span.own softs) channel

@@ -6,11 +6,7 @@ pub returns-clause-pilots : goal.returns-clause-pilots
 returns-clause-pilots c =
     let m = c.self.inside.fields in
     let is = c.self.invariant in
-    All-from_get_or (λ pn. pn < 512) m.pns 0
-    (λ i h. omega (
-      arith,
-      (record_fits m i is h).0,
-    ))
+    All-from_get_or (λ pn. pn < 512) m.pns 0 (λ i h. omega (arith, (record_fits m i is h).0))
 
 -- Each row that a direction names is below 256: it is a field of eight bits of its own record, and
 -- there are as many rows as records.
@@ -19,10 +15,7 @@ returns-clause-channels c =
     let m = c.self.inside.fields in
     let is = c.self.invariant in
     All-from_get_or (λ row. row < 256) m.rows 0
-    (λ i h. omega (
-      arith,
-      (record_fits m i is (omega (arith, h, rows_paired m is))).2,
-    ))
+    (λ i h. omega (arith, (record_fits m i is (omega (arith, h, rows_paired m is))).2))
 
 pub returns-clause-combs : goal.returns-clause-combs
 returns-clause-combs c = combs_paired c.self.inside.fields c.self.invariant

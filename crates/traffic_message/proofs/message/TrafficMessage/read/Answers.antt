@@ -14,18 +14,15 @@ parts c =
     are_parts c.args.body.now c.in_ok-values.values (drop c.in_ok-values.from c.args.body.now)
     (tested c) c.in_ok-values.ensures.values
 
-following : (c : After-head_from-head) (k : ℕ) (read : Option TrafficBody) →
-    k ≡ get_or c.in_ok-values.values 0 0 →
-    read ≡ part_reading k c.head_from-head.result.encryption
-    (drop c.in_ok-values.from c.args.body.now) →
+following : (c : After-head_from-head) (k : ℕ) (read : Option TrafficBody) → k ≡ get_or c.in_ok-values.values 0 0 →
+    read ≡ part_reading k c.head_from-head.result.encryption (drop c.in_ok-values.from c.args.body.now) →
     mapped (message c.head_from-head.result) read ≡ traffic_body_reading c.args.body.now
 following c k read typed e =
     part_read c.args.body.now c.in_ok-values.values (drop c.in_ok-values.from c.args.body.now) k
     c.head_from-head.result read (tested c) (parts c) typed c.head_from-head.ensures e
 
 pub returns-then-not-has_head : goal.returns-then-not-has_head
-returns-then-not-has_head c =
-    no_body c.args.body.now (sym c.has_head.ensures ∙ c.if-not-has_head.true)
+returns-then-not-has_head c = no_body c.args.body.now (sym c.has_head.ensures ∙ c.if-not-has_head.true)
 
 pub returns-in_err-values : goal.returns-in_err-values
 returns-in_err-values c =
@@ -38,8 +35,7 @@ head_from-head-requires c =
     (sym c.has_head.ensures ∙ c.if-not-has_head.false) c.in_ok-values.ensures.values).fit
 
 pub overflow_cast-get : goal.overflow_cast-get
-overflow_cast-get c =
-    omega (arith, c.get.ensures, (parts (goal.at.overflow_cast-get c).After-head_from-head).small)
+overflow_cast-get c = omega (arith, c.get.ensures, (parts (goal.at.overflow_cast-get c).After-head_from-head).small)
 
 pub read-requires-clause-room : goal.read-requires-clause-room
 read-requires-clause-room c =

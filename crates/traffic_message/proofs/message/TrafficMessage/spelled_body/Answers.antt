@@ -7,8 +7,7 @@ use Rattle.traffic_message.proofs.message.TrafficMessage.spelled_body.Goals.{Aft
 use Rattle.traffic_message.proofs.message.TrafficMessage.spelled_body.Goals as goal
 
 -- the type and the head, which have 17 bits
-head_is : (c : After-contents) →
-    c.contents.result ≡ head_contents (kind_of c.self.inside.body) c.self.inside.head
+head_is : (c : After-contents) → c.contents.result ≡ head_contents (kind_of c.self.inside.body) c.self.inside.head
 head_is c = c.contents.ensures ∙ ap (λ k. head_contents k c.self.inside.head) c.kind.ensures
 
 head_long : (c : After-contents) → length (spelling head_shape c.contents.result) ≡ 17

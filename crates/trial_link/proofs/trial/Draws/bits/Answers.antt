@@ -34,21 +34,13 @@ loop-bit-preserved c =
 
 pub returns-clause-value : goal.returns-clause-value
 returns-clause-value c =
-    let all : c.loop-bit._bit ≡ c.args.count =
-    omega (arith, c.loop-bit-test.false, c.loop-bit.auto._bit-end) in
+    let all : c.loop-bit._bit ≡ c.args.count = omega (arith, c.loop-bit-test.false, c.loop-bit.auto._bit-end) in
     c.loop-bit.invariant.value ∙ ap (bits_drawn c.args.self.now.state) all
 
 pub returns-clause-count : goal.returns-clause-count
-returns-clause-count c =
-    omega (
-      arith,
-      c.loop-bit.invariant.count,
-      c.loop-bit-test.false,
-      c.loop-bit.auto._bit-end,
-    )
+returns-clause-count c = omega (arith, c.loop-bit.invariant.count, c.loop-bit-test.false, c.loop-bit.auto._bit-end)
 
 pub returns-clause-state : goal.returns-clause-state
 returns-clause-state c =
-    let all : c.loop-bit._bit ≡ c.args.count =
-    omega (arith, c.loop-bit-test.false, c.loop-bit.auto._bit-end) in
+    let all : c.loop-bit._bit ≡ c.args.count = omega (arith, c.loop-bit-test.false, c.loop-bit.auto._bit-end) in
     c.loop-bit.invariant.state ∙ ap (past_draws c.args.self.now.state) all

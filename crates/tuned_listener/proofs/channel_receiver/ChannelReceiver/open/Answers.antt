@@ -21,16 +21,14 @@ returns-clause-given c = λ t taken phase deltas within early.
     let first : ℕ = m.sample + c.offset.result in
     let fingers_are : fingers.result ≡ s.fingers =
     fingers.ensures.value ∙ rw (c.row.ensures.value, phase, deltas) refl in
-    let first_is : first ≡ s.first =
-    ap (λ (n : ℕ). m.sample + n) c.offset.ensures.value ∙ first_by channel m in
+    let first_is : first ≡ s.first = ap (λ (n : ℕ). m.sample + n) c.offset.ensures.value ∙ first_by channel m in
     let clock_is : frames.result.clock
     ≡ clock_from s.fingers Data false s.first (first_frame s.fingers s.first) =
     frames.ensures.clock ∙ rw (fingers_are, first_is) refl in
     let near : AreNear s.fingers = subst AreNear fingers_are fingers.ensures.near in
     let starts : frames.result.clock.start ≡ first + 24576 * first_frame fingers.result first =
     ap (λ (k : FrameClock). k.start) frames.ensures.clock in
-    let most : taken ≤ frames.result.clock.end =
-    omega (arith, early, starts, frames.ensures.sound.clocked.start_end) in
+    let most : taken ≤ frames.result.clock.end = omega (arith, early, starts, frames.ensures.sound.clocked.start_end) in
     let same = frames.ensures.scrambling in
     none_given t channel m _ taken near clock_is (frames.ensures.fingers ∙ fingers_are)
     (λ k. ap (λ (x : Scrambling). after x.state (24576 * k)) same ∙ turns.state k)

@@ -16,8 +16,7 @@ returns g c =
     let w = c.args.self.now in
     let m = c.args.mark.now in
     let long : length w.softs ≡ 1536 = search rules in
-    let awake : is_monitored c.slot_time-time.result w.key w.cycle ≡ true =
-    c.in-Some-Some.ensures.0 in
+    let awake : is_monitored c.slot_time-time.result w.key w.cycle ≡ true = c.in-Some-Some.ensures.0 in
     let told : (if nat_lt m.prat 2 then Some (paging_rate m.prat) else None)
     ≡ Some c.in-Some-Some.rate = search rules in
     let text = λ (slot : List SoftFrame) (holds : HoldsSlot w slot).

@@ -5,8 +5,7 @@ use Rattle.tuned_listener.proofs.tuned.Hearer.opened.Goals as goal
 -- A receiver can be opened in the place of a handset that was told this mark.
 pub open-tuner-requires-clause-lawful : goal.open-tuner-requires-clause-lawful
 open-tuner-requires-clause-lawful c =
-    lawful_channel c.in-Ahead.channel
-    (can_open c.args.self c.args.mark _ _ _ _ c.in-Ahead.is c.requires.opens).1.lawful
+    lawful_channel c.in-Ahead.channel (can_open c.args.self c.args.mark _ _ _ _ c.in-Ahead.is c.requires.opens).1.lawful
 
 -- The handset's ring holds the samples that it took, so the receiver hears on from there, and it has
 -- given no frame of them.
@@ -16,8 +15,7 @@ returns-in-Ahead-clause-listens c t channel heard told =
     let tuner = c.open-tuner in
     let (opens, marked) = was_told t channel c.args.self m heard _ _ _ _ c.in-Ahead.is told in
     let ring = c.into_ring-count.ensures.holds t heard marked.given marked.stands in
-    let tuned =
-    tuner.ensures.tuned t heard (sym ring.0) opens.phase_is opens.deltas_are ring.1 in
+    let tuned = tuner.ensures.tuned t heard (sym ring.0) opens.phase_is opens.deltas_are ring.1 in
     let none = tuner.ensures.none t heard (sym ring.0) opens.phase_is opens.deltas_are ring.1 in (
       record {
         marked = marked.marked;

@@ -13,10 +13,7 @@ returns-clause-listens c t stands phase deltas check =
           c.in_ok-writer.ensures.holds;
       listens = record {
         opens = record { phase_is = phase; deltas_are = deltas; channel_is = refl };
-        ahead = record {
-          has = record { given = []; stands = stands; unset = refl };
-          unmarked = none_marked t near;
-        };
+        ahead = record { has = record { given = []; stands = stands; unset = refl }; unmarked = none_marked t near };
       };
     }
 

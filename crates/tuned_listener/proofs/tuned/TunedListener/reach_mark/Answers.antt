@@ -3,17 +3,13 @@ use Rattle.tuned_listener.proofs.TunedListeners.{ahead_sound, listens_after, lis
 use Rattle.tuned_listener.proofs.tuned.TunedListener.reach_mark.Goals as goal
 
 pub step_to_mark-taken-requires-clause-untold : goal.step_to_mark-taken-requires-clause-untold
-step_to_mark-taken-requires-clause-untold c =
-    (c.args.self.now.sound.hears.ahead _ _ _ _ c.in-Ahead.is).0
+step_to_mark-taken-requires-clause-untold c = (c.args.self.now.sound.hears.ahead _ _ _ _ c.in-Ahead.is).0
 
 pub replace_with-requires : goal.replace_with-requires
 replace_with-requires c =
     let reached = c.step_to_mark-taken in (
       reached.ensures.sound c.in-Some.mark c.in-Some.is,
-      (
-        reached.ensures.early c.in-Some.mark c.in-Some.is,
-        (c.args.self.now.sound.hears.ahead _ _ _ _ c.in-Ahead.is).1,
-      ),
+      (reached.ensures.early c.in-Some.mark c.in-Some.is, (c.args.self.now.sound.hears.ahead _ _ _ _ c.in-Ahead.is).1),
     )
 
 -- A handset that tells no mark stays untold.
@@ -48,8 +44,7 @@ returns-in_default-mark-clause-listens c = λ t channel form heard is.
     let before = waits t channel heard _ is.listens _ _ _ _ c.in-Ahead.is in
     listens_ahead t channel form c.args.self.now heard is _ reached.new.mobile _ _ _
     c.args.samples.now reached.result.taken (reached.ensures.all none) refl refl
-    before.ahead.unmarked
-    (record { opens = before.opens; ahead = reached.ensures.none none t heard before.ahead })
+    before.ahead.unmarked (record { opens = before.opens; ahead = reached.ensures.none none t heard before.ahead })
 
 -- Once the handset tells a mark, a receiver that is opened from its ring takes its place: the ring
 -- holds the samples that were heard, and the receiver has given no frame of them, so there is still
@@ -59,8 +54,7 @@ returns-in-Some c =
     let l = c.args.self.now in
     let m = c.in-Some.mark in
     let reached = c.step_to_mark-taken in
-    let now : List Sample → List Sample =
-    λ heard. heard ++ take reached.result.taken c.args.samples.now in
+    let now : List Sample → List Sample = λ heard. heard ++ take reached.result.taken c.args.samples.now in
     record {
       most = search rules;
       room = search rules;

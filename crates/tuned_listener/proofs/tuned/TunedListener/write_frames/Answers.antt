@@ -3,8 +3,7 @@ use Rattle.tuned_listener.proofs.TunedListeners.{ready_writer, tells_frames_afte
 use Rattle.tuned_listener.proofs.tuned.TunedListener.write_frames.Goals as goal
 
 pub hear_frames-requires-clause-ready : goal.hear_frames-requires-clause-ready
-hear_frames-requires-clause-ready g c =
-    ready_writer c.args.self.now.writer c.args.self.now.sound.ready
+hear_frames-requires-clause-ready g c = ready_writer c.args.self.now.writer c.args.self.now.sound.ready
 
 pub returns-in-After-clause-ok : goal.returns-in-After-clause-ok
 returns-in-After-clause-ok g c =
