@@ -7,9 +7,9 @@ try:
 
     sys.path[0] = os.path.dirname(os.path.dirname(os.path.realpath(__file__)))
     from cdma_tools.starting import named_by, start
+
+    if __name__ == "__main__":
+        sys.exit(start(named_by(sys.argv[0])))
 except KeyboardInterrupt:
     print("/".join(sys.argv[0].split("/")[-2:]).removeprefix("tools/") + ": broken off", file=sys.stderr)
     raise SystemExit(130) from None
-
-if __name__ == "__main__":
-    sys.exit(start(named_by(sys.argv[0])))

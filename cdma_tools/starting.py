@@ -4,12 +4,30 @@ The packages that a command imports take a while to load, and an interrupt that 
 as a traceback, or as the fault of a package that has none. So this module imports only what each Python has loaded
 before it reads a script. Until the command is imported an interrupt ends the process at once, since nothing is begun
 yet that would have to be undone. After that it is KeyboardInterrupt, and the command undoes what it has begun.
+
+Some places, which a command may reach at any time, are not fit for an exception: it would be lost, or leave something
+half done that nothing undoes. An interrupt that comes there waits until the place is left (`is_unfit`).
 """
 
 import os
 import sys
 
+TYPE_CHECKING = False  # which is true for a type checker
+if TYPE_CHECKING:
+    from collections.abc import Callable
+    from types import FrameType
+
 INTERRUPTED = 130  # the status of a command that an interrupt ended
+AGAIN = 0.005  # seconds after which an interrupt comes again that came in an unfit place
+# Files whose functions are unfit, by how their names begin or end: an import that breaks off leaves part of a package,
+# and a package in C may hide the exception; a temporary file or folder that is just made or removed would stay.
+UNFIT_BEGIN, UNFIT_END = "<frozen importlib", "/tempfile.py"
+# Methods that Python or a package in C calls, and whose exceptions it drops or replaces.
+CALLED_BACK = ("__del__", "__instancecheck__", "__subclasscheck__")
+# The beginning of a pool's work: a thread that its pool doesn't know yet would never end.
+POOLS, BEGUN = "/concurrent/futures/", "submit"
+# The ends of a `with` statement: a lock that was just taken, or is about to be released, would be kept.
+ENDS_OF_WITH = ("__enter__", "__exit__")
 # All commands: the module in cdma_tools/commands, the launcher in a checkout, and the name where it is installed.
 COMMANDS = (
     ("import_capture", "tools/import_capture", "cdma-import"),
@@ -72,30 +90,94 @@ def named_by(path: str) -> str:
 
 def start(name: str) -> int:
     """Runs a command with the arguments of this process, and returns its exit status."""
+    interrupts = Interrupts(name)
     try:
-        hear_interrupts(name, is_running=False)
+        interrupts.hear()
         find_packages()
         from cdma_tools import commands
 
-        return commands.run(name, lambda: hear_interrupts(name, is_running=True))
-    except KeyboardInterrupt:
+        status = commands.run(name, interrupts.begin)
+        pass_over_interrupts()
+        return status
+    except KeyboardInterrupt as why:
+        pass_over_interrupts()
+        return broken_off(name, str(why))
+    except Exception:
+        # A package in C may have made another exception of the interrupt.
+        if not interrupts.heard:
+            raise
         pass_over_interrupts()
         return broken_off(name)
-    finally:
-        pass_over_interrupts()
 
 
-def hear_interrupts(name: str, is_running: bool) -> None:
-    """Lets an interrupt break off a command that is running, and otherwise end this process at once.
+class Interrupts:
+    """What an interrupt does to a command."""
+
+    def __init__(self, name: str) -> None:
+        """The command isn't imported yet."""
+        self.name, self.is_running = name, False
+        self.heard = 0  # the number of the last signal that came since `begin`
+
+    def hear(self) -> None:
+        """Lets an interrupt end this process at once, up to `begin`."""
+        hear_interrupts(self.take)
+
+    def begin(self) -> None:
+        """From here on an interrupt breaks off the command, which undoes what it has begun."""
+        sys.unraisablehook = self.take_lost
+        self.is_running = True
+
+    def take(self, number: int, frame: "FrameType | None") -> None:
+        """Takes an interrupt: a handler of signals."""
+        if not self.is_running:
+            os._exit(broken_off(self.name))
+        self.heard = number
+        break_off(number, frame)
+
+    def take_lost(self, lost: "sys.UnraisableHookArgs") -> None:
+        """Sends an interrupt again that Python has dropped, and reports any other exception that it has dropped."""
+        if self.heard and issubclass(lost.exc_type, KeyboardInterrupt):
+            send_again(self.heard)
+        else:
+            sys.__unraisablehook__(lost)
+
+
+def break_off(number: int, frame: "FrameType | None") -> None:
+    """Breaks off what a process does, as an interrupt does with a command: a handler of signals."""
+    if is_unfit(frame):
+        send_again(number)
+    else:
+        raise KeyboardInterrupt
+
+
+def is_unfit(frame: "FrameType | None") -> bool:
+    """Whether an exception that is raised in a frame may be lost, or leave something half done."""
+    if frame is not None and frame.f_code.co_name in ENDS_OF_WITH:
+        return True
+    while frame is not None:
+        name, file = frame.f_code.co_name, frame.f_code.co_filename
+        if file.startswith(UNFIT_BEGIN) or file.endswith(UNFIT_END):
+            return True
+        if name in CALLED_BACK or name == BEGUN and POOLS in file:
+            return True
+        frame = frame.f_back
+    return False
+
+
+def send_again(number: int) -> None:
+    """Sends a signal to this process again in a moment."""
+    import signal
+
+    signal.signal(signal.SIGALRM, lambda *_: signal.raise_signal(number))
+    signal.setitimer(signal.ITIMER_REAL, AGAIN)
+
+
+def hear_interrupts(take: "Callable[[int, FrameType | None], None]") -> None:
+    """Lets a handler take each interrupt.
 
     A signal that is ignored, as Ctrl-C is in the background of a shell, stays so.
     """
     import signal
-
-    def take(*_: object) -> None:
-        if is_running:
-            raise KeyboardInterrupt
-        os._exit(broken_off(name))
 
     for number in (signal.SIGINT, signal.SIGTERM):
         if signal.getsignal(number) is not signal.SIG_IGN:
@@ -106,8 +188,8 @@ def pass_over_interrupts() -> None:
     """Ignores interrupts in a process that is about to end."""
     import signal
 
-    signal.signal(signal.SIGINT, signal.SIG_IGN)
-    signal.signal(signal.SIGTERM, signal.SIG_IGN)
+    for number in (signal.SIGINT, signal.SIGTERM, signal.SIGALRM):
+        signal.signal(number, signal.SIG_IGN)
 
 
 def find_packages() -> None:

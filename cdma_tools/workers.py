@@ -14,7 +14,7 @@ from typing import Any, TypeVar
 from cdma_tools.arguments import Parser, whole_within
 from cdma_tools.errors import Refused
 from cdma_tools.interrupts import noted_interrupts
-from cdma_tools.starting import INTERRUPTED
+from cdma_tools.starting import INTERRUPTED, break_off
 
 Item = TypeVar("Item")
 Made = TypeVar("Made")
@@ -88,7 +88,7 @@ def taking_back(function: Callable[[Item], Made], item: Item) -> Made:
     """Returns the result of a function for an item; the function undoes what it has begun if it is interrupted."""
     try:
         for number in (signal.SIGINT, signal.SIGTERM):
-            signal.signal(number, signal.default_int_handler)
+            signal.signal(number, break_off)
         return function(item)
     finally:
         hear_interrupts()

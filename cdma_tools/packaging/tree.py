@@ -38,12 +38,12 @@ try:
     sys.dont_write_bytecode = True
     sys.path[0] = os.path.join(os.path.dirname(os.path.dirname(os.path.realpath(__file__))), "share", "{name}")
     from cdma_tools.starting import start
+
+    if __name__ == "__main__":
+        sys.exit(start("{module}"))
 except KeyboardInterrupt:
     print("{command}: broken off", file=sys.stderr)
     raise SystemExit(130) from None
-
-if __name__ == "__main__":
-    sys.exit(start("{module}"))
 """
 
 

@@ -10,7 +10,7 @@ import time
 import unittest
 
 from cdma_tools.starting import called, named_by
-from tools.tests.helping import PYTHON, ROOT
+from tools.tests.helping import PYTHON, ROOT, temporary_folder
 
 SECONDS = 300  # the longest time of a tool on a busy machine; on an idle one it takes less than one
 WAYS = [f"tools/{name}" for name in sorted(os.listdir(os.path.join(ROOT, "tools"))) if name != "tests"]
@@ -101,6 +101,108 @@ class Instants(unittest.TestCase):
                     child.send_signal(signal.SIGINT)
                     _, said = child.communicate(timeout=SECONDS)
                     self.assertIn((child.returncode, said), ((130, f"{name_of(way)}: broken off\n"), (0, "")))
+
+
+# A command of one function, which is given as text, and a module for it to import.
+COMMAND = """
+import os, signal, sys, threading, types, weakref
+from concurrent.futures import ThreadPoolExecutor
+import numpy
+from cdma_tools import commands, starting
+def interrupt():
+    os.kill(os.getpid(), signal.SIGINT)
+def show(text):
+    os.write(1, text.encode())
+def wait():
+    while True:
+        signal.pause()
+{function}
+sys.path.append("{folder}")
+sys.modules["cdma_tools.commands.fake"] = types.SimpleNamespace(main=main)
+sys.exit(starting.start("fake"))
+"""
+LATE = "import __main__\n__main__.interrupt()\n__main__.show('loaded')\n"
+
+
+class UnfitPlaces(unittest.TestCase):
+    """An interrupt in places in which an exception would be lost, or leave something half done: it waits."""
+
+    seconds = 10
+
+    def ended(self, *function: str) -> tuple[int, str, str]:
+        """Returns the status, the output and the standard error of a command with this `main`."""
+        folder = temporary_folder(self.addCleanup)
+        with open(os.path.join(folder, "late.py"), "w", encoding="utf-8") as file:
+            file.write(LATE)
+        text = COMMAND.format(function="\n".join(function), folder=folder)
+        words = [PYTHON, "-B", "-c", text]
+        ran = subprocess.run(words, capture_output=True, text=True, cwd=ROOT, preexec_fn=hear, timeout=SECONDS)
+        return ran.returncode, ran.stdout, ran.stderr
+
+    def broken_off(self, wrote: str, *function: str) -> None:
+        """Checks that a command with this `main` is broken off after some output."""
+        self.assertEqual(self.ended(*function), (130, wrote, "fake: broken off\n"))
+
+    def test_a_late_import(self) -> None:
+        self.broken_off("loaded", "def main(_):", "    import late", "    wait()")
+
+    def test_the_end_of_an_object(self) -> None:
+        self.broken_off(
+            "removed", "class Kept:", "    def __del__(self):", "        interrupt()", "        show('removed')",
+            "def main(_):", "    Kept()", "    wait()",
+        )  # fmt: skip
+
+    def test_a_weak_reference(self) -> None:
+        """What Python drops there comes again."""
+        self.broken_off(
+            "", "class Kept:", "    pass", "def main(_):", "    it = Kept()",
+            "    kept = weakref.ref(it, lambda _: [interrupt(), len('')])", "    del it", "    wait()",
+        )  # fmt: skip
+
+    def test_another_dropped_exception(self) -> None:
+        function = ("class Kept:", "    def __del__(self):", "        1 / 0", "def main(_):", "    Kept()", "    return 0")
+        status, _, said = self.ended(*function)
+        self.assertEqual((status, said.splitlines()[-1]), (0, "ZeroDivisionError: division by zero"))
+
+    def test_a_check_that_a_package_in_c_makes(self) -> None:
+        """numpy.fromfile makes a TypeError of an exception in such a check."""
+        self.broken_off(
+            "8 numbers", "class Checked(type(os.PathLike)):", "    def __instancecheck__(self, _):",
+            "        interrupt()", "        return False", "os.PathLike.__class__ = Checked", "def main(_):",
+            "    with open('/dev/zero', 'rb', buffering=0) as file:", "        found = numpy.fromfile(file, 'u1', 8)",
+            "    show(f'{len(found)} numbers')", "    wait()",
+        )  # fmt: skip
+
+    def test_an_exception_that_replaces_it(self) -> None:
+        self.broken_off(
+            "", "def main(_):", "    try:", "        interrupt()", "    except KeyboardInterrupt:", "        raise TypeError"
+        )
+
+    def test_a_pool_that_begins(self) -> None:
+        """The pool knows its thread, so the process ends."""
+        self.broken_off(
+            "done", "class Thread(threading.Thread):", "    def start(self):", "        super().start()",
+            "        interrupt()", "def main(_):", "    threading.Thread = Thread",
+            "    ThreadPoolExecutor(1).submit(show, 'done').result()", "    wait()",
+        )  # fmt: skip
+
+    def test_the_ends_of_a_with_statement(self) -> None:
+        for end in ("__enter__", "__exit__"):
+            with self.subTest(end):
+                self.broken_off(
+                    "left", "class Kept:", "    def __enter__(self):", "        pass", "    def __exit__(self, *_):",
+                    "        show('left')", "class Interrupted(Kept):", f"    def {end}(self, *given):",
+                    "        os.kill(os.getpid(), signal.SIGINT)", f"        return super().{end}(*given)",
+                    "def main(_):", "    with Interrupted():", "        pass", "    wait()",
+                )  # fmt: skip
+
+    def test_a_temporary_folder(self) -> None:
+        """It is made, and removed at the end."""
+        self.broken_off(
+            "", "import tempfile", "def mkdir(*given, made=os.mkdir):", "    made(*given)", "    interrupt()",
+            "def main(_):", "    tempfile.tempdir = sys.path[-1]", "    os.mkdir = mkdir",
+            "    with tempfile.TemporaryDirectory():", "        wait()",
+        )  # fmt: skip
 
 
 class ClosedPipes(unittest.TestCase):
