@@ -33,6 +33,16 @@ def noted_interrupts(*numbers: signal.Signals) -> Iterator[None]:
 
 
 @contextlib.contextmanager
+def blocked_interrupts() -> Iterator[None]:
+    """Lets interrupts wait until this context is left, whatever takes them by then; so do processes begun in it."""
+    before = signal.pthread_sigmask(signal.SIG_BLOCK, INTERRUPTS)
+    try:
+        yield
+    finally:
+        signal.pthread_sigmask(signal.SIG_SETMASK, before)
+
+
+@contextlib.contextmanager
 def first_interrupt(call: Callable[[], None]) -> Iterator[None]:
     """Calls something at the first interrupt; a second one interrupts as ever.
 

@@ -30,6 +30,7 @@ taken, 2 wrong arguments.
 import argparse
 import os
 import webbrowser
+from functools import partial
 
 from cdma_tools.arguments import Parser, number_within, whole_within
 from cdma_tools.commands import listen
@@ -93,11 +94,11 @@ def main(arguments: list[str] | None = None) -> int:
     plotly_path()
     sockets = bound(options.listen, options.port or 0)
     store = ChipStore()
-    listener = ListenerProcess(options, store, [one.fileno() for one in sockets])
     door = Door.of(options.listen, sockets[0].getsockname()[1])
     print(door.url, flush=True)
     if not options.no_browser:
         open_browser(door.url)
     handset = Handset(listen.paging_number(options), options.esn, options.offset or 0, listen.flags_of(options))
     hub = Hub(os.path.basename(options.source), store, handset, options.row)
-    return serve(hub, listener, sockets, door, options.exit)
+    begin = partial(ListenerProcess, options, store, [one.fileno() for one in sockets])
+    return serve(hub, begin, sockets, door, options.exit)

@@ -11,6 +11,7 @@ from collections.abc import Iterator
 from cdma_tools.commands import listen
 from cdma_tools.errors import Refused, printable, text_of
 from cdma_tools.frequencies import frequency_given
+from cdma_tools.interrupts import INTERRUPTS
 from cdma_tools.json_lines import LONGEST, as_json, as_line
 from cdma_tools.lines import NoLine
 from cdma_tools.listening.line_writer import Already
@@ -19,7 +20,7 @@ from cdma_tools.radio.search_policy import policy_of
 from cdma_tools.report.heard_lines import is_lines
 from cdma_tools.sources.live import Stream
 from cdma_tools.sources.stored import is_described, stored_of
-from cdma_tools.starting import INTERRUPTED
+from cdma_tools.starting import INTERRUPTED, break_off
 from cdma_tools.view.chip_store import ChipKeeper, ChipStore
 from cdma_tools.view.outbox import Outbox
 from cdma_tools.view.paced import PacedRecording
@@ -132,14 +133,15 @@ def hear_only_server() -> None:
     """
     os.setpgid(0, 0)
     signal.signal(signal.SIGTERM, signal.SIG_IGN)
-    signal.signal(signal.SIGINT, signal.default_int_handler)
+    signal.signal(signal.SIGINT, break_off)
+    signal.pthread_sigmask(signal.SIG_UNBLOCK, INTERRUPTS)
 
 
 class ListenerProcess:
     """A child of this process that listens; SIGINT ends it in order, a second one breaks it off."""
 
     def __init__(self, options: argparse.Namespace, store: ChipStore, closed: list[int]) -> None:
-        """Starts it; `closed` are descriptors of files that are not the child's."""
+        """Starts it, while interrupts are blocked; `closed` are descriptors of files that are not the child's."""
         self.reader, writer = os.pipe()
         sys.stdout.flush()
         sys.stderr.flush()

@@ -9,6 +9,7 @@ import secrets
 import signal
 import socket
 import time
+from collections.abc import Callable
 from concurrent.futures import ThreadPoolExecutor
 from typing import IO, Any
 
@@ -20,7 +21,7 @@ from tornado.web import Application, HTTPError, RequestHandler
 from tornado.websocket import WebSocketClosedError, WebSocketHandler
 
 from cdma_tools.errors import Refused, said
-from cdma_tools.interrupts import noted_interrupts
+from cdma_tools.interrupts import INTERRUPTS, blocked_interrupts
 from cdma_tools.listening.events import Event
 from cdma_tools.report.heard_lines import heard_lines
 from cdma_tools.starting import INTERRUPTED, called
@@ -366,6 +367,12 @@ class Serving:
         self.interrupts = 0
         self.interrupted = asyncio.Event()
 
+    def hear_interrupts(self, loop: asyncio.AbstractEventLoop) -> None:
+        """Lets a loop take interrupts, unless they are ignored."""
+        for number in INTERRUPTS:
+            if signal.getsignal(number) is not signal.SIG_IGN:
+                loop.add_signal_handler(number, self.interrupt)
+
     def interrupt(self) -> None:
         """Ends the listening in order; the next time, or if it has ended, the server."""
         self.interrupts += 1
@@ -377,9 +384,6 @@ class Serving:
         """Serves the page, and returns the exit status."""
         loop = asyncio.get_running_loop()
         self.hub.plotly = loop.run_in_executor(self.hub.worker, packed_plotly)
-        for number in (signal.SIGINT, signal.SIGTERM):
-            if signal.getsignal(number) is not signal.SIG_IGN:
-                loop.add_signal_handler(number, self.interrupt)
         server = HTTPServer(application(door, self.hub), max_buffer_size=1 << 16, max_header_size=1 << 14)
         server.add_sockets(sockets)
         ticks = [
@@ -420,13 +424,19 @@ class Serving:
             viewer.close(1001)
 
 
-def serve(hub: Hub, listener: ListenerProcess, sockets: list[socket.socket], door: Door, is_ending: bool) -> int:
-    """Serves the page of a listening, and returns the exit status."""
+def serve(
+    hub: Hub, begin: Callable[[], ListenerProcess], sockets: list[socket.socket], door: Door, is_ending: bool
+) -> int:
+    """Begins a listening, serves its page, and returns the exit status."""
     with asyncio.Runner() as runner:
-        # A loop that an interrupt leaves half made can't be closed.
-        with noted_interrupts(signal.SIGINT, signal.SIGTERM):
-            runner.get_loop()
-        status = runner.run(Serving(hub, listener, is_ending).serve(sockets, door))
+        # An interrupt waits until the loop takes it: then the child ends too, and no loop is half made.
+        with blocked_interrupts():
+            serving = Serving(hub, begin(), is_ending)
+            serving.hear_interrupts(runner.get_loop())
+        try:
+            status = runner.run(serving.serve(sockets, door))
+        finally:
+            signal.pthread_sigmask(signal.SIG_BLOCK, INTERRUPTS)  # since the command is over
     for worker in (hub.worker, hub.explainer):
         worker.shutdown(wait=False, cancel_futures=True)
     if status == INTERRUPTED:

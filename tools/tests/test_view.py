@@ -48,6 +48,22 @@ PAGE_MOST = 10  # updates a second
 FRAME = b'{"line":"frame","at":%d,"rate":1200,"good":1,"bits":"0:","commands":[0,1,0,1,0,1,0,1,0,1,0,1,0,1,0,1]}\n'
 
 
+# Runs the command, and interrupts it when its first thread begins.
+BEGINNING = """
+import os, signal, sys, threading
+sys.path.insert(0, sys.argv.pop(1))
+server, begin = os.getpid(), threading.Thread.start
+def interrupted(self):
+    threading.Thread.start = begin if os.getpid() == server else interrupted
+    begin(self)
+    if os.getpid() == server:
+        os.kill(server, signal.SIGTERM)
+threading.Thread.start = interrupted
+from cdma_tools.starting import start
+sys.exit(start("view"))
+"""
+
+
 class TheChips(unittest.TestCase):
     """The file of the last chips."""
 
@@ -627,9 +643,16 @@ class Streams(Server):
         _, said = process.communicate(timeout=SECONDS)
         self.assertEqual((process.returncode, said), (1, f"view: {told['ended']['text']}\n"))
 
+    def test_an_interrupt_while_it_begins(self) -> None:
+        """It waits until the loop takes it: then the child and each thread end too."""
+        command = [PYTHON, "-B", "-c", BEGINNING, ROOT, *self.raw, "--no-browser", "--exit", os.devnull]
+        ran = subprocess.run(command, capture_output=True, text=True, timeout=SECONDS)
+        self.assertEqual((ran.returncode, ran.stderr), (130, "view: broken off\n"))
+
     def test_a_server_that_is_killed(self) -> None:
         """If the command is killed, the process that listens ends too."""
-        process, _ = self.start(*self.raw, "-", given=subprocess.PIPE)
+        process, url = self.start(*self.raw, "-", given=subprocess.PIPE)
+        self.watch(url, lambda connection: told_until(connection, "figures"))
         (child,) = children_of(process.pid)
         process.kill()
         self.assertTrue(is_gone(child))
