@@ -49,6 +49,7 @@ kept, 2 wrong arguments.
 """
 
 import argparse
+import contextlib
 import io
 import os
 import shlex
@@ -88,7 +89,7 @@ from cdma_tools.radio.air import CHIP_RATE
 from cdma_tools.reading import MEGABYTE, read_within
 from cdma_tools.results import Result, Results, add_result_options, check_place
 from cdma_tools.scripts import chosen_channel, read_script
-from cdma_tools.starting import broken_off, called, pass_over_interrupts
+from cdma_tools.starting import called, pass_over_interrupts
 from cdma_tools.workers import quietly
 
 TABLE, PICTURE = "curve.csv", "curve.png"  # in the folder of the counts
@@ -330,6 +331,16 @@ def levels_of(options: argparse.Namespace, ready: Prepared, channel: Channel) ->
     return levels
 
 
+@contextlib.contextmanager
+def kept_at_interrupt(store: Store) -> Iterator[None]:
+    """Adds to the line of an interrupt that what was counted is kept, if anything was."""
+    try:
+        yield
+    except KeyboardInterrupt:
+        pass_over_interrupts()
+        raise KeyboardInterrupt("; the same command continues from what was counted" * store.has_counts) from None
+
+
 def measure(options: argparse.Namespace, setup: Setup, ledger: Ledger, levels: dict[int, float], store: Store) -> None:
     """Does what a ledger has left; each batch is kept as it comes."""
     left = ledger.left()
@@ -399,8 +410,7 @@ def run(options: argparse.Namespace) -> int:
     check_channels(limits or [], channels_of(ready.script, ready.traffic), options.limits)
     levels = levels_of(options, ready, next(iter(channels_of(ready.script, ready.traffic).values())))
     frames = min(len(wanted.frames) for wanted in ready.wanted)
-    store = opened(folder, setup)
-    try:
+    with contextlib.closing(opened(folder, setup)) as store, kept_at_interrupt(store):
         if setup.antenna:
             check_lock(setup, setup.antenna, ready)
         rule = Rule(options.frames, options.errors)
@@ -408,14 +418,12 @@ def run(options: argparse.Namespace) -> int:
         most = -(-options.frames * (2 if setup.antenna else 1) // frames)
         ledger = Ledger(list(levels), rule, most, store.done(len(setup.curves)))
         measure(options, setup, ledger, levels, store)
-    finally:
-        store.close()
-    rows = rows_of(setup, ready, ledger, levels)
-    report.write_csv(os.path.join(folder, TABLE), rows)
-    title = options.title or plain(f"{os.path.basename(options.script)}, seed {setup.seed}")
-    report.draw(os.path.join(folder, PICTURE), [*rows, *beside], title)
-    cases = results_of(rows, limits)
-    return told(options, cases if kept is None else [*cases, compared(kept, rows, options.against)], rows)
+        rows = rows_of(setup, ready, ledger, levels)
+        report.write_csv(os.path.join(folder, TABLE), rows)
+        title = options.title or plain(f"{os.path.basename(options.script)}, seed {setup.seed}")
+        report.draw(os.path.join(folder, PICTURE), [*rows, *beside], title)
+        cases = results_of(rows, limits)
+        return told(options, cases if kept is None else [*cases, compared(kept, rows, options.against)], rows)
 
 
 def main(arguments: list[str] | None = None) -> int:
@@ -426,8 +434,5 @@ def main(arguments: list[str] | None = None) -> int:
         words.error("--path can't be given with --channel, whose --paths has all paths")
     try:
         return run(options)
-    except KeyboardInterrupt:
-        pass_over_interrupts()
-        return broken_off("curve", "; the same command continues from what was counted")
     except MemoryError:
         raise Refused("out of memory: give the script fewer samples, or fewer --workers") from None

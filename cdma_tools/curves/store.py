@@ -96,6 +96,12 @@ class Store:
                     ],
                 )
 
+    @property
+    def has_counts(self) -> bool:
+        """Whether a batch is kept."""
+        with self.faults():
+            return self.base.execute("select 1 from batches limit 1").fetchone() is not None
+
     def done(self, curves: int) -> Done:
         """All batches that are kept, with each curve's counts."""
         with self.faults():

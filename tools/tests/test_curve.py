@@ -124,8 +124,8 @@ class Curves(unittest.TestCase):
         finally:
             base.close()
 
-    def begun(self, words: list[str]) -> subprocess.Popen[str]:
-        """Returns a run that has counted a batch; its output is read later.
+    def begun(self, words: list[str], batches: int = 1) -> subprocess.Popen[str]:
+        """Returns a run that has made its folder and counted some batches; its output is read later.
 
         It receives interrupts, even if the tests run under a shell that ignores them.
         """
@@ -136,7 +136,7 @@ class Curves(unittest.TestCase):
         child = subprocess.Popen(words, stdout=subprocess.DEVNULL, stderr=subprocess.PIPE, text=True, preexec_fn=heard)
         assert child.stderr
         self.addCleanup(child.stderr.close)
-        wait_for(lambda: self.batches() >= 1, child)
+        wait_for(lambda: self.batches() >= batches and os.path.exists(self.at("out")), child)
         return child
 
     def start(self, words: list[str]) -> subprocess.Popen[bytes]:
@@ -257,6 +257,13 @@ class Broken(Curves):
         _, said = child.communicate(timeout=SECONDS)
         self.assertEqual(said, "curve: broken off; the same command continues from what was counted\n")
         self.assertEqual(child.returncode, 130)
+
+    def test_an_interrupted_run_that_has_counted_nothing(self) -> None:
+        """A receiver with noise, whose run has begun and doesn't end, has counted nothing."""
+        child = self.begun(self.words(maker=self.program("fake", "hang")), batches=0)
+        child.send_signal(signal.SIGINT)
+        _, said = child.communicate(timeout=SECONDS)
+        self.assertEqual((child.returncode, said), (130, "curve: broken off\n"))
 
     def test_a_disk_that_is_full_keeps_what_was_counted(self) -> None:
         """A limit on file sizes acts as a full disk: SQLite's log has 24 pages, 11 of them without a batch, and needs
