@@ -6,6 +6,7 @@ import os
 import subprocess
 import tempfile
 import threading
+import time
 import weakref
 from collections.abc import Iterable, Iterator
 from typing import IO
@@ -16,6 +17,9 @@ from cdma.programs import chosen
 
 PIPE_BYTES = 1 << 20  # of the pipe to the program, so that few switches between the two are needed
 MOST_SAID = 10_000  # bytes of standard error that are read
+# If lines come in FEW_READS reads of fewer than FEW_BYTES, each read after these waits PAUSE seconds for more of them:
+# waking up for a line costs as much processor time as ten events.
+FEW_READS, FEW_BYTES, PAUSE = 16, 4_096, 0.02
 Piece = bytes | memoryview
 
 
@@ -44,6 +48,7 @@ class Running:
         self.name = program.name
         self.is_ended = False  # by `stop`, not by itself
         self._rest = b""  # of what was read: the beginning of a line
+        self._few = 0  # reads that brought few bytes, one after another
         self._said = tempfile.TemporaryFile()
         is_file = hasattr(source, "fileno")
         with as_errors():
@@ -72,13 +77,21 @@ class Running:
 
         A line that the program left incomplete is dropped.
         """
-        while data := os.read(self.output.fileno(), BLOCK):
+        while data := self._read_some():
             lines, end, rest = data.rpartition(b"\n")
             if end:
                 lines, self._rest = self._rest + lines + end, rest
                 return lines
             self._rest += data
         return b""
+
+    def _read_some(self) -> bytes:
+        """Waits for bytes, and returns those that have come."""
+        if self._few >= FEW_READS:
+            time.sleep(PAUSE)
+        data = os.read(self.output.fileno(), BLOCK)
+        self._few = self._few + 1 if len(data) < FEW_BYTES else 0
+        return data
 
     def lines(self) -> Iterator[str]:
         """Yields the lines that the program writes, as they come."""

@@ -496,13 +496,25 @@ class Long(unittest.TestCase):
             spent.append(time.process_time() - begin)
         self.assertLess(min(spent), 5e-6 * count)
 
+    def other_run(self, script: str) -> cdma.Run:
+        """Returns a run of a shell's script instead of the program."""
+        other = self.program.with_name("other")
+        other.write_text(f"#!/bin/sh\n{script}\n")
+        other.chmod(0o755)
+        cdma.use_program(other)
+        return self.run_of()
+
+    def test_lines_one_by_one(self) -> None:
+        """Lines that a program writes one by one are read together, but for the first ones."""
+        reads = unittest.mock.Mock(side_effect=os.read)
+        with unittest.mock.patch("cdma.running.os.read", reads):
+            run = self.other_run("for n in $(seq 400); do echo pilot phase=1 energy=$n; /bin/true; done")
+            self.assertEqual([str(event) for event in run], [f"pilot phase=1 energy={n}" for n in range(1, 401)])
+        self.assertLess(reads.call_count, 250)
+
     def test_no_line_of_the_program(self) -> None:
         """A wrong first word ends the run, a wrong field is said of when fields are read."""
-        self.program.with_name("other").write_text("#!/bin/sh\necho pilot phase=32768 energy=1\necho spam\n")
-        self.program.with_name("other").chmod(0o755)
-        cdma.use_program(self.program.with_name("other"))
-        run = self.run_of()
-        events = iter(run)
+        events = iter(self.other_run("echo pilot phase=32768 energy=1; echo spam"))
         pilot = next(events)
         self.assertEqual(str(pilot), "pilot phase=32768 energy=1")
         with self.assertRaisesRegex(cdma.Error, r"phase: 32768 is out of range \(0 to 32767\)"):
