@@ -15,16 +15,7 @@ from cdma.parameters import HexNumber, Number, hex_text, number_within
 from cdma_model.files import Capture
 from cdma_model.handset import Assigned
 from cdma_model.script import read_script as read_cell
-from cdma_tools.commands.explain import ROWS
-from cdma_tools.explaining.frame_steps import (
-    NoFrame,
-    Steps,
-    found_in,
-    mark_of,
-    paging_steps,
-    sync_steps,
-    traffic_steps,
-)
+from cdma_tools.explaining.frame_steps import TRAFFIC_ROWS, NoFrame, Steps, Wanted, steps_of
 from cdma_tools.explaining.frame_text import text_of
 from cdma_tools.margins import Margin, margins, search_margin
 from cdma_tools.scripting.arguments import number_of
@@ -103,19 +94,13 @@ def explain(
         raise ParameterError("channel", f"one of {', '.join(CHANNELS)} is needed, not {channel!r:.60}")
     number = number_within("paging", paging, 1, 7)
     assigned = assigned_of(esn, row, offset) if channel == "traffic" else None
-    rates = number_within("rate_set", rate_set, 1, 2)
+    wanted = Wanted(channel, index, number, assigned, number_within("rate_set", rate_set, 1, 2))
     capture = capture_of(chips)
     if capture.count < searched:
         raise FileError("too few", 8)
     with as_errors():
         try:
-            found = found_in(capture, searched, paths)
-            if channel == "sync":
-                return explanation_of(sync_steps(capture, found, index))
-            mark = mark_of(capture, found)
-            if assigned is None:
-                return explanation_of(paging_steps(capture, found, mark, number, index))
-            return explanation_of(traffic_steps(capture, found, mark, assigned, index, rates))
+            return explanation_of(steps_of(capture, wanted, searched, paths))
         except NoFrame as why:
             raise Error(str(why)) from None
 
@@ -130,7 +115,7 @@ def assigned_of(esn: HexNumber | None, row: Number | None, offset: Number) -> As
     except Wrong as why:
         raise ParameterError("esn", str(why)) from None
     place = number_within("row", row, 1, 63)
-    if place not in ROWS:
+    if place not in TRAFFIC_ROWS:
         raise ParameterError("row", f"{place} is the sync channel's")
     return Assigned(serial, place, number_within("offset", offset, 0, 15))
 

@@ -26,29 +26,14 @@ from __future__ import annotations
 import argparse
 import re
 
-from cdma_model.files import Capture
 from cdma_model.handset import Assigned
 from cdma_tools.arguments import Parser, whole_within
 from cdma_tools.captures import read_whole
 from cdma_tools.errors import Refused
-from cdma_tools.explaining.frame_steps import (
-    NoFrame,
-    Steps,
-    found_in,
-    mark_of,
-    paging_steps,
-    sync_steps,
-    traffic_steps,
-)
+from cdma_tools.explaining.frame_steps import TRAFFIC_ROWS, NoFrame, Steps, Wanted, steps_of
 from cdma_tools.explaining.frame_text import text_of
 from cdma_tools.overwriting import STANDARD, InputFile
 from cdma_tools.plots import NEEDED, picture_of
-
-ROWS = set(range(1, 64)) - {32}
-"""The Walsh rows that a traffic channel may have."""
-
-
-# ---- the arguments
 
 
 def parser() -> argparse.ArgumentParser:
@@ -104,23 +89,22 @@ def checked(given: list[str] | None) -> argparse.Namespace:
     options = words.parse_args(given)
     if options.traffic and not re.fullmatch("[0-9a-fA-F]{8}", options.traffic[0]):
         words.error("ESN is eight hex digits")
-    if options.traffic and not (re.fullmatch("[0-9]{1,2}", options.traffic[1]) and int(options.traffic[1]) in ROWS):
+    if options.traffic and not (re.fullmatch("[0-9]{1,2}", options.traffic[1]) and int(options.traffic[1]) in TRAFFIC_ROWS):
         words.error("ROW must be 1 to 63, but not 32, which is the sync channel's")
     if options.picture == STANDARD:
         words.error("--picture needs a file: standard output has the steps")
     return options
 
 
-def steps_of(capture: Capture, options: argparse.Namespace) -> Steps:
-    """The steps of the frame that is asked for; raises `NoFrame`."""
-    found = found_in(capture, options.span, options.fingers)
+def wanted_of(options: argparse.Namespace) -> Wanted:
+    """The frame that is asked for."""
     if options.sync:
-        return sync_steps(capture, found, options.frame)
-    mark = mark_of(capture, found)
+        return Wanted("sync", options.frame)
     if options.paging:
-        return paging_steps(capture, found, mark, options.paging, options.frame)
-    assigned = Assigned(int(options.traffic[0], 16), int(options.traffic[1]), options.offset)
-    return traffic_steps(capture, found, mark, assigned, options.frame, options.rate_set)
+        return Wanted("paging", options.frame, options.paging)
+    serial, row = options.traffic
+    assigned = Assigned(int(serial, 16), int(row), options.offset)
+    return Wanted("traffic", options.frame, assigned=assigned, rate_set=options.rate_set)
 
 
 def drawn(steps: Steps, path: str) -> None:
@@ -136,7 +120,8 @@ def main(arguments: list[str] | None = None) -> int:
     """Runs the tool, and returns its exit status."""
     options = checked(arguments)
     try:
-        steps = steps_of(read_whole(options.file, options.span), options)
+        capture = read_whole(options.file, options.span)
+        steps = steps_of(capture, wanted_of(options), options.span, options.fingers)
     except NoFrame as why:
         raise Refused(f"{options.file}: {why}") from None
     if options.picture:

@@ -70,6 +70,9 @@ from cdma_model.messages import (
 from cdma_model.search import Found, search
 
 
+TRAFFIC_ROWS = frozenset(range(1, 64)) - {32}  # Walsh rows that a traffic channel may have
+
+
 class NoFrame(Exception):
     """Why a frame can't be shown, in words."""
 
@@ -478,3 +481,25 @@ def mark_of(capture: Capture, found: Found) -> Mark:
     if mark is None:
         raise NoFrame("no sync message gives the time, so there is no mark: look at --sync")
     return mark
+
+
+@dataclass(frozen=True)
+class Wanted:
+    """The frame to explain: its channel, `sync`, `paging` or `traffic`, and its number there from 0 on."""
+
+    channel: str
+    frame: int = 0
+    paging: int = 1  # number of the paging channel
+    assigned: Assigned | None = None  # the traffic channel
+    rate_set: int = 1
+
+
+def steps_of(capture: Capture, wanted: Wanted, span: int, fingers: int) -> Steps:
+    """Returns the steps of a frame, after a search over `span` samples; raises NoFrame if there is none."""
+    found = found_in(capture, span, fingers)
+    if wanted.channel == "sync":
+        return sync_steps(capture, found, wanted.frame)
+    mark = mark_of(capture, found)
+    if wanted.assigned is None:
+        return paging_steps(capture, found, mark, wanted.paging, wanted.frame)
+    return traffic_steps(capture, found, mark, wanted.assigned, wanted.frame, wanted.rate_set)
