@@ -15,9 +15,11 @@ from cdma.chips import Source, save
 from cdma.errors import ParameterError, as_errors
 from cdma.parameters import parsed, words_of
 from cdma_tools import sigmf
-from cdma_tools.commands import channel
-from cdma_tools.heard_run import CHIP_RATE
+from cdma_tools.commands.channel import parser
 from cdma_tools.radio.channel import record as record_link
+from cdma_tools.radio.link_options import chips_of, link_of, radio_of
+from cdma_tools.radio.link_truth import meta_of
+from cdma_tools.radio.link_truth import truth as truth_of
 from cdma_tools.recordings import TYPES
 from cdma_tools.recordings import Recording as Samples
 from cdma_tools.writing import write_out
@@ -154,17 +156,15 @@ def record(
     with tempfile.TemporaryDirectory(prefix="cdma-") as folder:
         words = [*words_of(values), "--", *cell_words(cells, folder), "recording" + sigmf.META]
         try:
-            options = parsed(channel.parser(), words)
+            options = parsed(parser(), words)
         except ParameterError as why:
             name = "clock_ppm" if why.parameter == "clock" else why.parameter
             raise ParameterError(name, str(why).partition(": ")[2]) from None
-        with as_errors(), contextlib.closing(channel.link_of(options)) as link:
-            count = link.cells[0].count
-            count = min(count, int(options.seconds * CHIP_RATE)) if options.seconds else count
+        with as_errors(), contextlib.closing(link_of(options)) as link:
             with contextlib.ExitStack() as kept:
                 file = kept.enter_context(tempfile.TemporaryFile())
-                made = record_link(link, channel.radio_of(options), count, file)
+                made = record_link(link, radio_of(options), chips_of(options, link), file)
                 file.flush()
-                meta, truth = channel.meta_of(options, link, made), channel.truth(options, link)
+                meta, truth = meta_of(options, link, made), truth_of(options, link)
                 kept.pop_all()  # from here on the recording closes the file
             return Recording(file, options.type, options.rate, made.cut, truth, meta)

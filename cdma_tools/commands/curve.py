@@ -68,7 +68,6 @@ from cdma_tools.arguments import (
     wrong,
 )
 from cdma_tools.cluster import connected, remove_own_folders
-from cdma_tools.commands.channel import add_link_options, radio_of
 from cdma_tools.curves import report
 from cdma_tools.curves.antenna import Antenna
 from cdma_tools.curves.batch import Curve, Prepared, Setup, check_lock, prepared, versions_of
@@ -86,6 +85,7 @@ from cdma_tools.plots import plain, title_of
 from cdma_tools.program import add_program_option, find_program
 from cdma_tools.progress import bar
 from cdma_tools.radio.air import CHIP_RATE
+from cdma_tools.radio.link_options import add_link_options, radio_of
 from cdma_tools.reading import MEGABYTE, read_within
 from cdma_tools.results import Result, Results, add_result_options, check_place
 from cdma_tools.scripts import chosen_channel, read_script
