@@ -5,7 +5,7 @@ import os
 import tempfile
 from dataclasses import dataclass, field
 from fractions import Fraction
-from typing import IO, Any
+from typing import Any
 
 import numpy
 from numpy.typing import NDArray
@@ -14,11 +14,10 @@ from cdma.chips import Chips, read_samples
 from cdma.errors import ParameterError, as_errors
 from cdma.events import Table, html_table
 from cdma.parameters import parsed, words_of
-from cdma.programs import path_or_none, program_path
+from cdma.programs import path_or_none, script_of_model
 from cdma.recordings import Recording
-from cdma_tools.analysis import importing
-from cdma_tools.analysis.cell_table import CellFacts, table_of_cells
-from cdma_tools.analysis.cells import Search
+from cdma_tools.analysis.capture_chips import cells_of, lock_options, write_locked
+from cdma_tools.analysis.cell_table import CellFacts
 from cdma_tools.commands import import_capture
 from cdma_tools.errors import Refused
 from cdma_tools.radio import locking
@@ -165,7 +164,11 @@ def lock(
     }  # fmt: skip
     if bits not in (8, 16):
         raise ParameterError("bits", f"8 or 16 is needed, not {bits!r}")
-    with as_path(recording, given) as (path, source):
+    with as_path(recording, given) as (path, source), contextlib.ExitStack() as stack:
+        if pn is not None:
+            given["program"] = stack.enter_context(script_of_model())
+        elif cells is not None:
+            given["program"] = path_or_none()
         parser = import_capture.parser()
         options = parsed(parser, [*words_of(given), "--lock", "--", path, "-"])
         import_capture.check_words(parser, options)
@@ -176,20 +179,18 @@ def lock(
 def locked(options: Any, source: object) -> Lock:
     """Returns the lock that the tool's options ask for."""
     recording = take(options.recording, options)
-    path, asked = recording.path, import_capture.lock_options(options, recording)
     held: list[locking.Held] = []
     with tempfile.TemporaryFile() as file:
         try:
-            if options.pn is not None or (options.cell or 1) > 1:
-                found, said = taken(path, asked, options, file)
-            else:
-                found, said = locking.lock(path, asked, file, look=lambda one, _: held.append(one)), []
+            found = write_locked(options, recording, file, look=lambda one, _: held.append(one))
         except Refused as why:
             raise recording.explained(why) from None
         file.seek(0)
         chips = read_samples(file)
-    found = found._replace(said=(*recording.hints, *said))
-    kept = Held(path, asked, held[0] if held else None, (source, recording))
+    if recording.fault:
+        found = found._replace(said=(*found.said, recording.fault))
+    first = held[0] if held else None
+    rows = cells_of(options, recording, options.program, first) if options.cells else []
     return Lock(
         chips=chips,
         carrier_hz=found.carrier_hz,
@@ -203,23 +204,7 @@ def locked(options: Any, source: object) -> Lock:
         lost=found.lost,
         scale=found.scale,
         remarks=tuple(found.remarks()),
-        cells=cells_of(kept, options.cells or 0),
+        cells=Table(rows),
         line=found.line(),
-        kept=kept,
+        kept=Held(recording.path, lock_options(options, recording), first, (source, recording)),
     )
-
-
-def taken(path: str, asked: locking.Options, options: Any, file: IO[bytes]) -> importing.Taken:
-    """Writes the chips of one cell of several."""
-    program = None if options.pn is None else program_path()
-    with tempfile.TemporaryDirectory(prefix="cells-") as folder:
-        return importing.take(path, asked, importing.Wanted(options.cell, options.pn, program), file, folder)
-
-
-def cells_of(kept: Held, count: int) -> Table[CellFacts]:
-    """Returns the table of up to `count` cells."""
-    if not count:
-        return Table()
-    with tempfile.TemporaryDirectory(prefix="cells-") as folder:
-        with Search(kept.path, kept.options, folder, first=kept.held) as search:
-            return Table(table_of_cells(search, count, path_or_none(), lambda done: None))

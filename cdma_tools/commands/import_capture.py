@@ -61,13 +61,13 @@ import json
 import os
 import re
 import sys
-import tempfile
 from collections.abc import Sequence
-from typing import IO, TYPE_CHECKING, Any, Callable, Iterable
+from typing import TYPE_CHECKING, Any, Callable, Iterable
 
 import numpy
 
 from cdma_tools import sigmf
+from cdma_tools.analysis.capture_chips import cells_of, flags_of, is_weaker, write_locked, write_plain
 from cdma_tools.arguments import (
     MOST_COUNT,
     Parser,
@@ -77,14 +77,14 @@ from cdma_tools.arguments import (
     whole_within,
 )
 from cdma_tools.cell_options import CELL_OPTIONS, MOST_RANK, add_cell_options
-from cdma_tools.checks import FLAGS_BYTES, FLAGS_PLACE, reflag, tried
+from cdma_tools.checks import reflag, tried
 from cdma_tools.errors import Refused, said
 from cdma_tools.overwriting import STANDARD, InputFile, OutputFile, UpdatedFile
 from cdma_tools.program import add_program_option, find_program, program_or_hint
 from cdma_tools.progress import bar
 from cdma_tools.radio.plain import plain_chips
 from cdma_tools.radio.search_policy import TRIES, add_search_options
-from cdma_tools.sample_file import GREATEST, header
+from cdma_tools.sample_file import GREATEST
 from cdma_tools.sources.options import (
     SOURCE_HELP,
     add_radio_options,
@@ -99,12 +99,9 @@ from cdma_tools.starting import called
 from cdma_tools.writing import write_out
 
 if TYPE_CHECKING:
-    from cdma_tools.analysis.importing import Taken
-    from cdma_tools.radio.locking import Held, Locked, Options
+    from cdma_tools.radio.locking import Held, Locked
 
 LOCK_ONLY = ("fingers", "conjugate", "equaliser", "search", "meta", "cells", *CELL_OPTIONS)
-# Those of the first that a lock takes as they are.
-LOCK_OPTIONS = ("fingers", "conjugate", "equaliser", "search")
 
 
 class CaptureParser(Parser):
@@ -247,27 +244,10 @@ def check_words(words: Parser, options: argparse.Namespace) -> None:
         words.error(fault)
 
 
-def flags_of(options: argparse.Namespace) -> int:
-    """The flags of the sample file."""
-    return (1 if options.complement_30 else 0) | (2 if options.complement_16 else 0)
-
-
 def say(lines: Iterable[str]) -> None:
     """Says lines on standard error."""
     for line in lines:
         said(called("import_capture"), line)
-
-
-def try_checks(options: argparse.Namespace, file: IO[bytes]) -> list[str]:
-    """On request sets the flags of a written file by what passes; returns what to report about it."""
-    if not options.checks:
-        return []
-    file.flush()
-    heard = tried(find_program(options.program), f"/proc/self/fd/{file.fileno()}")
-    file.seek(FLAGS_PLACE)
-    file.write((heard.flag | flags_of(options)).to_bytes(FLAGS_BYTES, "big"))
-    file.seek(0, os.SEEK_END)
-    return [heard.told()]
 
 
 def take_reflag(options: argparse.Namespace) -> None:
@@ -284,21 +264,21 @@ def take_plainly(options: argparse.Namespace, recording: TakenSource) -> None:
     """Writes the file of a recording whose carrier and clock are right."""
     parts, scale = plain_chips(options, recording)
     with write_out(options.file, is_sought=bool(options.checks)) as file:
-        file.write(header(options.version, flags_of(options), len(parts)))
-        file.write(parts.tobytes())
-        lines = try_checks(options, file)
+        lines = write_plain(options, parts, file)
     say([*recording.remarks, *lines])
     top = int(numpy.abs(parts.astype(numpy.int32)).max())
     print(f"{len(parts)} chips, scale {scale:.9g}, greatest part {top} of {GREATEST[options.version]}", file=sys.stderr)
 
 
 class Shown:
-    """The steps of a lock on a bar."""
+    """The steps of a lock on a bar, or those to a weaker cell."""
 
-    def __init__(self) -> None:
-        self.bar, self.done = bar(total=100, text="lock", unit="%"), 0
+    def __init__(self, has_cells: bool) -> None:
+        """Shows the bar."""
+        self.bar = bar(text="cells", unit="cells") if has_cells else bar(total=100, text="lock", unit="%")
+        self.done = 0
 
-    def __call__(self, part: float, text: str) -> None:
+    def part(self, part: float, text: str) -> None:
         """Takes note that a part of 1 is done, in a step of this name."""
         now = round(100 * part)
         if now > self.done:
@@ -306,34 +286,14 @@ class Shown:
             self.bar.update(now - self.done)
             self.done = now
 
+    def cell(self, text: str) -> None:
+        """Takes note of a step to a weaker cell."""
+        self.bar.set_description(text)
+        self.bar.update(1)
+
     def close(self) -> None:
         """Takes the bar away."""
         self.bar.close()
-
-
-def take_cell(options: argparse.Namespace, path: str, asked: "Options", file: IO[bytes]) -> "Taken":
-    """Writes the file of one cell of several."""
-    from cdma_tools.analysis.importing import Wanted, take
-
-    program = None if options.pn is None else find_program(options.program)
-    with tempfile.TemporaryDirectory(prefix="cells-") as folder, bar(text="cells", unit="cells") as shown:
-
-        def tell(text: str) -> None:
-            shown.set_description(text)
-            shown.update(1)
-
-        return take(path, asked, Wanted(options.cell, options.pn, program), file, folder, tell)
-
-
-def lock_options(options: argparse.Namespace, recording: TakenSource) -> "Options":
-    """Returns the options of the lock to a recording."""
-    from cdma_tools.radio.locking import Options
-
-    given = {name: value for name in LOCK_OPTIONS if (value := getattr(options, name)) is not None}
-    return Options(
-        recording.kind, recording.rate, skip=options.skip, shift=options.shift or 0.0, count=options.count,
-        scale=options.scale, version=options.version, flags=flags_of(options), **given,
-    )  # fmt: skip
 
 
 def take_by_lock(
@@ -341,28 +301,21 @@ def take_by_lock(
     recording: TakenSource,
     look: "Callable[[Held, Locked], None]" = lambda held, locked: None,
 ) -> "Locked":
-    """Writes the file of the strongest pilot in a recording, and returns the result.
+    """Writes the file of the wanted pilot of a recording, and returns the result.
 
     `look` gets the lock while its samples are still open, unless a weaker cell is taken.
     """
-    from cdma_tools.radio.locking import lock  # scipy takes half a second to load, and only this needs it
-
-    told, path, asked = [*recording.remarks], recording.path, lock_options(options, recording)
+    path = recording.path
     if options.meta:
         sigmf.check_note(options.meta, path)
     with write_out(options.file, is_sought=bool(options.checks)) as file:
-        if options.pn is not None or (options.cell or 1) > 1:
-            locked, others = take_cell(options, path, asked, file)
-            told += others
-        else:
-            with contextlib.closing(Shown()) as shown:
-                locked = lock(path, asked, file, shown, look)
-        told += try_checks(options, file)
+        with contextlib.closing(Shown(is_weaker(options))) as shown:
+            locked = write_locked(options, recording, file, shown.part, shown.cell, look)
     if options.meta:
         sigmf.note_lock(
             options.meta, options.recording, recording.kind, recording.rate, path, options.skip, locked
         )
-    return locked._replace(said=tuple(told))
+    return locked
 
 
 def lock_and_tell(options: argparse.Namespace, recording: TakenSource) -> None:
@@ -377,15 +330,11 @@ def lock_and_tell(options: argparse.Namespace, recording: TakenSource) -> None:
 
 def tell_cells(options: argparse.Namespace, recording: TakenSource, first: "Held | None") -> None:
     """Prints the table of a recording's cells; `first` is the lock to the strongest one, if it was made already."""
-    from cdma_tools.analysis.cell_table import table_of_cells
-    from cdma_tools.analysis.cells import Search
-
     lines: list[str] = []
     program = program_or_hint(options.program, lines)
     say(lines)
-    with tempfile.TemporaryDirectory(prefix="cells-") as folder, bar(total=options.cells, text="cells") as shown:
-        with Search(recording.path, lock_options(options, recording), folder, first=first) as search:
-            cells = table_of_cells(search, options.cells, program, shown.update)
+    with bar(total=options.cells, text="cells") as shown:
+        cells = cells_of(options, recording, program, first, shown.update)
     if options.json:
         print(json.dumps([cell.as_json() for cell in cells]))
         return

@@ -39,6 +39,7 @@ import tempfile
 from dataclasses import replace
 from typing import Any, NamedTuple, NoReturn
 
+from cdma_tools.analysis.capture_chips import lock_options
 from cdma_tools.analysis.measuring import SeenLock, seen_lock
 from cdma_tools.arguments import Parser, whole_within
 from cdma_tools.commands import FAILED, import_capture, listen
@@ -273,7 +274,7 @@ def cells_of(options: argparse.Namespace, program: str, words: dict[str, str], d
     os.mkdir(folder)
     held = done.imported.seen.held if done.imported.seen is not None else None
     try:
-        asked = import_capture.lock_options(done.asked, done.recording)
+        asked = lock_options(done.asked, done.recording)
         return cells.addition_of(
             cells.gather_cells(done.recording.path, asked, options.cells, program, words, folder, held)
         )
