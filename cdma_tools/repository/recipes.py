@@ -99,7 +99,7 @@ Name = Word | Variant | Fields
 class Recipe:
     """One kind of part: the existing one that it is counted by, and the names that lead to its places in all crates.
 
-    Of a brief one the page has only the count.
+    The page gives only the count of a brief recipe.
     """
 
     example: str
