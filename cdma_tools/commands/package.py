@@ -1,8 +1,10 @@
 """Makes a Debian package of the built program, the tools, the model, the cases and the documents.
 
 It takes only the program that `rt` built in this checkout, which it builds only from proved crates. The package is
-cdma-replay_VERSION_amd64.deb in FOLDER. The same files make the same package. --tarball writes only the program, its
-manual page and its completions instead, as cdma-replay_VERSION_amd64.tar.gz, and its checksum for `sha256sum --check`.
+cdma-replay_VERSION_amd64.deb in FOLDER. dpkg-buildpackage makes it by the rules in debian/, in a copy of the checkout,
+and needs the packages that debian/control names. The same files make the same package. --tarball writes only the
+program, its manual page and its completions instead, as cdma-replay_VERSION_amd64.tar.gz, and its checksum for
+`sha256sum --check`.
 
     tools/package
     tools/package --tarball /tmp
@@ -47,6 +49,6 @@ def main(arguments: list[str] | None = None) -> int:
             print(path)
         return 0
     path = os.path.join(options.folder, debian.FILE)
-    debian.build(tree.entries(BUILT), path)
+    debian.build(BUILT, path)
     print(path)
     return 0

@@ -7,5 +7,5 @@
 | `completions` | completions of the tools for bash and zsh |
 | `program_completions` | those of cdma_replay, which say what is wrong with its arguments |
 | `archive` | the built program as an archive with its checksum |
-| `debian` | the package: control, copyright, changelog, and how it is made |
+| `debian` | the package: what the rules in debian/ take from here, and how it is made in a copy of the checkout |
 """

@@ -27,7 +27,7 @@ PLAIN, EXECUTABLE = 0o644, 0o755
 FOLDERS = ("cdma", "cdma_tools", "cdma_model", "conformance", "examples")
 # Pages outside docs/ to which those that are installed lead, each at its place in the checkout.
 PAGES = ("README.md", "CONTRIBUTING.md", "CHANGELOG.md", "conformance/README.md")
-# An installed command: it finds the package next to it, whatever the prefix, and leaves no files.
+# An installed command: it finds the package below its own prefix, whatever that is, and leaves no files.
 COMMAND = """#!/usr/bin/python3 -S
 \"\"\"The command `{module}` of the package cdma_tools.\"\"\"
 import sys
@@ -36,7 +36,8 @@ try:
     import os
 
     sys.dont_write_bytecode = True
-    sys.path[0] = os.path.join(os.path.dirname(os.path.dirname(os.path.realpath(__file__))), "share", "{name}")
+    prefix = os.path.dirname(os.path.dirname(os.path.realpath(__file__)))
+    sys.path[:] = [*sys.path[1:], os.path.join(prefix, "{modules}")]
     from cdma_tools.starting import start
 
     if __name__ == "__main__":
@@ -121,18 +122,29 @@ def program_files(program: str) -> Iterator[Entry]:
     check_program(program)
     yield Entry(f"{MANUALS}/cdma_replay.1", read(os.path.join(TOP, "docs", "cdma_replay.1")), PLAIN)
     yield Entry("bin/cdma_replay", read(program), EXECUTABLE)
+    yield from program_completion_files()
+
+
+def program_completion_files() -> Iterator[Entry]:
+    """Yields the completions of the program."""
     yield Entry(f"{BASH}/cdma_replay", program_completions.bash_completion().encode(), PLAIN)
     yield Entry(f"{ZSH}/_cdma_replay", program_completions.zsh_completion().encode(), PLAIN)
+
+
+def command_files(modules: str) -> Iterator[Entry]:
+    """Yields each command, its manual page and its completions; it imports from the folder `modules` of its prefix."""
+    for name, module in commands().items():
+        text = COMMAND.format(module=module, command=name, modules=modules)
+        yield Entry(f"bin/{name}", text.encode(), EXECUTABLE)
+        yield Entry(f"{MANUALS}/{name}.1", manuals.manual_of(name, module).encode(), PLAIN)
+        yield Entry(f"{BASH}/{name}", completions.completion_of(name, module).encode(), PLAIN)
+        yield Entry(f"{ZSH}/_{name}", completions.zsh_completion_of(name, module).encode(), PLAIN)
 
 
 def entries(program: str) -> Iterator[Entry]:
     """All files of an installation."""
     yield from program_files(program)
-    for name, module in commands().items():
-        yield Entry(f"bin/{name}", COMMAND.format(module=module, command=name, name=NAME).encode(), EXECUTABLE)
-        yield Entry(f"{MANUALS}/{name}.1", manuals.manual_of(name, module).encode(), PLAIN)
-        yield Entry(f"{BASH}/{name}", completions.completion_of(name, module).encode(), PLAIN)
-        yield Entry(f"{ZSH}/_{name}", completions.zsh_completion_of(name, module).encode(), PLAIN)
+    yield from command_files(SHARED)
     yield from shared_files()
     yield from documents()
 

@@ -232,71 +232,110 @@ class OfBash(unittest.TestCase):
             self.assertEqual(self.completed(command, "--")[0], [f"--{name}" for name in options])
 
 
-@unittest.skipUnless(PROGRAM, NO_PROGRAM)
-class OfTheProgram(Installed):
-    """Installations of the built program."""
+def missing_packages() -> str:
+    """Returns which packages are missing that debian/control asks for, empty if none is."""
+    if not shutil.which("dpkg-checkbuilddeps") or not shutil.which("dpkg-buildpackage"):
+        return "no dpkg-buildpackage: install the package dpkg-dev"
+    control = os.path.join(ROOT, "debian", "control")
+    return subprocess.run(["dpkg-checkbuilddeps", control], capture_output=True, text=True, timeout=60).stderr.strip()
 
-    def test_a_package(self) -> None:
-        if not shutil.which("dpkg-deb"):
-            self.skipTest("no dpkg-deb: this is no system of Debian's kind")
-        made = [os.path.join(self.folder, name) for name in ("one.deb", "two.deb")]
-        for path in made:
-            debian.build(tree.entries(str(PROGRAM)), path)
-        with open(made[0], "rb") as one, open(made[1], "rb") as two:
+
+MISSING = missing_packages()
+PLUGINS = "usr/lib/x86_64-linux-gnu/wireshark/plugins"  # where Wireshark looks for dissectors of packages
+# Files of the package that an installation below a prefix doesn't have.
+OF_DEBIAN = {
+    f"{PLUGINS}/is95.lua",
+    "usr/share/doc/cdma-replay/changelog.gz",
+    "usr/share/doc/cdma-replay/copyright",
+    "usr/share/lintian/overrides/cdma-replay",
+}
+# What Python packages say of themselves, which each installer of Python packages writes.
+METADATA = re.compile(r"usr/lib/python3/dist-packages/cdma_tools-[\d.]+\.dist-info/\w+(\.txt)?")
+
+
+def as_in_the_package(place: str) -> str:
+    """Returns the place in the package of a file that tools/install puts below a prefix."""
+    place = re.sub("^share/cdma-replay/(?=cdma(_model|_tools)?/)", f"{debian.MODULES}/", place)
+    place = re.sub(r"(?<=^share/man/man1/)(.*)$", r"\1.gz", place)
+    return "usr/" + place.replace(tree.ZSH, debian.VENDOR_ZSH)
+
+
+@unittest.skipUnless(PROGRAM, NO_PROGRAM)
+@unittest.skipIf(MISSING, MISSING)
+class ThePackage(Installed):
+    """The package of Debian's kind."""
+
+    seconds = 120
+    package, root = "", ""  # the package's file, and the folder into which it is unpacked
+
+    @classmethod
+    def setUpClass(cls) -> None:
+        folder = temporary_folder(cls.addClassCleanup)
+        cls.package, cls.root = os.path.join(folder, "one.deb"), os.path.join(folder, "root")
+        debian.build(str(PROGRAM), cls.package)
+        subprocess.run(["dpkg-deb", "-x", cls.package, cls.root], check=True, timeout=60)
+
+    def test_the_same_files_make_the_same_package(self) -> None:
+        again = os.path.join(self.folder, "two.deb")
+        with unittest.mock.patch.dict(os.environ, {"SOURCE_DATE_EPOCH": "1", "TZ": "Pacific/Chatham", "LC_ALL": "C"}):
+            debian.build(str(PROGRAM), again)
+        with open(self.package, "rb") as one, open(again, "rb") as two:
             self.assertEqual(one.read(), two.read())
-        root = os.path.join(self.folder, "root")
-        subprocess.run(["dpkg-deb", "-x", made[0], root], check=True, timeout=60)
-        self.try_out(os.path.join(root, "usr"))
-        self.assertIn("usr/share/zsh/vendor-completions/_cdma-scan", files_below(root))  # where Debian's zsh looks
-        modules = os.path.join(root, "usr", debian.MODULES, "cdma-replay.pth")  # by which Debian's Python finds cdma
-        with open(modules, encoding="ascii") as file:
-            self.assertEqual(file.read(), "/usr/share/cdma-replay\n")
-        self.assertIn("usr/share/cdma-replay/cdma/__init__.py", files_below(root))
-        self.assertFalse([name for name in files_below(root) if "__pycache__" in name])
-        for folder in ("share/cdma-replay", debian.PLUGINS):
-            self.assertIn(f"usr/{folder}/is95.lua", files_below(root))
-        self.check_removal(made[0])
+
+    def test_it_has_the_files_of_an_installation(self) -> None:
+        found = {place for place in files_below(self.root) if not METADATA.fullmatch(place)}
+        wanted = {as_in_the_package(entry.place) for entry in tree.entries(str(PROGRAM))}
+        self.assertEqual(found, wanted | OF_DEBIAN)
+        with open(os.path.join(self.root, "usr", "bin", "cdma_replay"), "rb") as packed:
+            self.assertEqual(packed.read(), tree.read(str(PROGRAM)))
+
+    def test_what_a_user_does(self) -> None:
+        self.try_out(os.path.join(self.root, "usr"))
+
+    def test_the_story_of_an_analyser(self) -> None:
+        """The test of debian/tests, in an empty folder, by the package's files."""
+        environment = {"AUTOPKGTEST_TMP": self.work, "PATH": f"{self.root}/usr/bin:/usr/bin:/bin", "HOME": self.work}
+        script = os.path.join(ROOT, "debian", "tests", "analyser")
+        ran = subprocess.run([script], capture_output=True, text=True, env=environment, timeout=SECONDS)
+        self.assertEqual((ran.returncode, ran.stdout), (0, ""), ran.stderr)
 
     @unittest.skipUnless(shutil.which("tshark"), "no tshark: install the package tshark")
     def test_the_dissector_is_where_wireshark_looks(self) -> None:
         ran = subprocess.run(["tshark", "-G", "folders"], capture_output=True, text=True, timeout=60)
-        self.assertRegex(ran.stdout, rf"(?m)^Global Lua Plugins:\s+/usr/{re.escape(debian.PLUGINS)}$")
+        self.assertRegex(ran.stdout, rf"(?m)^Global Lua Plugins:\s+/{re.escape(PLUGINS)}$")
 
-    @unittest.skipUnless(
-        shutil.which("lintian") and shutil.which("dpkg-deb"), "no lintian: install the package lintian"
-    )
-    def test_lintian_finds_no_error(self) -> None:
-        package = os.path.join(self.folder, "one.deb")
-        debian.build(tree.entries(str(PROGRAM)), package)
-        ran = subprocess.run(
-            ["lintian", "--allow-root", "--fail-on", "error", package], capture_output=True, text=True, timeout=SECONDS
-        )
-        self.assertEqual((ran.returncode, re.findall("(?m)^E: .*", ran.stdout)), (0, []), ran.stdout)
+    @unittest.skipUnless(shutil.which("lintian"), "no lintian: install the package lintian")
+    def test_lintian_finds_nothing(self) -> None:
+        words = ["lintian", "--allow-root", "--fail-on", "error,warning", self.package]
+        ran = subprocess.run(words, capture_output=True, text=True, timeout=SECONDS)
+        self.assertEqual((ran.returncode, ran.stdout), (0, ""))
 
-    def check_removal(self, package: str) -> None:
-        """Checks that dpkg removes everything that it installed below a root."""
-        root = os.path.join(self.folder, "below")
+    def test_removal(self) -> None:
+        """dpkg removes everything that it installed below a root."""
+        root, tools = os.path.join(self.folder, "below"), os.path.join(self.folder, "tools")
         base = os.path.join(root, "var", "lib", "dpkg")
-        for name in ("info", "updates", "triggers"):
-            os.makedirs(os.path.join(base, name))
+        for folder in (tools, *(os.path.join(base, name) for name in ("info", "updates", "triggers"))):
+            os.makedirs(folder)
         for name in ("status", "available"):
             with open(os.path.join(base, name), "w"):
                 pass
-        words = [
-            "dpkg",
-            f"--root={root}",
-            f"--log={self.folder}/log",
-            "--force-not-root",
-            "--force-depends",
-            "--force-bad-path",
-        ]
-        environment = {**os.environ, "PATH": f"{os.environ['PATH']}:/usr/sbin:/sbin"}
-        environment.pop("PYTHONPYCACHEPREFIX", None)  # what Python compiles has to be taken away too
-        for more in (["--install", package], ["--purge", tree.NAME]):
-            ran = subprocess.run([*words, *more], capture_output=True, text=True, env=environment, timeout=SECONDS)
+        # The package's scripts run outside the root: none of their programs but these may be found.
+        for name in ("dpkg-deb", "dpkg-split", "ldconfig", "rm", "sh", "start-stop-daemon", "tar"):
+            os.symlink(str(shutil.which(name, path="/usr/sbin:/usr/bin:/sbin:/bin")), os.path.join(tools, name))
+        for name in ("py3clean", "py3compile"):
+            os.symlink("/bin/true", os.path.join(tools, name))
+        dpkg = [str(shutil.which("dpkg")), f"--root={root}", f"--log={self.folder}/log"]
+        dpkg += [f"--force-{name}" for name in ("not-root", "depends", "bad-path", "script-chrootless")]
+        for more in (["--install", self.package], ["--purge", tree.NAME]):
+            ran = subprocess.run([*dpkg, *more], capture_output=True, text=True, env={"PATH": tools}, timeout=SECONDS)
             self.assertEqual(ran.returncode, 0, ran.stderr)
             self.assertEqual(os.path.exists(os.path.join(root, "usr", "bin", "cdma-scan")), more[0] == "--install")
         self.assertFalse(os.path.exists(os.path.join(root, "usr")))
+
+
+@unittest.skipUnless(PROGRAM, NO_PROGRAM)
+class OfTheProgram(Installed):
+    """An installation of the built program below a prefix."""
 
     def test_a_prefix(self) -> None:
         prefix = os.path.join(self.folder, "prefix")
@@ -352,7 +391,20 @@ class Parts(Installed):
         self.assertEqual((ran.returncode, ran.stderr), (2, b"bad words\n"))
 
     def test_the_copyright_file_says_that_no_licence_is_chosen(self) -> None:
-        self.assertIn("No licence has been chosen yet.", debian.COPYRIGHT)
+        with open(os.path.join(ROOT, "debian", "copyright"), encoding="utf-8") as file:
+            self.assertIn("No licence has been chosen yet.", file.read())
+
+    def test_a_build_that_fails(self) -> None:
+        """The reason is one line: the packages that are missing, the first error, or the last line."""
+        for told, why in (
+            (f"a; {debian.UNMET}debhelper-compat (= 13) dh-python", "control asks for: debhelper-compat .*python$"),
+            ("dh_install: error: missing files; make: Error 2", "^sh ended with 3: dh_install: error: missing files$"),
+            ("first; last", "^sh ended with 3: last$"),
+        ):
+            with self.subTest(told), self.assertRaisesRegex(Refused, why):
+                debian.run(["sh", "-c", f"echo '{told}' | sed 's/; /\\n/g' >&2; exit 3"], self.folder)
+        with self.assertRaisesRegex(Refused, "^none: No such file or directory: install the packages dpkg-dev"):
+            debian.run(["none"], self.folder)
 
     def test_each_command_of_the_checkout_is_installed(self) -> None:
         modules = {

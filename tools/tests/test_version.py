@@ -32,9 +32,10 @@ class OneVersion(unittest.TestCase):
         """Its files have the day's time, at midnight in UTC, which is never in the future, and its changelog the same day."""
         day = datetime.date.fromisoformat(RELEASED)
         self.assertEqual(debian.SECONDS, (day - datetime.date(1970, 1, 1)).days * 86_400)
-        self.assertEqual(email.utils.parsedate_to_datetime(debian.DATE).timestamp(), debian.SECONDS)
-        self.assertTrue(debian.CHANGELOG.startswith(f"cdma-replay ({__version__}) "))
-        self.assertIn(f"\nVersion: {__version__}\n", debian.CONTROL)
+        changelog = text_of("debian/changelog")
+        self.assertTrue(changelog.startswith(f"cdma-replay ({__version__}) "))
+        dates = re.findall(r"(?m)^ -- [^<>]+ <[^<>]+>  (.*)$", changelog)
+        self.assertEqual(email.utils.parsedate_to_datetime(dates[0]).timestamp(), debian.SECONDS)
         self.assertIn(f"_{__version__}_", debian.FILE)
 
     def test_the_tools(self) -> None:
