@@ -9,12 +9,12 @@ with at most two jobs, in crates/NAME/out/NAME, a library by `rt lib`. What `rt`
     tools/build mobile_core --jobs 2 --memory 8
 
 A line says when a crate begins and when it is built, with the time since the start. The output of `rt` for a crate is
-in crates/NAME/out/build.log. All runs but one at a time work in copies of the crates, in a temporary folder (TMPDIR),
+in crates/NAME/out/build.log. At any time all runs but one work in copies of the crates, in a temporary folder (TMPDIR),
 which is removed at the end.
 
 A crate is planned with 1 GB, 1 MB for each line of its .rt files, 0.2 MB for each line of .antt, and 0.08 MB for each
-line of .rt of the crates below it. Each job but the first takes 0.6 of that more. A crate that is planned with more
-than there is is built with no other.
+line of .rt of the crates below it. Each job but the first takes 0.6 of that more. A crate whose plan exceeds the
+memory is built by itself.
 
 Exit status: 0 all is built, 1 a crate isn't, and those under way are ended, 2 if the arguments are wrong, rt is not
 on the path, or the folder is not a checkout.

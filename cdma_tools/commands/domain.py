@@ -6,9 +6,9 @@ FILE_OR_RECORDING is a sample file, or a recording of a radio: a .sigmf-meta, .s
 The first line has figures of the whole; "recording" and "file" mark those of only one kind of input:
 
     rho              share of all power in the rows in use, without the interference of the pulse's own sides, at most
-                     1; over several paths, the share that would go without the cell: 1 - left / all
+                     1; over several paths, the share that would be missing without the cell: 1 - left / all
     rho_spread       standard deviation of rho, from parts of the chips
-    rho_by           moments of the chips, or paths: of the pilot over several paths too, also if they have one peak
+    rho_by           moments (of the chips), or paths if the pilot comes over several, even if these have one peak
     pilot_share      share of all power in the pilot, on the strongest path
     pilot_only_rho   if only a pilot is sent: the standard's waveform quality of it
     error_vector     root mean square of the error relative to what is sent: sqrt((1 - rho) / rho)
@@ -18,7 +18,7 @@ The first line has figures of the whole; "recording" and "file" mark those of on
     chips, seconds   amount measured
     carrier_hz       recording: carrier above the middle, half way, in Hz
     clock_ppm        recording: slowness of the radio's clock relative to the base station's, in millionths
-    time_chips       recording: begin of the period of the code nearest to its middle, in chips of 1 / 1,228,800 s by
+    time_chips       recording: start of the period of the code nearest to its middle, in chips of 1 / 1,228,800 s by
                      the radio's clock
     paths            recording: delays in chips, each with its level in dB below the strongest
     carrier_left     file: carrier that is left in it, in Hz

@@ -26,7 +26,7 @@ times are in UTC from the first sync message on; before it they count from 1970.
 Each line is read and written by itself, as it comes. A text that the program can't have written is an error: its line
 number is reported, and what was written before it remains.
 
-Exit status: 0 all lines were turned, 1 a line is wrong or can't be read or written, 2 wrong arguments.
+Exit status: 0 all lines were converted, 1 a line is wrong or can't be read or written, 2 wrong arguments.
 """
 
 import argparse
@@ -88,7 +88,7 @@ def parser() -> argparse.ArgumentParser:
         nargs="?",
         default="-",
         metavar="LINES",
-        help="lines to turn, - for standard input (default)",
+        help="lines to convert, - for standard input (default)",
     )
     form = words.add_mutually_exclusive_group()
     form.add_argument("--back", action="store_true", help="turn JSON into lines")

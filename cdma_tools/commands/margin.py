@@ -82,7 +82,7 @@ def parser() -> argparse.ArgumentParser:
     file = "report which frames of this sample file are covered instead"
     arguments.add_argument("--file", type=InputFile, metavar="FILE", help=file)
     arguments.add_argument("--json", action="store_true", help="an object for each row, a line each, not the table")
-    span = f"samples that the search takes, default {DEFAULT_SPAN:,}"
+    span = f"first samples, which the search takes, default {DEFAULT_SPAN:,}"
     arguments.add_argument("--span", type=SPAN, default=DEFAULT_SPAN, metavar="N", help=span)
     return arguments
 

@@ -94,10 +94,10 @@ def add_link_options(words: argparse.ArgumentParser) -> None:
         "--rate", type=rate_of, default=rate_of("2400000"), metavar="N", help="samples per second (default 2,400,000)"
     )
     for name, unit, reader, what in (
-        ("carrier", "HZ", hertz_of, "by which the carrier lies above the middle"),
-        ("drift", "HZ", number_within(-1e6, 1e6), "by which it rises in a second"),
-        ("clock", "PPM", number_within(-10_000, 10_000), "millionths by which the radio's clock is slow"),
-        ("clock-drift", "PPM", number_within(-100, 100), "by which that rises in a second"),
+        ("carrier", "HZ", hertz_of, "offset of the carrier from the middle"),
+        ("drift", "HZ", number_within(-1e6, 1e6), "rise of the carrier in a second"),
+        ("clock", "PPM", number_within(-10_000, 10_000), "slowness of the radio's clock, in millionths"),
+        ("clock-drift", "PPM", number_within(-100, 100), "rise of the slowness in a second"),
         ("dc", "PART", number_within(-1_000, 1_000), "an offset of both branches, as a part of the root mean square"),
     ):
         radio.add_argument(f"--{name}", type=reader, default=0.0, metavar=unit, help=f"{what} (default 0)")
