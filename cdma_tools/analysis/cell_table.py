@@ -118,7 +118,7 @@ def facts_of(heard: Sequence[HeardAlone], recorded: Recording) -> list[CellFacts
     """The table of cells, strongest first.
 
     The strongest one's Ec/Io is that of its lock. The others' pilots are measured without the stronger ones, whose
-    codes have a per cent in common with theirs, and stand against the power that was received.
+    codes correlate with theirs by about a per cent, and are compared with the power that was received.
     """
     if not heard:
         return []

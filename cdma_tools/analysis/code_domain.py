@@ -4,7 +4,7 @@ Formulas, for chips x and the rows y_r of their blocks (`walsh`): u is the pilot
 smoothed over some milliseconds, and a mean is taken over the blocks.
 
 - The power of a row is P_r = 2 mean(Re(y_r / u)^2 - Im(y_r / u)^2). Noise and other cells have both parts alike, so
-  none of it is left. The pilot's is P_0 = 2 mean(Re(y_0(b) conj y_0(b + 1))), whose two noises have nothing in common.
+  none of it is left. The pilot's is P_0 = 2 mean(Re(y_0(b) conj y_0(b + 1))), whose two noises are independent.
 - The noise of a row is N = 2 mean(Im(y_r / u)^2) over all rows but the pilot's: it spreads P_r by 2 N / sqrt(blocks).
 - The share of a row is P_r / (k I - q S), where I is the mean of |x|^2, S the sum of P_r over the rows in use, and q
   the power of the pulse's sides (`pulse`), which the transmitter doesn't send as an error. The factor k is the part of

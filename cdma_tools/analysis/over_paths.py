@@ -13,10 +13,10 @@ It gives two powers of the pilot:
 A cell's rows come over the same paths, so its power is the pilot's times the sum of all rows' powers over the pilot's,
 which the code domain gives (`code_domain`). Symbols aren't decided, so none follow the noise.
 
-What a row shows at a delay also contains what its chips have in common with themselves at the other paths' delays: it
-is A h, A being the matrix of the row's own conj rho(t - t'). So A of the pilot is removed from its sums, and each row's
-power is divided by what A makes of it at delay 0. In the chips, the terms with k or k' of 0 are what the rows show
-there as they are measured, with what symbols have in common by chance; the others are computed.
+What a row shows at a delay also contains the autocorrelation of its chips at the other paths' delays: it is A h, with
+the matrix A of the row's own conj rho(t - t'). So A of the pilot is removed from its sums, and each row's power is
+divided by what A makes of it at delay 0. In the chips, the terms with k or k' of 0 are what the rows show there as they
+are measured, with the chance correlation of symbols; the others are computed.
 """
 
 import functools

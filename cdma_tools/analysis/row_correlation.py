@@ -3,7 +3,7 @@
 Chips of a code of a finite period aren't independent: over a period the products c(n) conj c(n + m) W_r(n) W_r(n + m)
 of a row's chips within one symbol, where its sign is in both, add up to 2 N rho_r(m). These are 0.004 of what one chip
 has for the pilot, and up to 0.013 for other rows. They are the same in every period, so a longer recording doesn't
-lessen them. Chips of two symbols, and of two rows, have independent signs, and nothing in common on average.
+lessen them. Chips of two symbols, and of two rows, have independent signs and are uncorrelated.
 """
 
 import functools

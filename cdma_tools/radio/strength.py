@@ -70,7 +70,7 @@ class PilotMeter:
         self.correlate(chips[:CORRELATED])
 
     def correlate(self, chips: NDArray[numpy.complex64]) -> None:
-        """Takes note of what chips have in common with those some chips later."""
+        """Adds the correlation of chips with those 1 to LAGS chips later."""
         count = len(chips) - LAGS
         if count > 0:
             here = chips[:count]
