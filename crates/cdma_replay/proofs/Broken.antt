@@ -3,26 +3,26 @@ use Rattle.cdma_replay.proofs.Common.{◌≡◌, ℕ, ◌+◌, ◌*◌, ◌<◌,
 use Rattle.cdma_replay.proofs.Common.{length-append, None, Some, Ok, flat_map-append, flat_map, Sample, Header, HasBits, IsLawfulHeader}
 use Rattle.cdma_replay.proofs.Common.{header_spelling, opening, sample_len, sample_spelling, width_of, All-append, length-header_spelling}
 use Rattle.cdma_replay.proofs.Common.{length-samples, KeptTap, front_begins, HasWritten, HearsFirst, WritesAll, WritesFirst, Listening}
-use Rattle.cdma_replay.proofs.Common.{Listens, ListenerTells, listening, Listener, Reception, no_fewer, lost, same_header}
+use Rattle.cdma_replay.proofs.Common.{Listens, ListenerTells, listening, Listener, Job, no_fewer, lost, same_header}
 use Rattle.cdma_replay.proofs.Hearings.{more_after}
 use Rattle.cdma_replay.proofs.Lines.{HasBegun, writes_whole}
 
 -- the first samples were read and told of, and those after them so far as they were heard
-pub has_written : {taps : List KeptTap} {r : Reception} {header : Header} {samples : List Sample}
+pub has_written : {taps : List KeptTap} {job : Job} {header : Header} {samples : List Sample}
     {one other : Listener} {kept following : List KeptTap} {counted : ℕ → Type 0} {most : ℕ}
     (bytes more : List ℕ) (left : Option (List ℕ)) {old between later new : Option (List ℕ)}
     (number : ℕ → Type 0) →
-    HasBegun taps r header samples one kept (Some bytes) (Some more) old between →
+    HasBegun taps job header samples one kept (Some bytes) (Some more) old between →
     ((l : Listening) (heard : List Sample) → Listens l one kept heard →
     ListenerTells l other following heard (heard ++ samples) between later) →
-    (heard : HearsFirst (listening taps r.purpose header samples) (width_of header) counted most
+    (heard : HearsFirst (listening taps job header samples) (width_of header) counted most
     samples (Some more) left later new) →
     number (length (samples ++ heard.samples)) → length (samples ++ heard.samples) ≤ header.count →
-    HasWritten taps r header bytes number old new
-has_written {taps} {r} {header} {samples} bytes more None number begun tells heard fits most =
+    HasWritten taps job header bytes number old new
+has_written {taps} {job} {header} {samples} bytes more None number begun tells heard fits most =
     absurd heard.consumed
-has_written {taps} {r} {header} {samples} bytes more (Some after) number begun tells heard fits most =
-    let first = tells (listening taps r.purpose header samples) [] begun.listens in
+has_written {taps} {job} {header} {samples} bytes more (Some after) number begun tells heard fits most =
+    let first = tells (listening taps job header samples) [] begun.listens in
     let front = header_spelling header in
     let spelled = flat_map (sample_spelling (width_of header)) in
     let others = heard.samples in
@@ -49,29 +49,29 @@ has_written {taps} {r} {header} {samples} bytes more (Some after) number begun t
     }
 
 -- where a file breaks off, or a read fails, fewer samples are missing than are read at once
-pub writes_first : {taps : List KeptTap} {r : Reception} {header : Header} {samples : List Sample}
+pub writes_first : {taps : List KeptTap} {job : Job} {header : Header} {samples : List Sample}
     {count : ℕ} {one other : Listener} {kept following : List KeptTap}
     (rest mid left old : Option (List ℕ)) {between later : Option (List ℕ)} (new : Option (List ℕ)) →
-    IsLawfulHeader header → count + r.span ≡ header.count →
-    HasBegun taps r header samples one kept rest mid old between →
+    IsLawfulHeader header → count + span_of job ≡ header.count →
+    HasBegun taps job header samples one kept rest mid old between →
     ((l : Listening) (heard : List Sample) → Listens l one kept heard →
     ListenerTells l other following heard (heard ++ samples) between later) →
     ((l : Listening) (heard : List Sample) → Listens l other following heard →
     HearsFirst l (width_of header) (λ k. k ≤ count) (sample_len (width_of header) * 4096) heard mid left
     later new) →
-    WritesFirst taps r rest left old new
+    WritesFirst taps job rest left old new
 writes_first None mid left old new lawful counts begun tells hears = tt
 writes_first (Some bytes) None left old new lawful counts begun tells hears = absurd begun.consumed
-writes_first {taps} {r} {header} {samples} (Some bytes) (Some more) None old new lawful counts begun
+writes_first {taps} {job} {header} {samples} (Some bytes) (Some more) None old new lawful counts begun
     tells hears =
-    let l = listening taps r.purpose header samples in
+    let l = listening taps job header samples in
     absurd (hears l samples (tells l [] begun.listens).listens).consumed
-writes_first {taps} {r} {header} {samples} {count} (Some bytes) (Some more) (Some after) old {between}
+writes_first {taps} {job} {header} {samples} {count} (Some bytes) (Some more) (Some after) old {between}
     {later} new lawful counts begun tells hears =
     λ (also : Header) (taken : List ℕ) (n : ℕ) (opened : opening bytes ≡ Ok also)
     (consumed : bytes ≡ taken ++ after)
-    (long : 16 + sample_len (width_of also) * n ≤ length taken) (enough : r.span ≤ n) (some : 0 < n).
-    let l = listening taps r.purpose header samples in
+    (long : 16 + sample_len (width_of also) * n ≤ length taken) (enough : span_of job ≤ n) (some : 0 < n).
+    let l = listening taps job header samples in
     let heard = hears l samples (tells l [] begun.listens).listens in
     let width = width_of header in
     let spelled = flat_map (sample_spelling width) in
@@ -101,7 +101,7 @@ writes_first {taps} {r} {header} {samples} {count} (Some bytes) (Some more) (Som
     sample_len width * (length samples + length others + 4096) =
     omega (arith, long, taken_is, heard.few) in
     subst
-    (λ (h : Header). HasWritten taps r h bytes
+    (λ (h : Header). HasWritten taps job h bytes
     (λ k. (n ≤ k + 4096) × (16 + sample_len (width_of h) * k ≤ length taken)) old new)
     same
     (has_written bytes more (Some after)
@@ -116,26 +116,26 @@ writes_first {taps} {r} {header} {samples} {count} (Some bytes) (Some more) (Som
     (omega (arith, length-append samples others, begun.counted, fewer, counts)))
 
 -- where a file goes on after its samples, all of them were told of
-pub writes_all : {taps : List KeptTap} {r : Reception} {header : Header} {samples : List Sample}
+pub writes_all : {taps : List KeptTap} {job : Job} {header : Header} {samples : List Sample}
     {count : ℕ} {one other : Listener} {kept following : List KeptTap} {most : ℕ}
     (rest mid left old : Option (List ℕ)) {between later : Option (List ℕ)} (new : Option (List ℕ)) →
-    IsLawfulHeader header → count + r.span ≡ header.count →
-    HasBegun taps r header samples one kept rest mid old between →
+    IsLawfulHeader header → count + span_of job ≡ header.count →
+    HasBegun taps job header samples one kept rest mid old between →
     ((l : Listening) (heard : List Sample) → Listens l one kept heard →
     ListenerTells l other following heard (heard ++ samples) between later) →
     ((l : Listening) (heard : List Sample) → Listens l other following heard →
     HearsFirst l (width_of header) (λ k. k ≡ count) most heard mid left later new) →
-    WritesAll taps r rest old new
+    WritesAll taps job rest old new
 writes_all None mid left old new lawful counted begun tells hears = tt
 writes_all (Some bytes) None left old new lawful counted begun tells hears = absurd begun.consumed
-writes_all {taps} {r} {header} {samples} (Some bytes) (Some more) left old {between} {later} new
+writes_all {taps} {job} {header} {samples} (Some bytes) (Some more) left old {between} {later} new
     lawful counted begun tells hears =
     λ (also : Header) (opened : opening bytes ≡ Ok also).
-    let l = listening taps r.purpose header samples in
+    let l = listening taps job header samples in
     let heard = hears l samples (tells l [] begun.listens).listens in
     let same = same_header bytes more header also samples lawful begun.consumed opened in
     let all : length (samples ++ heard.samples) ≡ header.count =
     omega (arith, length-append samples heard.samples, heard.number, begun.counted, counted) in
-    subst (λ (h : Header). HasWritten taps r h bytes (λ k. k ≡ h.count) old new) same
+    subst (λ (h : Header). HasWritten taps job h bytes (λ k. k ≡ h.count) old new) same
     (has_written bytes more left (λ (k : ℕ). k ≡ header.count) begun tells heard all
     (omega (arith, all)))

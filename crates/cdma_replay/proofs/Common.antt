@@ -17,6 +17,8 @@ pub use Rattle.chip_core.specs.declared.width.Width.TheVariants.{Sixteen}
 pub use Rattle.clean_link.proofs.Common.{All-append, filter-append, is_frame, is_page, is_sync, places-more, sample_with, samples_of}
 unfoldable pub use Rattle.clean_link.proofs.Common.{heard_within, made_samples}
 pub use Rattle.command_line.specs.Args.{IsLawfulTraffic}
+pub use Rattle.command_line.specs.declared.job.Job.{Job}
+pub use Rattle.command_line.specs.declared.job.Job.TheVariants.{Make, Trial}
 pub use Rattle.event_tap.proofs.Prefixes.{begins_more, front_begins, on_err, on_ok, prefix_after, prefix_before, prefix_of, taken_begins}
 pub use Rattle.event_tap.proofs.Runs.{run_taps-append, run_taps-more, run_text-append, run_text-more, run_text-none}
 unfoldable pub use Rattle.event_tap.specs.EventLines.{event_line}
@@ -33,19 +35,21 @@ pub use Rattle.mobile_core.specs.AfterMark.{IsSoundAssignment}
 pub use Rattle.mobile_core.specs.Standing.{IsStep, StandsFor, Steps, events_left, has_room, steps_left}
 pub use Rattle.mobile_core.specs.declared.mobile.Step.{Step}
 pub use Rattle.owed_replies.proofs.Bounds.{none_most, opening_most, passed_most, piece_most, rest_most, span_most, unread_most}
-pub use Rattle.owed_replies.proofs.Common.{All, Consumes, IsAtEnd, IsOfFiles, IsPurposeEnd, IsTaskEnd, Keeps, PassesSamples, Reading, ◌≢◌}
+pub use Rattle.owed_replies.proofs.Common.{All, Consumes, IsAtEnd, IsOfFiles, IsEndOf, Keeps, PassesSamples, Reading, ◌≢◌}
 pub use Rattle.owed_replies.proofs.Common.{WritesNoMore, WritesText, best_phase, energy, flat_map, header_spelling, length-header_spelling}
 pub use Rattle.owed_replies.proofs.Common.{length-made, length-samples, near_deltas, opening, sample_len-mono}
 unfoldable pub use Rattle.owed_replies.proofs.Common.{made_file, plan_named}
 pub use Rattle.owed_replies.proofs.CutFiles.{has_bytes, lost, no_fewer, no_long_cut, opening_few, same_header, span_few, unopened}
+pub use Rattle.owed_replies.proofs.Ends.{told_alike}
 pub use Rattle.owed_replies.proofs.Faults.{fault_of_count, fault_of_opening, fault_of_rest, fault_of_span, rest_cut_fault, rest_extra_fault}
 pub use Rattle.owed_replies.proofs.Files.{blamed, ended_by, no_file, none_within, unsearchable, wrong_length}
 pub use Rattle.owed_replies.proofs.Runs.{by_vtable, four_forms, line_told, passed_run, rose_before, run_passed, run_with}
 pub use Rattle.owed_replies.proofs.Stopped.{lost_not_bad, lost_not_misread, stopped_file, unread_file}
-pub use Rattle.owed_replies.proofs.TaskRuns.{file_run, made_run, trial_run, with_taps}
+pub use Rattle.owed_replies.proofs.JobRuns.{file_run, made_run, trial_run, with_taps}
 pub use Rattle.owed_replies.specs.Broken.{HasWritten, HearsFirst, IsCut, IsLong, WritesAll, WritesFirst}
-pub use Rattle.owed_replies.specs.Hearing.{AreNearTo, AreReady, ByFrames, ByTaps, GainsPrefix, GainsText, Listening, LosesSamples, Nobody}
-pub use Rattle.owed_replies.specs.Hearing.{end_when, first_text, is_told, listening, tuning_for}
+pub use Rattle.owed_replies.specs.Findings.{findings_text}
+pub use Rattle.owed_replies.specs.Hearing.{AreNearTo, AreReady, ByFrames, ByTaps, GainsPrefix, GainsText, Listening, LosesSamples}
+pub use Rattle.owed_replies.specs.Hearing.{Unheard, end_when, is_told, listening, span_of, tuning_for}
 unfoldable pub use Rattle.owed_replies.specs.Hearing.{best_pilot, file_end_of, file_text, told}
 pub use Rattle.owed_replies.specs.Make.{WritesNoMoreMade, piece_bytes, sample_bytes}
 unfoldable pub use Rattle.owed_replies.specs.Ranks.{ranks_text, survey_text}
@@ -54,9 +58,7 @@ pub use Rattle.owed_replies.specs.Trials.{LeavesRoom, count_of, counts_with, is_
 pub use Rattle.owed_replies.specs.Trials.{trial_span, trial_tuning}
 unfoldable pub use Rattle.owed_replies.specs.Trials.{counts_of, trial_line}
 pub use Rattle.owed_replies.specs.declared.counts.Counts.{Counts}
-pub use Rattle.owed_replies.specs.declared.purpose.Purpose.{Purpose}
-pub use Rattle.owed_replies.specs.declared.purpose.Purpose.TheVariants.{Find, Survey}
-pub use Rattle.owed_replies.specs.declared.reception.Reception.{Reception}
+pub use Rattle.owed_replies.specs.declared.findings.Findings.{Findings}
 pub use Rattle.owed_replies.specs.declared.status.Status.{Status}
 pub use Rattle.pilot_search.proofs.BestPhase.{best_energy-only, best_phase-only}
 pub use Rattle.pilot_search.proofs.Common.{Bool, IsBestIn, List, [], ap, arith, drop, false, inl, inr, length, map, of_sample, pos, refl, ℕ}
@@ -74,7 +76,7 @@ pub use Rattle.tuned_listener.proofs.TunedTexts.{text_of_nothing}
 pub use Rattle.tuned_listener.specs.TunedListening.{ListensTuned, TellsTuned, TellsTunedPart, tuned_room}
 pub use Rattle.tuned_listener.specs.declared.tuned.TunedListener.{TunedListener}
 pub use Rattle.cdma_replay.specs.Common.{AppendsPrefix, ConsumesAtMost, Event, FileFault, HasBits, IsEnd, IsFaultIn, IsLawfulHeader, Mobile}
-pub use Rattle.cdma_replay.specs.Common.{IsRestFault, Sample, TakesSpan, events, rank_line, sample_len, sample_spelling, width_of}
+pub use Rattle.cdma_replay.specs.Common.{IsRestFault, Sample, TakesSpan, events, sample_len, sample_spelling, width_of}
 pub use Rattle.cdma_replay.specs.Listeners.{BeginsAfter, HandsetGave, HasRoom, HasRoomFor, HasTold, HearsRest, IsBest, IsFreshListener}
 pub use Rattle.cdma_replay.specs.Listeners.{ListenerTells, Listens}
 pub use Rattle.cdma_replay.specs.declared.listener.Listener.{Listener}

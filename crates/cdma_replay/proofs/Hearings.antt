@@ -10,9 +10,10 @@ use Rattle.cdma_replay.proofs.Common.{taps_after, run_taps-append, run_taps-more
 use Rattle.cdma_replay.proofs.Common.{begins_more, front_begins, prefix_before, prefix_after, taken_begins, ListensTuned, TellsTunedPart}
 use Rattle.cdma_replay.proofs.Common.{tuned_room, stands_near, text_of_nothing, TunedListener, TunedText, events_sooner, IsBestIn, Near}
 use Rattle.cdma_replay.proofs.Common.{near_deltas, Best, best_energy-only, best_phase-only, Settings, AreNearTo, AreReady, BeginsAfter, Box}
-use Rattle.cdma_replay.proofs.Common.{ByFrames, ByTaps, HasRoom, HasRoomFor, HasTold, IsFreshListener, Listening, Listens, Nobody, IfOk}
-use Rattle.cdma_replay.proofs.Common.{HandsetGave, ListenerTells, GainsText, Rank, event_line, ranks_text, GainsPrefix, told, tuning_for}
+use Rattle.cdma_replay.proofs.Common.{ByFrames, ByTaps, HasRoom, HasRoomFor, HasTold, IsFreshListener, Listening, Listens, IfOk}
+use Rattle.cdma_replay.proofs.Common.{HandsetGave, ListenerTells, GainsText, GainsPrefix, told, tuning_for}
 use Rattle.cdma_replay.proofs.Common.{Listener, heard_none, Global, take-append-drop, best_phase, energy as energy_at}
+use Rattle.cdma_replay.proofs.Common.{Findings, Unheard, findings_text, take-add}
 use Rattle.cdma_replay.specs.declared.listener.Listener.TheVariants as by
 
 -- ---- samples that follow one another
@@ -20,15 +21,6 @@ use Rattle.cdma_replay.specs.declared.listener.Listener.TheVariants as by
 nil_taken : {X : Type 0} (n : ℕ) → take n (let none : List X = [] in none) ≡ []
 nil_taken zero = refl
 nil_taken (suc n) = refl
-
--- two pieces that follow one another
-pub taken_joined : {X : Type 0} (i n : ℕ) (xs : List X) →
-    take i xs ++ take n (drop i xs) ≡ take (i + n) xs
-taken_joined zero n xs = ap (λ (k : ℕ). take k xs) (omega arith)
-taken_joined (suc i) n [] = nil_taken n ∙ sym (nil_taken (suc i + n))
-taken_joined (suc i) n (x ∷ xs) =
-    let next : suc (i + n) ≡ suc i + n = omega arith in
-    ap (λ (ys : List _). x ∷ ys) (taken_joined i n xs) ∙ ap (λ (k : ℕ). take k (x ∷ xs)) next
 
 -- numbers below one, and those after them
 places_parted : (a b : ℕ) → places (a + b) ≡ places a ++ range_with_len a b
@@ -58,7 +50,7 @@ pub taken_more : (heard samples : List Sample) (taken n : ℕ) →
     (heard ++ take taken samples) ++ take n (drop taken samples) ≡ heard ++ take (taken + n) samples
 taken_more heard samples taken n =
     append_assoc heard (take taken samples) (take n (drop taken samples)) ∙
-    ap (λ (xs : List Sample). heard ++ xs) (taken_joined taken n samples)
+    ap (λ (xs : List Sample). heard ++ xs) (sym (take-add taken n samples))
 
 -- a step after them that gave this event, or none
 pub step_stands : {one other : Mobile} {step : Step} (t : Tuning) (heard samples : List Sample)
@@ -357,24 +349,19 @@ all_part {l} {before} {heard} more = record {
 -- ---- nobody, and a handset
 
 -- what holds where nobody hears
-pub on_pilot : (P : Listening → Type 0) (l : Listening) (best : Best) (kept : List KeptTap)
-    (heard : List Sample) → Listens l (by.Pilot best) kept heard → P Nobody → P l
-on_pilot P Nobody best kept heard listens holds = holds
-on_pilot P l best kept heard listens holds = absurd listens
+pub on_unheard : (P : Listening → Type 0) (l : Listening) (findings : Findings)
+    (kept : List KeptTap) (heard : List Sample) → Listens l (by.Unheard findings) kept heard →
+    ((text : List ℕ) → P (Unheard text)) → P l
+on_unheard P (Unheard text) findings kept heard listens holds = holds text
+on_unheard P l findings kept heard listens holds = absurd listens
 
-pub on_ranks : (P : Listening → Type 0) (l : Listening) (ranks : List Rank) (top : ℕ)
-    (kept : List KeptTap) (heard : List Sample) → Listens l (by.Ranks ranks top) kept heard →
-    P Nobody → P l
-on_ranks P Nobody ranks top kept heard listens holds = holds
-on_ranks P l ranks top kept heard listens holds = absurd listens
-
-pub tells_nobody : (listener : Listener) (kept : List KeptTap) (before heard : List Sample)
-    (old : Option (List ℕ)) → Listens Nobody listener kept heard →
-    ListenerTells Nobody listener kept before heard old old
+pub tells_nobody : (text : List ℕ) (findings : Findings) (kept : List KeptTap)
+    (before heard : List Sample) (old : Option (List ℕ)) →
+    ListenerTells (Unheard text) (by.Unheard findings) kept before heard old old
 unfolding told
-tells_nobody listener kept before heard old listens = record {
-  more = record { text = []; written = Appends-nil old; all = refl };
-  listens = listens;
+tells_nobody text findings kept before heard old = record {
+  more = record { text = []; written = Appends-nil old; all = append-nil text };
+  listens = tt;
 }
 
 -- what holds where taps hear a handset
@@ -411,42 +398,45 @@ tuned_part part = record { text = part.text; written = part.written; begins = pa
 
 -- ---- before any sample
 
--- what holds where the pilot that was found is told
-pub on_fresh_pilot : (P : List ℕ → Listening → Type 0) (text : List ℕ) (l : Listening)
-    (best : Best) (kept : List KeptTap) → IsFreshListener text l (by.Pilot best) kept →
-    P (event_line (Pilot best.phase best.energy)) Nobody → P text l
-on_fresh_pilot P text Nobody best kept fresh holds = subst (λ (xs : List ℕ). P xs Nobody) (sym fresh) holds
-on_fresh_pilot P text l best kept fresh holds = absurd fresh
+-- what holds where nobody hears, and the text of what was found is all
+pub on_fresh_unheard : (P : Listening → Type 0) (l : Listening) (findings : Findings)
+    (kept : List KeptTap) → IsFreshListener l (by.Unheard findings) kept →
+    P (Unheard (findings_text findings)) → P l
+on_fresh_unheard P (Unheard text) findings kept fresh holds =
+    subst (λ (xs : List ℕ). P (Unheard xs)) (sym fresh) holds
+on_fresh_unheard P l findings kept fresh holds = absurd fresh
 
--- where the ranks are
-pub on_fresh_ranks : (P : List ℕ → Listening → Type 0) (text : List ℕ) (l : Listening)
-    (ranks : List Rank) (top : ℕ) (kept : List KeptTap) →
-    IsFreshListener text l (by.Ranks ranks top) kept → P (ranks_text (take top ranks)) Nobody → P text l
-on_fresh_ranks P text Nobody ranks top kept fresh holds = subst (λ (xs : List ℕ). P xs Nobody) (sym fresh) holds
-on_fresh_ranks P text l ranks top kept fresh holds = absurd fresh
+pub findings_begin : (findings : Findings) (kept : List KeptTap) (old new : Option (List ℕ)) →
+    Appends old new (findings_text findings) →
+    BeginsAfter (Unheard (findings_text findings)) (by.Unheard findings) kept old new
+unfolding told
+findings_begin findings kept old new written = record { written = written; listens = tt }
+
+pub findings_part : (findings : Findings) (samples : List Sample) (old new : Option (List ℕ)) →
+    AppendsPrefix old new (findings_text findings) →
+    AppendsPrefix old new (told (Unheard (findings_text findings)) samples)
+unfolding told
+findings_part findings samples old new part = part
 
 -- and where a handset has taken nothing
-pub on_fresh : (P : List ℕ → Listening → Type 0) (text : List ℕ) (l : Listening)
-    (mobile : Box Mobile Global) (kept : List KeptTap) →
-    IsFreshListener text l (by.Handset mobile) kept →
-    ((t : Tuning) → StandsFor t mobile.value [] [] → P [] (ByTaps t kept)) → P text l
-on_fresh P text (ByTaps t taps) mobile kept fresh holds =
-    subst (λ (xs : List ℕ). P xs (ByTaps t taps)) (sym fresh.0)
-    (subst (λ (ks : List KeptTap). P [] (ByTaps t ks)) fresh.2 (holds t fresh.1))
-on_fresh P text l mobile kept fresh holds = absurd fresh
+pub on_fresh : (P : Listening → Type 0) (l : Listening) (mobile : Box Mobile Global)
+    (kept : List KeptTap) → IsFreshListener l (by.Handset mobile) kept →
+    ((t : Tuning) → StandsFor t mobile.value [] [] → P (ByTaps t kept)) → P l
+on_fresh P (ByTaps t taps) mobile kept fresh holds =
+    subst (λ (ks : List KeptTap). P (ByTaps t ks)) fresh.1 (holds t fresh.0)
+on_fresh P l mobile kept fresh holds = absurd fresh
 
 -- who hears the frames of one channel tells nothing
-pub tuned_begins : (text : List ℕ) (l : Listening) (tuned : Box TunedListener Global)
-    (kept : List KeptTap) (old : Option (List ℕ)) →
-    IsFreshListener text l (by.Tuned tuned) kept → BeginsAfter text l (by.Tuned tuned) kept old old
+pub tuned_begins : (l : Listening) (tuned : Box TunedListener Global) (kept : List KeptTap)
+    (old : Option (List ℕ)) → IsFreshListener l (by.Tuned tuned) kept →
+    BeginsAfter l (by.Tuned tuned) kept old old
 unfolding told
-tuned_begins text (ByFrames t channel form) tuned kept old fresh = record {
-  written = subst (λ (xs : List ℕ). Appends old old (xs ++ told (ByFrames t channel form) []))
-      (sym fresh.0)
-      (subst (Appends old old) (sym (text_of_nothing t fresh.1.close form channel)) (Appends-nil old));
-  listens = fresh.1;
+tuned_begins (ByFrames t channel form) tuned kept old fresh = record {
+  written =
+      subst (Appends old old) (sym (text_of_nothing t fresh.close form channel)) (Appends-nil old);
+  listens = fresh;
 }
-tuned_begins text l tuned kept old fresh = absurd fresh
+tuned_begins l tuned kept old fresh = absurd fresh
 
 -- ---- a handset that has taken nothing
 
@@ -531,6 +521,5 @@ room_tuned listener tuned n is room = subst (λ (h : Listener). HasRoomFor h n) 
 
 pub room_for : (listener : Listener) (left n : ℕ) → HasRoom listener left → n ≤ left →
     HasRoomFor listener n
-room_for (by.Pilot best) left n room fits = tt
-room_for (by.Ranks ranks top) left n room fits = tt
+room_for (by.Unheard findings) left n room fits = tt
 room_for listener left n room fits = omega (arith, room, fits)

@@ -4,6 +4,5 @@ pub mod HeardRest
 pub mod Hearings
 pub mod Lines
 pub mod MadeFiles
-pub mod RankLines
 pub mod Refused
 mod Counting

@@ -1,18 +1,14 @@
 -- Lemmas on runs that move nothing: of arguments that name no job, or for want of memory.
 use Rattle.cdma_replay.proofs.Common.{◌≡◌, ℕ, List, [], Option, None, Result, Err, inl, refl, sym, ◌∙◌, arith, Appends-nil, Status}
-use Rattle.cdma_replay.proofs.Common.{unread_most, IsTaskEnd}
-use Rattle.cdma_replay.proofs.Lines.{purpose_starves}
-use Rattle.command_line.specs.declared.job.Job.{Job}
+use Rattle.cdma_replay.proofs.Common.{unread_most, IsEndOf, Job, Make, Trial}
 use Rattle.command_line.specs.declared.job.WordFault.{WordFault}
 use Rattle.owed_replies.specs.Runs.{RunsCommand}
-use Rattle.owed_replies.specs.Tasks.{task_of}
-use Rattle.owed_replies.specs.declared.task.Task.{Task}
-use Rattle.owed_replies.specs.declared.task.Task.TheVariants.{Receive}
 
--- each task may end for want of memory
-task_starves : (task : Task) → IsTaskEnd task Status.NoMemory
-task_starves (Receive r limits) = purpose_starves r.purpose
-task_starves task = tt
+-- each job may end for want of memory
+job_starves : (job : Job) → IsEndOf job Status.NoMemory
+job_starves (Make width) = tt
+job_starves (Trial number workers) = tt
+job_starves job = (tt, λ unheard is. absurd (cc))
 
 module _ {forms : List ℕ} {named : Option Job} {rest : Option (List ℕ)} {misread : ℕ}
     {SameSource : Type 0} {old : Option (List ℕ)} {miswritten : ℕ} {SameSink : Type 0} where
@@ -63,7 +59,7 @@ module _ {forms : List ℕ} {named : Option Job} {rest : Option (List ℕ)} {mis
     all_distinct = λ width script bytes held plan span workers fingers paging traffic limits header
         samples also told was file enough clean free follows reads writes. inl refl;
     complete = λ job also well writes. inl refl;
-    kind = λ job also. task_starves (task_of job);
+    kind = λ job also. job_starves job;
     verdict = λ job also told. absurd told;
     read_fault = λ is. absurd (cc);
     write_fault = λ job also is. absurd (cc);
@@ -73,7 +69,7 @@ module _ {forms : List ℕ} {named : Option Job} {rest : Option (List ℕ)} {mis
     at_end = λ job also reads end. absurd end;
     early = λ fault. absurd fault;
     header = λ fault is. absurd (cc);
-    bound = λ job also. unread_most (task_of job) rest;
+    bound = λ job also. unread_most job rest;
     written = λ job also. record { text = []; written = Appends-nil old; part = inl refl };
     cut = λ job also cut. absurd cut;
     long = λ job also long. absurd long;

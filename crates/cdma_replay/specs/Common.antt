@@ -2,7 +2,7 @@
 pub use Rattle.cdma_io.specs.Outside.{AppendsPrefix, ConsumesAtMost, CountsFaults, HasCause, Rose}
 pub use Rattle.cdma_io.specs.declared.file_fault.FileFault.{FileFault}
 pub use Rattle.chip_core.specs.declared.sample.Sample.{Sample}
-pub use Rattle.command_line.specs.Args.{IsFingers, IsWorkers, job_named}
+pub use Rattle.command_line.specs.Args.{IsFingers, IsLawfulJob, IsWorkers, job_named}
 pub use Rattle.event_tap.specs.Taps.{IsKept, KeptTap, run_taps, run_text}
 pub use Rattle.heard_events.specs.declared.event.Event.{Event}
 pub use Rattle.mobile_core.specs.declared.mobile.Mobile.{Mobile}
@@ -10,6 +10,4 @@ pub use Rattle.owed_replies.specs.Common.{HasBits, IsLawfulHeader, Tuning, event
 pub use Rattle.owed_replies.specs.Common.{sample_spelling, width_of}
 pub use Rattle.owed_replies.specs.Find.{IsEnd, IsFault, IsFaultIn, IsHeaderFault, IsRestFault}
 pub use Rattle.owed_replies.specs.Find.{IsSearchable, TakesNoMore, TakesSpan, ended}
-pub use Rattle.owed_replies.specs.Ranks.{rank_line, ranks_text}
-pub use Rattle.owed_replies.specs.TaskRuns.{MakesFile, ReceivesFile, RunsTask}
-pub use Rattle.owed_replies.specs.Tasks.{IsLawfulPurpose, IsLawfulTask, untapped}
+pub use Rattle.owed_replies.specs.JobRuns.{MakesFile, ReceivesFile, RunsJob}

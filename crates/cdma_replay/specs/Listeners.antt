@@ -1,44 +1,37 @@
 -- The listener of a file during a run: the samples taken, the text written so far, and what is
 -- left.
 use Rattle.cdma_replay.specs.Common.{Sample, HasBits, sample_spelling, events, Tuning, Event}
-use Rattle.cdma_replay.specs.Common.{Mobile, KeptTap, run_taps, run_text, ranks_text}
-use Rattle.std.specs.Prelude.{◌≡◌, ℕ, ◌≤◌, List, [], ◌++◌, length, take, All, Option}
+use Rattle.cdma_replay.specs.Common.{Mobile, KeptTap, run_taps, run_text}
+use Rattle.std.specs.Prelude.{◌≡◌, ℕ, ◌≤◌, List, [], ◌++◌, length, All, Option}
 use Rattle.std.specs.List.{flat_map}
 use Rattle.std.specs.Io.KnownBytes.{Appends, Consumes}
 use Rattle.chip_core.specs.declared.width.Width.{Width}
-use Rattle.cdma_io.specs.declared.header.Header.{Header}
 use Rattle.mobile_core.specs.Standing.{StandsFor, has_room}
-use Rattle.heard_events.specs.declared.event.Event.TheVariants.{Pilot}
 use Rattle.pilot_search.specs.BestIn.{IsBestIn}
 use Rattle.pilot_search.specs.declared.sweeping.Best.{Best}
-use Rattle.event_tap.specs.EventLines.{event_line}
 use Rattle.tuned_listener.specs.TunedListening.{ListensTuned, tuned_room}
 use Rattle.cdma_replay.specs.declared.listener.Listener.{Listener}
-use Rattle.owed_replies.specs.Hearing.{ByFrames, ByTaps, Listening, Nobody, GainsText, first_text}
-use Rattle.owed_replies.specs.Hearing.{listening, told}
-use Rattle.owed_replies.specs.declared.purpose.Purpose.{Purpose}
+use Rattle.owed_replies.specs.Findings.{AreWritable, findings_text}
+use Rattle.owed_replies.specs.Hearing.{ByFrames, ByTaps, Listening, Unheard, GainsText, told}
 use Rattle.cdma_replay.specs.declared.listener.Listener.TheVariants as by
 
 -- the phase of greatest energy of all
 abbrev pub IsBest : List Sample → Best → Type 0
 IsBest first best = IsBestIn first 0 32768 best.phase best.energy
 
--- there are as many ranks as are told
+-- what the first samples show can be written
 abbrev pub IsTellable : Listener → Type 0
-IsTellable (by.Ranks ranks top) = top ≤ 512
+IsTellable (by.Unheard findings) = AreWritable findings
 IsTellable listener = Unit {0}
 
--- it has taken no sample and told nothing, this text is that of the first samples, and these taps
--- are to hear it
-abbrev pub IsFreshListener : List ℕ → Listening → Listener → List KeptTap → Type 0
-IsFreshListener text Nobody (by.Pilot best) kept =
-    text ≡ event_line (Pilot best.phase best.energy)
-IsFreshListener text Nobody (by.Ranks ranks top) kept = text ≡ ranks_text (take top ranks)
-IsFreshListener text (ByTaps t taps) (by.Handset mobile) kept =
-    (text ≡ []) × StandsFor t mobile.value [] [] × (kept ≡ taps)
-IsFreshListener text (ByFrames t channel form) (by.Tuned tuned) kept =
-    (text ≡ []) × ListensTuned t channel form tuned.value []
-IsFreshListener text l listener kept = ⊥
+-- it has taken no sample and told nothing, and these taps are to hear it
+abbrev pub IsFreshListener : Listening → Listener → List KeptTap → Type 0
+IsFreshListener (Unheard text) (by.Unheard findings) kept = text ≡ findings_text findings
+IsFreshListener (ByTaps t taps) (by.Handset mobile) kept =
+    StandsFor t mobile.value [] [] × (kept ≡ taps)
+IsFreshListener (ByFrames t channel form) (by.Tuned tuned) kept =
+    ListensTuned t channel form tuned.value []
+IsFreshListener l listener kept = ⊥
 
 -- a handset has taken these samples and given all that is heard in them, and these taps are kept
 -- after that
@@ -48,8 +41,7 @@ HandsetGave t taps mobile kept heard =
 
 -- it has taken these samples and told all of them, and these taps are kept after them
 abbrev pub Listens : Listening → Listener → List KeptTap → List Sample → Type 0
-Listens Nobody (by.Pilot best) kept heard = Unit {0}
-Listens Nobody (by.Ranks ranks top) kept heard = Unit {0}
+Listens (Unheard text) (by.Unheard findings) kept heard = Unit {0}
 Listens (ByTaps t taps) (by.Handset mobile) kept heard = HandsetGave t taps mobile.value kept heard
 Listens (ByFrames t channel text) (by.Tuned tuned) kept heard =
     ListensTuned t channel text tuned.value heard
@@ -57,32 +49,28 @@ Listens l listener kept heard = ⊥
 
 -- it takes just so many samples more
 abbrev pub HasRoom : Listener → ℕ → Type 0
-HasRoom (by.Pilot best) count = Unit {0}
-HasRoom (by.Ranks ranks top) count = Unit {0}
+HasRoom (by.Unheard findings) count = Unit {0}
 HasRoom (by.Handset mobile) count = has_room mobile.value ≡ count
 HasRoom (by.Tuned tuned) count = tuned_room tuned.value ≡ count
 
 -- it takes so many samples more, or others too
 abbrev pub HasRoomFor : Listener → ℕ → Type 0
-HasRoomFor (by.Pilot best) count = Unit {0}
-HasRoomFor (by.Ranks ranks top) count = Unit {0}
+HasRoomFor (by.Unheard findings) count = Unit {0}
 HasRoomFor (by.Handset mobile) count = count ≤ has_room mobile.value
 HasRoomFor (by.Tuned tuned) count = count ≤ tuned_room tuned.value
 
--- a listener to a file of this header for a purpose, before any sample: its text of the first
--- samples is the purpose's, and so is who hears
-pub record IsListenerFor (purpose : Purpose) (header : Header) (first : List Sample)
-    (listener : Listener) : Type 0 where
-  pub fresh : (taps : List KeptTap) → IsFreshListener (first_text purpose first)
-      (listening taps purpose header first) listener taps
+-- a listener before any sample of a file that counts so many, for taps to hear as this says
+pub record IsListenerFor (who : List KeptTap → Listening) (count : ℕ) (listener : Listener) :
+    Type 0 where
+  pub fresh : (taps : List KeptTap) → IsFreshListener (who taps) listener taps
   pub tellable : IsTellable listener
-  pub room : HasRoom listener header.count
+  pub room : HasRoom listener count
 
--- it has taken no sample, and a sink got a text and what is told before any sample: the pilot,
--- where taps hear a handset
-pub record BeginsAfter (text : List ℕ) (l : Listening) (listener : Listener)
-    (kept : List KeptTap) (old new : Option (List ℕ)) : Type 0 where
-  pub written : Appends old new (text ++ told l [])
+-- it has taken no sample, and a sink got what is told before any: the text of the first samples, or
+-- the pilot, where taps hear a handset
+pub record BeginsAfter (l : Listening) (listener : Listener) (kept : List KeptTap)
+    (old new : Option (List ℕ)) : Type 0 where
+  pub written : Appends old new (told l [])
   pub listens : Listens l listener kept []
 
 -- a listener has taken these samples, and a sink got what is told of them beyond those before

@@ -8,28 +8,18 @@ ghost use Rattle.owed_replies.specs.Hearing.{ByTaps, GainsText, GainsPrefix, tol
 ghost use Rattle.cdma_replay.specs.Listeners.{HandsetGave};
 ghost use Rattle.cdma_replay.specs.Pilots.{TellsPilot};
 
-use crate::ranks::write_ranks;
 use cdma_io::{Failed, Sink};
 use chip_core::Sample;
-use event_tap::{KeepsTaps, write_event};
-use heard_events::hearing::pilot_event;
+use event_tap::KeepsTaps;
 use mobile_core::Mobile;
-use pilot_search::Best;
-use pilot_survey::Survey;
+use owed_replies::Findings;
 use tuned_listener::TunedListener;
 
 /// The listener that takes the samples of a file, with the results of its first samples.
 #[derive(Drop)]
 pub enum Listener {
-    /// No listener: only the pilot found in the first samples is written.
-    Pilot(Best),
-    /// No listener: only the strength of each pilot in the first samples is written.
-    Ranks {
-        /// The ranks of all 512 pilots, strongest first.
-        ranks: Survey,
-        /// How many of them are written.
-        top: u16,
-    },
+    /// No listener: only what the first samples show is written.
+    Unheard(Findings),
     /// A handset whose events the taps receive.
     Handset(Box<Mobile>),
     /// A listener that writes text for the frames of one channel.
@@ -57,18 +47,16 @@ impl Listener {
         requires kept { All IsKept (T.kept taps.old) }
         ensures room { (left : ℕ) → HasRoom self.old left → HasRoom self.new left }
         ensures kept { All IsKept (T.kept taps.new) }
-        ensures ok { OnOk result ((text : List ℕ) (l : Listening) →
-            IsFreshListener text l self.old (T.kept taps.old) →
-            BeginsAfter text l self.new (T.kept taps.new)
-            (K.written sink.old) (K.written sink.new)) }
-        ensures err { OnErr result ((text : List ℕ) (l : Listening) (samples : List TheSample) →
-            IsFreshListener text l self.old (T.kept taps.old) →
-            AppendsPrefix (K.written sink.old) (K.written sink.new) (text ++ told l samples)) }
+        ensures ok { OnOk result ((l : Listening) →
+            IsFreshListener l self.old (T.kept taps.old) →
+            BeginsAfter l self.new (T.kept taps.new) (K.written sink.old) (K.written sink.new)) }
+        ensures err { OnErr result ((l : Listening) (samples : List TheSample) →
+            IsFreshListener l self.old (T.kept taps.old) →
+            AppendsPrefix (K.written sink.old) (K.written sink.new) (told l samples)) }
         ensures cause { HasCause (K.faults sink.old) (K.faults sink.new) result }
     {
         match self {
-            Listener::Pilot(best) => write_event(&pilot_event(best), sink),
-            Listener::Ranks { ranks, top } => write_ranks(ranks, *top, sink),
+            Listener::Unheard(findings) => findings.write(sink),
             Listener::Handset(mobile) => tell_pilot(mobile, taps, sink),
             Listener::Tuned(_) => Ok(()),
         }
@@ -99,8 +87,7 @@ impl Listener {
         ensures cause { HasCause (K.faults sink.old) (K.faults sink.new) result }
     {
         match self {
-            Listener::Pilot(_) => Ok(()),
-            Listener::Ranks { .. } => Ok(()),
+            Listener::Unheard(_) => Ok(()),
             Listener::Handset(mobile) => tell(mobile, samples, taps, sink),
             Listener::Tuned(tuned) => tuned.hear(samples, sink),
         }
@@ -112,8 +99,7 @@ impl Listener {
             Listens l self.now kept heard → result ≡ is_told l heard }
     {
         match self {
-            Listener::Pilot(_) => true,
-            Listener::Ranks { .. } => true,
+            Listener::Unheard(_) => true,
             Listener::Handset(mobile) => mobile.synced(),
             Listener::Tuned(tuned) => tuned.is_told(),
         }

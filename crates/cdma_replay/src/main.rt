@@ -13,7 +13,6 @@ mod opening;
 #[cfg(test)]
 mod outside_tests;
 mod program;
-mod ranks;
 mod receiving;
 mod replaying;
 #[cfg(test)]

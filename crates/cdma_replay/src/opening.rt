@@ -1,21 +1,26 @@
-//! Opens the listener for a purpose from a file's first samples.
+//! Opens the listener of a job from a file's first samples.
 
 ghost use Rattle.cdma_replay.specs.Common.{Sample as TheSample, IsLawfulHeader, IsFingers};
-ghost use Rattle.cdma_replay.specs.Common.{IsWorkers, IsLawfulPurpose};
-ghost use Rattle.std.specs.Prelude.{◌≡◌, ◌≤◌, List, [], IfOk, length};
-ghost use Rattle.cdma_io.specs.declared.header.Header.{Header as TheHeader};
+ghost use Rattle.cdma_replay.specs.Common.{IsLawfulJob, IsWorkers};
+ghost use Rattle.std.specs.Prelude.{◌≡◌, ◌≤◌, ℕ, List, [], IfOk, length};
+ghost use Rattle.command_line.specs.Args.{IsBase, IsTop, IsWidth};
 ghost use Rattle.tuned_listener.specs.TunedListening.{ListensTuned, tuned_room};
+ghost use Rattle.event_tap.specs.EventLines.{event_line};
 ghost use Rattle.event_tap.specs.TunedTexts.{IsLawfulTuned};
-ghost use Rattle.owed_replies.specs.Hearing.{AreNearTo, AreReady, IsLawfulHandset, tuning_for};
+ghost use Rattle.owed_replies.specs.Hearing.{AreNearTo, AreReady, ByFrames, ByTaps, Unheard};
+ghost use Rattle.owed_replies.specs.Hearing.{IsLawfulHandset, best_pilot, listening, settings_for};
+ghost use Rattle.owed_replies.specs.Hearing.{tuning_for, waiting};
+ghost use Rattle.owed_replies.specs.Ranks.{survey_text};
 ghost use Rattle.cdma_replay.specs.Listeners.{IsBest, IsListenerFor};
 
 use crate::handset::{boxed_handset, handset, settings_for};
 use crate::listener::Listener;
 use cdma_io::Header;
 use chip_core::{OutOfMemory, Phase, Sample, Traffic};
+use command_line::Job;
 use event_tap::TunedText;
 use mobile_core::{Channel, Settings};
-use owed_replies::Purpose;
+use owed_replies::Findings;
 use pilot_search::{Best, Gate, Near, near, search};
 use pilot_survey::survey;
 use short_code::Codes;
@@ -53,7 +58,7 @@ fn tuned_listener(
     Ok(Box::new(alloc, tuned)?)
 }
 
-/// Searches the pilot; no listener takes the samples.
+/// Searches the pilot; nobody hears the file.
 fn find_pilot<R: Threads + Sync, G: Gate + Sync>(
     rt: &R,
     alloc: Global,
@@ -64,10 +69,11 @@ fn find_pilot<R: Threads + Sync, G: Gate + Sync>(
 ) -> Result<Listener, OutOfMemory>
     requires few { length first.now ≤ 32768 }
     requires workers { IsWorkers workers }
-    ensures { (header : TheHeader) → IfOk result (IsListenerFor Purpose.Find header first.now) }
+    ensures { (count : ℕ) →
+        IfOk result (IsListenerFor (λ taps. Unheard (event_line (best_pilot first.now))) count) }
 {
     let best = search(rt, alloc, first, &codes, workers, gate)?;
-    Ok(Listener::Pilot(best))
+    Ok(Listener::Unheard(Findings::Pilot(best)))
 }
 
 /// Opens a handset for a file with this header, on the paths near the pilot in its first samples.
@@ -85,8 +91,8 @@ fn handset_near(
     requires header { IsLawfulHeader header }
     requires few { length first.now ≤ 32768 }
     requires best { IsBest first.now best.now }
-    ensures { IfOk result
-        (IsListenerFor (Purpose.Follow fingers paging traffic) header first.now) }
+    ensures { IfOk result (IsListenerFor
+        (ByTaps (tuning_for (settings_for header fingers paging traffic) first.now)) header.count) }
 {
     let paths = near(first, &codes, *best, fingers);
     let settings = settings_for(&header, fingers, paging, traffic);
@@ -111,7 +117,9 @@ fn tuned_near(
     requires header { IsLawfulHeader header }
     requires few { length first.now ≤ 32768 }
     requires best { IsBest first.now best.now }
-    ensures { IfOk result (IsListenerFor (Purpose.Tuned fingers channel text) header first.now) }
+    ensures { IfOk result (IsListenerFor
+        (λ taps. ByFrames (tuning_for (waiting header fingers) first.now) channel text)
+        header.count) }
 {
     let paths = near(first, &codes, *best, fingers);
     let settings = settings_for(&header, fingers, 1, None);
@@ -119,7 +127,7 @@ fn tuned_near(
     Ok(Listener::Tuned(tuned))
 }
 
-/// Ranks the pilots by strength; no listener takes the samples.
+/// Ranks the pilots by strength; nobody hears the file.
 fn rank_pilots<R: Threads + Sync, G: Gate + Sync>(
     rt: &R,
     alloc: Global,
@@ -131,54 +139,88 @@ fn rank_pilots<R: Threads + Sync, G: Gate + Sync>(
     workers: u8,
     gate: &G,
 ) -> Result<Listener, OutOfMemory>
-    requires lawful { IsLawfulPurpose (Purpose.Survey base width top) }
+    requires lawful { IsBase base × IsWidth width × IsTop top }
     requires few { length first.now ≤ 32768 }
     requires workers { IsWorkers workers }
-    ensures { (header : TheHeader) →
-        IfOk result (IsListenerFor (Purpose.Survey base width top) header first.now) }
+    ensures { (count : ℕ) →
+        IfOk result (IsListenerFor (λ taps. Unheard (survey_text base width top first.now)) count) }
 {
     let base = Phase::new(base).unwrap();
     let ranks = survey(rt, alloc, first, &codes, base, width, workers, gate)?;
-    Ok(Listener::Ranks { ranks, top })
+    Ok(Listener::Unheard(Findings::Ranks { ranks, top }))
 }
 
-/// Opens the listener for a purpose, given a file's header and first samples.
+/// Opens the listener of a job, given a file's header and first samples.
+///
+/// No file is received for `make` and `trial`.
 pub fn listener_for<R: Threads + Sync, G: Gate + Sync>(
     rt: &R,
     alloc: Global,
-    purpose: Purpose,
+    job: Job,
     header: Header,
     codes: Codes,
     first: &[Sample],
-    workers: u8,
     gate: &G,
 ) -> Result<Listener, OutOfMemory>
-    requires purpose { IsLawfulPurpose purpose }
+    requires job { IsLawfulJob job }
     requires header { IsLawfulHeader header }
     requires few { length first.now ≤ 32768 }
-    requires workers { IsWorkers workers }
-    ensures { IfOk result (IsListenerFor purpose header first.now) }
+    ensures { IfOk result
+        (IsListenerFor (λ taps. listening taps job header first.now) header.count) }
 {
-    match purpose {
-        Purpose::Find => find_pilot(rt, alloc, codes, first, workers, gate),
-        Purpose::Follow {
+    let workers = job.search().workers;
+    match job {
+        Job::Follow {
             fingers,
             paging,
             traffic,
+            ..
         } => {
             let best = search(rt, alloc, first, &codes, workers, gate)?;
             handset_near(alloc, fingers, paging, traffic, header, codes, first, &best)
         }
-        Purpose::Tuned {
+        Job::Rate2 {
             fingers,
-            channel,
-            text,
+            offset,
+            esn,
+            row,
+            ..
         } => {
             let best = search(rt, alloc, first, &codes, workers, gate)?;
+            let channel = Channel::Traffic(Traffic { esn, row, offset });
+            let text = TunedText::RateSetTwo;
             tuned_near(alloc, fingers, channel, text, header, codes, first, &best)
         }
-        Purpose::Survey { base, width, top } => {
-            rank_pilots(rt, alloc, base, width, top, codes, first, workers, gate)
+        Job::List {
+            fingers,
+            offset,
+            esn,
+            row,
+            k,
+            ..
+        } => {
+            let best = search(rt, alloc, first, &codes, workers, gate)?;
+            let channel = Channel::Traffic(Traffic { esn, row, offset });
+            let text = TunedText::Listed { k };
+            tuned_near(alloc, fingers, channel, text, header, codes, first, &best)
+        }
+        Job::Idle {
+            fingers,
+            paging,
+            key,
+            cycle,
+            ..
+        } => {
+            let best = search(rt, alloc, first, &codes, workers, gate)?;
+            let channel = Channel::Paging(paging);
+            let text = TunedText::Slots { key, cycle };
+            tuned_near(alloc, fingers, channel, text, header, codes, first, &best)
+        }
+        Job::Survey {
+            base, width, top, ..
+        } => rank_pilots(rt, alloc, base, width, top, codes, first, workers, gate),
+        Job::Find { .. } | Job::Make { .. } | Job::Trial { .. } => {
+            find_pilot(rt, alloc, codes, first, workers, gate)
         }
     }
 }

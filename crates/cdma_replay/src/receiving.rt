@@ -1,14 +1,14 @@
 //! Receives a sample file: first its span, then all of its samples.
 
 ghost use Rattle.cdma_replay.specs.Common.{FileFault, ConsumesAtMost, Rose, sample_len, width_of};
-ghost use Rattle.cdma_replay.specs.Common.{IsKept, IsWorkers, Sample, IsLawfulPurpose, IsEnd};
+ghost use Rattle.cdma_replay.specs.Common.{IsKept, IsLawfulJob, Sample, IsEnd};
 ghost use Rattle.cdma_replay.specs.Common.{IsFault, IsFaultIn, IsHeaderFault, IsRestFault, ended};
 ghost use Rattle.cdma_replay.specs.Common.{IsSearchable, TakesNoMore, TakesSpan, ReceivesFile};
 ghost use Rattle.std.specs.Prelude.{◌≡◌, ◌≢◌, ◌≤◌, ◌+◌, ◌*◌, List, length, All, Err, None, Ok};
 ghost use Rattle.std.specs.Prelude.{IfOk, OnOk, IfErr, OnErr, IfSome};
 ghost use Rattle.std.specs.Io.KnownBytes.{IsAtEnd};
 ghost use Rattle.cdma_replay.specs.Listeners.{HasRoom, HearsRest, Listens};
-ghost use Rattle.owed_replies.specs.Hearing.{LosesSamples, Listening, end_when};
+ghost use Rattle.owed_replies.specs.Hearing.{LosesSamples, Listening, end_when, span_of};
 ghost use Rattle.owed_replies.specs.Broken.{HearsFirst, IsCut, IsLong, IsUnopened, TakesFew};
 ghost use Rattle.owed_replies.specs.Status.{file_status};
 
@@ -17,8 +17,9 @@ use crate::opening::listener_for;
 use crate::workspace::Workspace;
 use cdma_io::{Failed, FileFault, SampleReader, Sink, Source};
 use chip_core::Sample;
+use command_line::Job;
 use event_tap::KeepsTaps;
-use owed_replies::{Reception, Status};
+use owed_replies::Status;
 use pilot_search::Gate;
 use short_code::Codes;
 use std::alloc::Global;
@@ -126,11 +127,11 @@ fn end_when(told: bool) -> Result<(), Status>
 }
 
 /// Reads the file's first samples into `span`, writes their text, and reads on to the end of the
-/// file through the buffer `piece`. If the purpose has a listener, it takes all samples.
+/// file through the buffer `piece`. If somebody hears the file, the listener takes all samples.
 fn receive_file<R: Threads + Sync, S: Source, K: Sink, T: KeepsTaps, G: Gate + Sync>(
     rt: &R,
     alloc: Global,
-    reception: Reception,
+    job: Job,
     codes: Codes,
     span: &mut [Sample],
     piece: &mut [Sample],
@@ -139,33 +140,18 @@ fn receive_file<R: Threads + Sync, S: Source, K: Sink, T: KeepsTaps, G: Gate + S
     taps: T,
     gate: &G,
 ) -> Result<(), Status>
-    requires span { (length span.old ≡ reception.span) × (reception.span ≤ 32768) }
-    requires workers { IsWorkers reception.workers }
-    requires purpose { IsLawfulPurpose reception.purpose }
+    requires span { (length span.old ≡ span_of job) × (span_of job ≤ 32768) }
+    requires job { IsLawfulJob job }
     requires piece { length piece.old ≡ 4096 }
     requires kept { All IsKept (T.kept taps) }
-    ensures { ReceivesFile (T.kept taps) reception (ended result)
+    ensures { ReceivesFile (T.kept taps) job (ended result)
         (S.rest source.old) (S.rest source.new) (S.faults source.old) (S.faults source.new)
         (source.new ≡ source.old)
         (K.written sink.old) (K.written sink.new) (K.faults sink.old) (K.faults sink.new)
         (sink.new ≡ sink.old) }
 {
     let mut reader = open_span(source, span)?;
-    let Reception {
-        workers,
-        purpose,
-        ..
-    } = reception;
-    let mut listener = listener_for(
-        rt,
-        alloc,
-        purpose,
-        reader.header(),
-        codes,
-        span,
-        workers,
-        gate,
-    )?;
+    let mut listener = listener_for(rt, alloc, job, reader.header(), codes, span, gate)?;
     let mut taps = taps;
     match listener.begin(&mut taps, sink) {
         Ok(()) => {}
@@ -179,25 +165,23 @@ fn receive_file<R: Threads + Sync, S: Source, K: Sink, T: KeepsTaps, G: Gate + S
     end_when(listener.is_told())
 }
 
-/// Writes the text of the file's first samples, then reads on to the end of the file. If the
-/// purpose has a listener, it takes all samples; the taps receive each event of a handset, the
-/// pilot first.
+/// Writes the text of the file's first samples, then reads on to the end of the file. If
+/// somebody hears the file, the listener takes all samples; the taps receive each event of a
+/// handset, the pilot first.
 ///
 /// All memory is allocated before the first line is written.
 pub fn receive<R: Threads + Sync, S: Source, K: Sink, T: KeepsTaps, G: Gate + Sync>(
     rt: &R,
     alloc: Global,
-    reception: Reception,
+    job: Job,
     source: &mut S,
     sink: &mut K,
     taps: T,
     gate: &G,
 ) -> Result<(), Status>
-    requires span { reception.span ≤ 32768 }
-    requires workers { IsWorkers reception.workers }
-    requires purpose { IsLawfulPurpose reception.purpose }
+    requires job { IsLawfulJob job }
     requires kept { All IsKept (T.kept taps) }
-    ensures { ReceivesFile (T.kept taps) reception (ended result)
+    ensures { ReceivesFile (T.kept taps) job (ended result)
         (S.rest source.old) (S.rest source.new) (S.faults source.old) (S.faults source.new)
         (source.new ≡ source.old)
         (K.written sink.old) (K.written sink.new) (K.faults sink.old) (K.faults sink.new)
@@ -207,11 +191,11 @@ pub fn receive<R: Threads + Sync, S: Source, K: Sink, T: KeepsTaps, G: Gate + Sy
         codes,
         span: mut samples,
         mut piece,
-    } = Workspace::new(alloc, usize::from(reception.span))?;
+    } = Workspace::new(alloc, usize::from(job.search().span))?;
     receive_file(
         rt,
         alloc,
-        reception,
+        job,
         codes,
         &mut samples,
         &mut piece,

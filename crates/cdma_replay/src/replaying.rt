@@ -1,17 +1,16 @@
 //! The top call: the whole program.
 
-ghost use Rattle.cdma_replay.specs.Common.{IsWorkers, job_named, ended, IsLawfulPurpose, RunsTask};
-ghost use Rattle.cdma_replay.specs.Common.{IsLawfulTask, untapped};
-ghost use Rattle.std.specs.Prelude.{◌≡◌, ◌≤◌, ℕ, List, map};
+ghost use Rattle.cdma_replay.specs.Common.{IsLawfulJob, job_named, ended, RunsJob};
+ghost use Rattle.std.specs.Prelude.{◌≡◌, map};
 ghost use Rattle.owed_replies.specs.Runs.{RunsCommand};
 
 use crate::making::make;
 use crate::receiving::receive;
 use crate::trial::trial;
 use cdma_io::{Sink, Source};
-use command_line::{WordFault, words_of};
+use command_line::{Job, WordFault, words_of};
 use event_tap::{Tap, Taps};
-use owed_replies::{Reception, Status, Task, task_of};
+use owed_replies::Status;
 use pilot_search::Gate;
 use std::alloc::Global;
 use std::thread::Threads;
@@ -26,56 +25,31 @@ fn status_of(run: Result<(), Status>) -> Status
     }
 }
 
-/// Receives a sample file without taps, and returns how the run ended.
-fn receive_untapped<R: Threads + Sync, S: Source, K: Sink, G: Gate + Sync>(
+/// Does a job over a source and a sink, and returns how it ended.
+fn run_job<R: Threads + Sync, S: Source, K: Sink, G: Gate + Sync>(
     rt: &R,
     alloc: Global,
-    reception: Reception,
-    source: &mut S,
-    sink: &mut K,
-    gate: &G,
-) -> Status
-    requires span { reception.span ≤ 32768 }
-    requires workers { IsWorkers reception.workers }
-    requires purpose { IsLawfulPurpose reception.purpose }
-    ensures { (forms : List ℕ) → RunsTask forms (untapped reception) result
-        (S.rest source.old) (S.rest source.new) (S.faults source.old) (S.faults source.new)
-        (source.new ≡ source.old)
-        (K.written sink.old) (K.written sink.new) (K.faults sink.old) (K.faults sink.new)
-        (sink.new ≡ sink.old) }
-{
-    let taps = Taps::new(Vec::new(alloc), [0; 4]);
-    status_of(receive(rt, alloc, reception, source, sink, taps, gate))
-}
-
-/// Performs a task over a source and a sink, and returns how it ended.
-fn run_task<R: Threads + Sync, S: Source, K: Sink, G: Gate + Sync>(
-    rt: &R,
-    alloc: Global,
-    task: Task,
+    job: Job,
     source: &mut S,
     sink: &mut K,
     taps: Vec<Box<dyn Tap>>,
     gate: &G,
 ) -> Status
-    requires { IsLawfulTask task }
-    ensures { RunsTask (map (λ b. shape b) taps.items) task result
+    requires { IsLawfulJob job }
+    ensures { RunsJob (map (λ b. shape b) taps.items) job result
         (S.rest source.old) (S.rest source.new) (S.faults source.old) (S.faults source.new)
         (source.new ≡ source.old)
         (K.written sink.old) (K.written sink.new) (K.faults sink.old) (K.faults sink.new)
         (sink.new ≡ sink.old) }
 {
-    match task {
-        Task::Receive { reception, limits } => match limits {
-            None => receive_untapped(rt, alloc, reception, source, sink, gate),
-            Some(limits) => {
-                let taps = Taps::new(taps, limits);
-                status_of(receive(rt, alloc, reception, source, sink, taps, gate))
-            }
-        },
-        Task::Make { width } => status_of(make(alloc, width, source, sink)),
-        Task::Trial { number, workers } => {
+    match job {
+        Job::Make { width } => status_of(make(alloc, width, source, sink)),
+        Job::Trial { number, workers } => {
             status_of(trial(rt, alloc, number, workers, sink, gate))
+        }
+        _ => {
+            let taps = Taps::new(taps, job.limits());
+            status_of(receive(rt, alloc, job, source, sink, taps, gate))
         }
     }
 }
@@ -118,7 +92,7 @@ pub fn replay<R: Threads + Sync, S: Source, K: Sink, G: Gate + Sync>(
         (sink.new ≡ sink.old) (sink.new ≡ sink.old) }
 {
     match words_of(alloc, args) {
-        Ok(job) => run_task(rt, alloc, task_of(job), source, sink, taps, gate),
+        Ok(job) => run_job(rt, alloc, job, source, sink, taps, gate),
         Err(WordFault::Bad) => Status::BadWords,
         Err(WordFault::OutOfMemory) => Status::NoMemory,
     }

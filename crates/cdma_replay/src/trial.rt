@@ -11,7 +11,7 @@ ghost use Rattle.cell_plan.specs.Sampled.{made_samples};
 ghost use Rattle.cell_plan.specs.Transmitter.{header_of};
 ghost use Rattle.trial_link.specs.Trial.{trial_plan};
 ghost use Rattle.mobile_core.specs.Standing.{StandsFor, has_room, steps_left};
-ghost use Rattle.owed_replies.specs.Trials.{LeavesRoom, counts_of, summary, trial_line};
+ghost use Rattle.owed_replies.specs.Trials.{LeavesRoom, counts_of, trial_line};
 ghost use Rattle.owed_replies.specs.Trials.{trial_settings};
 
 use crate::handset::{boxed_handset, settings_for};
@@ -115,23 +115,6 @@ fn count_rest(mobile: &mut Mobile, cell: &mut Cell, piece: &mut [Sample], counts
     }
 }
 
-/// Returns the line with the counts.
-#[tactic(auto, unfolding(owed_replies::specs::Trials::summary))]
-fn summary_of(number: u64, samples: u64, phase: u16, counts: &Counts) -> Text
-    ensures { result ≡ summary number samples phase counts.now }
-{
-    let mut line = Text::empty();
-    line.append_named("trial number=", number);
-    line.append_named(" samples=", samples);
-    line.append_named(" phase=", phase);
-    line.append_named(" syncs=", counts.syncs);
-    line.append_named(" pagings=", counts.pagings);
-    line.append_named(" frames=", counts.frames);
-    line.append_named(" good=", counts.good);
-    line.append_str("\n");
-    line
-}
-
 /// Follows all samples of a number's cell, by way of `span` and `piece`, and makes out the line
 /// that tells what was heard.
 fn follow_cell<R: Threads + Sync, G: Gate + Sync>(
@@ -161,7 +144,7 @@ fn follow_cell<R: Threads + Sync, G: Gate + Sync>(
     let mut counts = Counts::none();
     count(mobile, span, &mut counts);
     count_rest(mobile, cell, piece, &mut counts);
-    Ok(summary_of(number, header.count, best.phase.get(), &counts))
+    Ok(counts.summary(number, header.count, best.phase.get()))
 }
 
 /// Makes a number's cell, follows it, and makes out the line that tells what was heard. All memory

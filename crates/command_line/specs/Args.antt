@@ -23,6 +23,7 @@ use Rattle.chip_core.specs.declared.width.Width.TheVariants.{Sixteen, Eight}
 use Rattle.command_line.specs.declared.job.Job.{Job}
 use Rattle.command_line.specs.declared.job.Job.TheVariants.{Find, Follow, Rate2, Idle, Survey, Make}
 use Rattle.command_line.specs.declared.job.Job.TheVariants.{Trial}
+use Rattle.command_line.specs.declared.job.Search.{Search}
 use Rattle.chip_core.specs.declared.assignment.Traffic.{Traffic}
 use Rattle.command_line.specs.declared.commands.Command.{Command}
 use Rattle.command_line.specs.declared.grammar.ValueForm.{ValueForm}
@@ -508,3 +509,29 @@ IsLawfulJob (Survey span workers base width top) =
     IsSpan span × IsWorkers workers × IsBase base × IsWidth width × IsTop top
 IsLawfulJob (Make width) = Unit {0}
 IsLawfulJob (Trial number workers) = (number < 2 ^ 64) × IsWorkers workers
+
+-- ---- the search and the taps of a job
+
+abbrev pub searching : ℕ → ℕ → Search
+searching span workers = record { span = span; workers = workers }
+
+-- how many of the first samples are searched or measured, and by how many workers; `make` searches
+-- none
+abbrev pub job_search : Job → Search
+job_search (Find span workers) = searching span workers
+job_search (Follow span workers fingers paging traffic limits) = searching span workers
+job_search (Rate2 span workers fingers offset esn row) = searching span workers
+job_search (jobs.List span workers fingers offset esn row k) = searching span workers
+job_search (Idle span workers fingers paging key cycle) = searching span workers
+job_search (Survey span workers base width top) = searching span workers
+job_search (Make width) = searching 0 1
+job_search (Trial number workers) = searching 2048 workers
+
+-- a search that a lawful job may ask for
+abbrev pub IsLawfulSearch : Search → Type 0
+IsLawfulSearch search = (search.span ≤ 32768) × IsWorkers search.workers
+
+-- how many pilots, messages, frames and raw capsules the taps write; only `follow` has taps
+abbrev pub job_limits : Job → List ℕ
+job_limits (Follow span workers fingers paging traffic limits) = limits
+job_limits job = 0 ∷ 0 ∷ 0 ∷ 0 ∷ []

@@ -2,6 +2,7 @@
 
 ghost use Rattle.std.specs.Prelude.{◌≡◌, ◌↔◌, IfOk, map, string_bytes, Some, None, Err};
 ghost use Rattle.command_line.specs.Args.{IsLawfulJob, command_entry, job_after, job_by, job_named};
+ghost use Rattle.command_line.specs.Args.{IsLawfulSearch, job_limits, job_search};
 
 use crate::commands::Command;
 use crate::matching::matches_by;
@@ -109,6 +110,46 @@ pub enum Job {
         /// How many workers search the pilot, 1 to 64.
         workers: u8,
     },
+}
+
+/// The search of a job in the first samples.
+#[derive(Clone, Copy)]
+pub struct Search {
+    /// How many of the first samples are searched or measured, at most 32,768.
+    pub span: u16,
+    /// How many workers search or measure, 1 to 64. The result doesn't depend on it.
+    pub workers: u8,
+}
+
+impl Job {
+    /// Returns the search of this job. `make` searches no samples, `trial` the first 2,048 of its
+    /// link.
+    pub fn search(self) -> Search
+        ensures value { result ≡ job_search self }
+        ensures lawful { IsLawfulJob self → IsLawfulSearch result }
+    {
+        let (span, workers) = match self {
+            Job::Find { span, workers }
+            | Job::Follow { span, workers, .. }
+            | Job::Rate2 { span, workers, .. }
+            | Job::List { span, workers, .. }
+            | Job::Idle { span, workers, .. }
+            | Job::Survey { span, workers, .. } => (span, workers),
+            Job::Make { .. } => (0, 1),
+            Job::Trial { workers, .. } => (2048, workers),
+        };
+        Search { span, workers }
+    }
+
+    /// Returns how many lines of each kind the taps write. Only `follow` has taps.
+    pub fn limits(self) -> EventLimits
+        ensures { result ≡ job_limits self }
+    {
+        match self {
+            Job::Follow { limits, .. } => limits,
+            _ => [0; 4],
+        }
+    }
 }
 
 /// Why arguments give no job.

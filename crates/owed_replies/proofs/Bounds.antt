@@ -2,8 +2,8 @@
 use Rattle.owed_replies.proofs.Common.{◌≡◌, ℕ, ◌+◌, ◌-◌, ◌*◌, ◌≤◌, ◌++◌, min, List, [], length, sym, ap, arith, subst, length-append, None}
 use Rattle.owed_replies.proofs.Common.{Option, Some, IfSome, Result, Ok, Err, Consumes-nil, Consumes-trans, flat_map, Consumes, Sample}
 use Rattle.owed_replies.proofs.Common.{Width, ConsumesAtMost, Opens, Reading, header_spelling, opening, sample_len, sample_spelling, Header}
-use Rattle.owed_replies.proofs.Common.{width_of, FileFault, length-header_spelling, length-samples, sample_len-mono, PassesSamples, Task}
-use Rattle.owed_replies.proofs.Common.{TakesNoMore, TakesSpan, file_end, most_taken, TaskTakesNoMore, Make, Receive, Trial}
+use Rattle.owed_replies.proofs.Common.{width_of, FileFault, length-header_spelling, length-samples, sample_len-mono, PassesSamples, Job}
+use Rattle.owed_replies.proofs.Common.{TakesNoMore, TakesSpan, file_end, most_taken, BoundsInput, Make, Trial}
 
 -- ---- bounds
 
@@ -142,9 +142,9 @@ piece_most {header} left now room rest mid new same low fits passed part =
       shared_out width (left - now) now left (omega (arith, low)),
     ))
 
--- ---- a task that has read nothing
+-- ---- a job that has read nothing
 
-pub unread_most : (task : Task) (rest : Option (List ℕ)) → TaskTakesNoMore task rest rest
-unread_most (Receive r limits) rest = opening_most rest rest (none_most 16 rest)
+pub unread_most : (job : Job) (rest : Option (List ℕ)) → BoundsInput job rest rest
 unread_most (Make width) rest = none_most 1048577 rest
 unread_most (Trial number workers) rest = none_most 0 rest
+unread_most job rest = opening_most rest rest (none_most 16 rest)

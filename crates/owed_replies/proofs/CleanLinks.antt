@@ -3,12 +3,12 @@ use Rattle.owed_replies.proofs.Common.{◌≡◌, ◌⊎◌, inl, inr, ℕ, ◌�
 use Rattle.owed_replies.proofs.Common.{Sample, Width, IsSampleFile, Header, made_samples, CellPlan, KeptTap, run_text, events, Tuning, told}
 use Rattle.owed_replies.proofs.Common.{Event, Traffic, IsPaging, tuning_to, IsNotDirected, IsOnPath, IsCleanLink, cell_energy, HearsEach}
 use Rattle.owed_replies.proofs.Common.{each_channel, WritesEach, clean_end, file_end_of, file_text, settings_for, tuning_for, AnswersAfter}
-use Rattle.owed_replies.proofs.Common.{IsFileReply, Reply, following, Status, NoMemory, named_receivable}
+use Rattle.owed_replies.proofs.Common.{IsFileReply, Reply, Follow, Status, NoMemory, named_receivable}
 use Rattle.owed_replies.proofs.CleanTexts.{clean_end-is, on_path, tuned_to_cell}
 use Rattle.owed_replies.proofs.Replies.{whole_file}
 
 module _ (width : Width) (script : List ℕ) (plan : CellPlan)
-    (span workers fingers paging : ℕ) (traffic : Option Traffic) (header : Header)
+    (span workers fingers paging : ℕ) (traffic : Option Traffic) (limits : List ℕ) (header : Header)
     (samples : List Sample)
     (clean : IsCleanLink width script plan span fingers paging traffic
     header samples)
@@ -38,7 +38,7 @@ module _ (width : Width) (script : List ℕ) (plan : CellPlan)
       ∙ ap (λ (t : Tuning). events t (made_samples plan)) tuned_so
 
   each_text : (taps : List KeptTap) →
-      file_text taps (following span workers fingers paging traffic) header samples
+      file_text taps (Follow span workers fingers paging traffic limits) header samples
       ≡ run_text taps heard
   unfolding file_text told
   each_text taps = ap (run_text taps) heard_is
@@ -55,18 +55,18 @@ module _ (width : Width) (script : List ℕ) (plan : CellPlan)
   pub each_answer : (taps : List KeptTap) (bytes held : List ℕ) (status : Status)
       (written : Option (List ℕ)) → IsSampleFile bytes header samples → span ≤ length samples →
       ((reply : Reply) →
-      IsFileReply taps (following span workers fingers paging traffic) bytes reply →
+      IsFileReply taps (Follow span workers fingers paging traffic limits) bytes reply →
       (status ≡ NoMemory) ⊎ AnswersAfter held reply status written) →
       (status ≡ NoMemory) ⊎
       ((status ≡ clean_end plan) × WritesEach taps span plan paging traffic held written)
   each_answer taps bytes held status written file enough exact =
-      let text = file_text taps (following span workers fingers paging traffic) header samples in
-      let end = file_end_of (following span workers fingers paging traffic) header samples in
+      let text = file_text taps (Follow span workers fingers paging traffic limits) header samples in
+      let end = file_end_of (Follow span workers fingers paging traffic limits) header samples in
       elim (exact (Ok (text, end)) (whole_file file enough)) [
         | inl none ↦ inl none
         | inr all ↦
             inr (
-              all.0 ∙ clean_end-is width script plan span workers fingers paging traffic header
+              all.0 ∙ clean_end-is width script plan span workers fingers paging traffic limits header
                   samples clean counted,
               record {
                 heard = heard;

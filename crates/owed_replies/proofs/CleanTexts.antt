@@ -4,7 +4,7 @@ use Rattle.owed_replies.proofs.Common.{Sample, IsSampleFile, Header, Width, ener
 use Rattle.owed_replies.proofs.Common.{run_text, events, Event, IsPaging, made_samples, Tuning, IsCellFile, IsCleanLink, cell_energy, told}
 use Rattle.owed_replies.proofs.Common.{IsNotDirected, IsOnPath, IsTunedToPlan, tuning_to, FollowsSent, sent_events, messages_back, tuned_is}
 use Rattle.owed_replies.proofs.Common.{Traffic, clean_end, clean_events, file_end_of, file_text, settings_for, tuning_for, AnswersAfter}
-use Rattle.owed_replies.proofs.Common.{IsFileReply, Reply, following, Settings, Status, NoMemory}
+use Rattle.owed_replies.proofs.Common.{IsFileReply, Reply, Follow, Settings, Status, NoMemory}
 use Rattle.owed_replies.proofs.BorneFiles.{cell_borne, end_is, path}
 use Rattle.owed_replies.proofs.Replies.{whole_file}
 
@@ -88,76 +88,76 @@ clean_events-are width script plan span fingers paging traffic header samples cl
 
 -- and how the run ends
 pub clean_end-is : (width : Width) (script : List ℕ) (plan : CellPlan)
-    (span workers fingers paging : ℕ) (traffic : Option Traffic) (header : Header)
+    (span workers fingers paging : ℕ) (traffic : Option Traffic) (limits : List ℕ) (header : Header)
     (samples : List Sample) →
     IsCleanLink width script plan span fingers paging traffic header
     samples →
     length samples ≡ header.count →
-    file_end_of (following span workers fingers paging traffic) header samples ≡ clean_end plan
+    file_end_of (Follow span workers fingers paging traffic limits) header samples ≡ clean_end plan
 unfolding file_end_of
-clean_end-is width script plan span workers fingers paging traffic header samples clean counted =
+clean_end-is width script plan span workers fingers paging traffic limits header samples clean counted =
     end_is fingers paging traffic (cell_borne clean.file counted)
 
 -- so what is written of the file is written of the cell
 clean_text-is : (taps : List KeptTap) (width : Width) (script : List ℕ) (plan : CellPlan)
-    (span workers fingers paging : ℕ) (traffic : Option Traffic) (header : Header)
+    (span workers fingers paging : ℕ) (traffic : Option Traffic) (limits : List ℕ) (header : Header)
     (samples : List Sample) →
     IsCleanLink width script plan span fingers paging traffic header
     samples → IsFreeOf plan.traffic paging →
     FollowsSent plan traffic → length samples ≡ header.count →
     IsPaging paging →
-    file_text taps (following span workers fingers paging traffic) header samples ≡
+    file_text taps (Follow span workers fingers paging traffic limits) header samples ≡
     run_text taps (clean_events span plan paging traffic)
 unfolding file_text told
-clean_text-is taps width script plan span workers fingers paging traffic header samples clean free
+clean_text-is taps width script plan span workers fingers paging traffic limits header samples clean free
     follows counted one =
     ap (run_text taps)
     (clean_events-are width script plan span fingers paging traffic header samples clean free follows
     counted one)
 
 clean_reply : (taps : List KeptTap) (width : Width) (script held : List ℕ)
-    (plan : CellPlan) (span workers fingers paging : ℕ) (traffic : Option Traffic)
+    (plan : CellPlan) (span workers fingers paging : ℕ) (traffic : Option Traffic) (limits : List ℕ)
     (header : Header) (samples : List Sample) (status : Status) (written : Option (List ℕ)) →
     IsCleanLink width script plan span fingers paging traffic header
     samples → IsFreeOf plan.traffic paging →
     FollowsSent plan traffic → length samples ≡ header.count →
     IsPaging paging →
     (status ≡ NoMemory) ⊎
-    ((status ≡ file_end_of (following span workers fingers paging traffic) header samples) ×
-    (written ≡ Some (held ++ file_text taps (following span workers fingers paging traffic) header samples))) →
+    ((status ≡ file_end_of (Follow span workers fingers paging traffic limits) header samples) ×
+    (written ≡ Some (held ++ file_text taps (Follow span workers fingers paging traffic limits) header samples))) →
     (status ≡ NoMemory) ⊎
     ((status ≡ clean_end plan) ×
     (written ≡ Some (held ++ run_text taps (clean_events span plan paging traffic))))
-clean_reply taps width script held plan span workers fingers paging traffic header samples status
+clean_reply taps width script held plan span workers fingers paging traffic limits header samples status
     written clean free follows counted one (inl none) = inl none
-clean_reply taps width script held plan span workers fingers paging traffic header samples status
+clean_reply taps width script held plan span workers fingers paging traffic limits header samples status
     written clean free follows counted one (inr all) =
     inr (
       all.0
-          ∙ clean_end-is width script plan span workers fingers paging traffic header samples clean
+          ∙ clean_end-is width script plan span workers fingers paging traffic limits header samples clean
           counted,
       all.1 ∙ ap (λ (t : List ℕ). Some (held ++ t))
-          (clean_text-is taps width script plan span workers fingers paging traffic header samples
+          (clean_text-is taps width script plan span workers fingers paging traffic limits header samples
           clean free follows counted one),
     )
 
 -- so a run that answers what it owes answers that
 pub clean_answer : (taps : List KeptTap) (width : Width) (script bytes held : List ℕ)
-    (plan : CellPlan) (span workers fingers paging : ℕ) (traffic : Option Traffic)
+    (plan : CellPlan) (span workers fingers paging : ℕ) (traffic : Option Traffic) (limits : List ℕ)
     (header : Header) (samples : List Sample) (status : Status) (written : Option (List ℕ)) →
     IsSampleFile bytes header samples → span ≤ length samples → IsPaging paging →
     IsCleanLink width script plan span fingers paging traffic header
     samples → IsFreeOf plan.traffic paging → FollowsSent plan traffic →
-    ((reply : Reply) → IsFileReply taps (following span workers fingers paging traffic) bytes reply →
+    ((reply : Reply) → IsFileReply taps (Follow span workers fingers paging traffic limits) bytes reply →
     (status ≡ NoMemory) ⊎ AnswersAfter held reply status written) →
     (status ≡ NoMemory) ⊎
     ((status ≡ clean_end plan) ×
     (written ≡ Some (held ++ run_text taps (clean_events span plan paging traffic))))
-clean_answer taps width script bytes held plan span workers fingers paging traffic header samples
+clean_answer taps width script bytes held plan span workers fingers paging traffic limits header samples
     status written file enough one clean free follows exact =
-    clean_reply taps width script held plan span workers fingers paging traffic header samples status
+    clean_reply taps width script held plan span workers fingers paging traffic limits header samples status
     written clean free follows file.counted one
     (exact (Ok (
-      file_text taps (following span workers fingers paging traffic) header samples,
-      file_end_of (following span workers fingers paging traffic) header samples,
+      file_text taps (Follow span workers fingers paging traffic limits) header samples,
+      file_end_of (Follow span workers fingers paging traffic limits) header samples,
     )) (whole_file file enough))

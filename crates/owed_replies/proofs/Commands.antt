@@ -1,65 +1,57 @@
--- Lemmas on what is promised of a command: a run that does the task of the job that arguments name does
--- their command, and so does one that moves nothing, of arguments that name none or for want of memory.
-use Rattle.owed_replies.proofs.Common.{◌≡◌, ◌↔◌, ℕ, ◌⊎◌, List, [], refl, subst, Option, Some, Job, IsLawfulJob, Purpose, Status, Task}
-use Rattle.owed_replies.proofs.Common.{Receive, IsFileEnd, IsPurposeEnd, IsSearchEnd, IsTaskEnd, RunsCommand, RunsTask, task_of}
-use Rattle.command_line.specs.declared.job.Job.TheVariants.{Follow, Trial}
+-- Lemmas on what is promised of a command: a run that does the job that arguments name does their command.
+use Rattle.owed_replies.proofs.Common.{◌≡◌, ◌↔◌, ℕ, ◌⊎◌, List, [], refl, subst, Option, Some, Job, IsLawfulJob, Status, IsEndOf, RunsCommand}
+use Rattle.owed_replies.proofs.Common.{RunsJob, Make, Trial, Follow}
 use Rattle.owed_replies.proofs.CleanLinks.{each_answer}
 use Rattle.owed_replies.proofs.CleanTexts.{clean_answer}
 use Rattle.owed_replies.proofs.Completed.{complete_answer}
 use Rattle.owed_replies.proofs.Replies.{named_well, same_job}
-use Rattle.owed_replies.proofs.TaskRuns.{exact_answer, run_of}
-use Rattle.owed_replies.specs.declared.purpose.Purpose.TheVariants as purposes
+use Rattle.owed_replies.proofs.JobRuns.{exact_answer, run_of}
 
--- ---- ends that each task has
+-- ---- ends that each job has
 
-each_purpose : (purpose : Purpose) (status : Status) → IsSearchEnd status → IsFileEnd status →
-    IsPurposeEnd purpose status
-each_purpose (purposes.Follow fingers paging traffic) status search file = file
-each_purpose (purposes.Tuned fingers channel text) status search file = file
-each_purpose purpose status search file = search
+pub write_fault_end : (job : Job) → IsEndOf job Status.WriteFault
+write_fault_end (Make width) = tt
+write_fault_end (Trial number workers) = tt
+write_fault_end job = (tt, λ unheard is. absurd (cc))
 
-pub write_fault_end : (task : Task) → IsTaskEnd task Status.WriteFault
-write_fault_end (Receive r limits) = each_purpose r.purpose Status.WriteFault tt tt
-write_fault_end task = tt
+-- ---- the job that is named
 
--- ---- the task of the job that is named
-
-named_end : {P : Type 0} (task : Task) (status : Status) → IsTaskEnd task status →
+named_end : {P : Type 0} (job : Job) (status : Status) → IsEndOf job status →
     status ≡ Status.BadWords → P
-named_end task status end bad = absurd (named_well task (subst (IsTaskEnd task) bad end))
+named_end job status end bad = absurd (named_well job (subst (IsEndOf job) bad end))
 
 module _ {rest left : Option (List ℕ)} {misread misread_now : ℕ} {SameSource : Type 0}
     {old new : Option (List ℕ)} {miswritten miswritten_now : ℕ} {SameSink : Type 0} where
-  pub command_run : {forms : List ℕ} {task : Task} {status : Status} {named : Option Job} {one : Job} →
-      IsLawfulJob one → task ≡ task_of one → named ≡ Some one →
-      RunsTask forms task status rest left misread misread_now SameSource old new miswritten
+  pub command_run : {forms : List ℕ} {status : Status} {named : Option Job} {one : Job} →
+      IsLawfulJob one → named ≡ Some one →
+      RunsJob forms one status rest left misread misread_now SameSource old new miswritten
       miswritten_now SameSink →
       RunsCommand forms named status rest left misread misread_now SameSource old new miswritten
       miswritten_now SameSink SameSink
-  command_run {forms} {task} {status} {named} {one} lawful is so ran =
-      let run = λ (job : Job) (also : named ≡ Some job). run_of job is so also ran in
+  command_run {forms} {status} {named} {one} lawful so ran =
+      let run = λ (job : Job) (also : named ≡ Some job). run_of job so also ran in
       let lawful_named = λ (job : Job) (also : named ≡ Some job).
       subst IsLawfulJob (same_job named one job so also) lawful in
       record {
-        bad_words = (named_end task status ran.kind, λ none. absurd (cc));
-        untouched = named_end task status ran.kind;
+        bad_words = (named_end one status ran.kind, λ none. absurd (cc));
+        untouched = named_end one status ran.kind;
         exact = λ job bytes held reply also.
-            exact_answer forms (task_of job) status (run job also) bytes held reply;
+            exact_answer forms job status (run job also) bytes held reply;
         clean = λ width script bytes held plan span workers fingers paging traffic limits header
             samples also told was file enough clean reads writes.
             let job = Follow span workers fingers paging traffic limits in
-            each_answer width script plan span workers fingers paging traffic header samples clean
+            each_answer width script plan span workers fingers paging traffic limits header samples clean
             file.counted (lawful_named job also).3 _ bytes held status _ file enough
             (λ reply owed. exact_answer _ _ _ (run job also) bytes held reply told was owed reads
             writes);
         all_distinct = λ width script bytes held plan span workers fingers paging traffic limits
             header samples also told was file enough clean free follows reads writes.
             let job = Follow span workers fingers paging traffic limits in
-            clean_answer _ width script bytes held plan span workers fingers paging traffic header
+            clean_answer _ width script bytes held plan span workers fingers paging traffic limits header
             samples status _ file enough (lawful_named job also).3 clean free follows
             (λ reply owed. exact_answer _ _ _ (run job also) bytes held reply told was owed reads
             writes);
-        complete = λ job also. complete_answer forms (task_of job) status (run job also);
+        complete = λ job also. complete_answer forms job status (run job also);
         kind = λ job also. (run job also).kind;
         verdict = λ job also. (run job also).verdict;
         read_fault = ran.read_fault;

@@ -30,6 +30,7 @@ pub use Rattle.clean_link.proofs.traffic.Signs.{lawful_traffic}
 pub use Rattle.clean_signal.proofs.noise.Rounding.{near-equal, near-same}
 pub use Rattle.clean_signal.specs.NearFiles.{IsNearFile, IsPlanFile}
 pub use Rattle.command_line.specs.Args.{IsLawfulJob, IsPaging}
+pub use Rattle.command_line.specs.declared.job.Job.TheVariants.{Follow, Make, Trial}
 pub use Rattle.event_tap.proofs.Prefixes.{front_begins, taken_begins}
 unfoldable pub use Rattle.event_tap.specs.Taps.{run_text}
 pub use Rattle.pilot_search.proofs.BestPhase.{best_phase-is}
@@ -37,25 +38,23 @@ pub use Rattle.pilot_search.proofs.NearPlaces.{one_delta}
 pub use Rattle.owed_replies.specs.Broken.{HasWritten, IsCut, IsLong, IsUnopened, TakesFew, WritesAll, WritesFirst}
 pub use Rattle.owed_replies.specs.CleanFiles.{IsCellFile, IsCleanLink, cell_energy}
 pub use Rattle.owed_replies.specs.CleanLinks.{WritesEach}
-pub use Rattle.owed_replies.specs.Common.{CellPlan, Event, FileFault, FollowsSent, Header, HearsEach, Job, KeptTap, Make, Purpose, Receive}
-pub use Rattle.owed_replies.specs.Common.{Reception, Sample, ScriptFault, Settings, Status, Task, Traffic, Trial, Tuning, Width, best_phase}
+pub use Rattle.owed_replies.specs.Common.{CellPlan, Event, FileFault, FollowsSent, Header, HearsEach, Job, KeptTap, Sample, ScriptFault}
+pub use Rattle.owed_replies.specs.Common.{Settings, Status, Traffic, Tuning, Width, best_phase}
 pub use Rattle.owed_replies.specs.Common.{energy, events, kept_by, near_deltas, next_place, phase_at, sent_events}
 pub use Rattle.owed_replies.specs.Find.{BeginsFile, IsEnd, IsFault, IsFaultIn, IsHeaderFault, IsLaterFault, IsOfFiles, IsRestFault, ended}
 pub use Rattle.owed_replies.specs.Find.{IsSearchable, PassesSamples, TakesNoMore, TakesSpan, WritesNoMore, WritesText, file_end, most_taken}
-pub use Rattle.owed_replies.specs.Hearing.{PurposeIsUnheard, clean_end, end_when, is_told, listening, settings_for, tuning_for}
+pub use Rattle.owed_replies.specs.Hearing.{IsUnheard, clean_end, end_when, is_told, listening, settings_for, span_of, tuning_for}
 unfoldable pub use Rattle.owed_replies.specs.Hearing.{clean_events, file_end_of, file_text, told}
 pub use Rattle.owed_replies.specs.Make.{WritesMadeFile, WritesNoMoreMade}
 unfoldable pub use Rattle.owed_replies.specs.Make.{made_file}
 pub use Rattle.owed_replies.specs.Replies.{Answers, AnswersAfter, Begins, GainsNothingOr, IsAnswered, IsEarlyFault, IsFaultyFile, IsFileEnd}
-pub use Rattle.owed_replies.specs.Replies.{IsFaultyScript, IsFileReply, IsLawfulTaskInput, IsPurposeEnd, IsReply, IsScriptEnd, IsSearchEnd}
-pub use Rattle.owed_replies.specs.Replies.{IsScriptReply, IsTaskEnd, IsTaskPromising, IsTaskReply, IsTrialEnd, IsTrialReply, IsVerdict}
-pub use Rattle.owed_replies.specs.Replies.{IsWholeFile, IsWholeScript, Reply, TaskReadsInput, TaskReadsWell, TaskTakesNoMore, taps_by}
-pub use Rattle.owed_replies.specs.Replies.{TaskWritesTaken, TaskWritesWhole}
+pub use Rattle.owed_replies.specs.Replies.{BoundsInput, IsEndOf, IsFaultyScript, IsFileReply, IsLawfulInput, IsPromising, IsReply}
+pub use Rattle.owed_replies.specs.Replies.{IsScriptEnd, IsScriptReply, IsTrialEnd, IsTrialReply, IsVerdict, IsWholeFile, IsWholeScript}
+pub use Rattle.owed_replies.specs.Replies.{ReadsInput, ReadsWell, Reply, taps_for}
+pub use Rattle.owed_replies.specs.Replies.{WritesTaken, WritesWhole}
 pub use Rattle.owed_replies.specs.Runs.{IsPassedOn, MayHold, PassesOn, RunsCommand, TellsEnd, each_form}
 pub use Rattle.owed_replies.specs.Status.{end_line, file_status}
-pub use Rattle.owed_replies.specs.TaskRuns.{MakesFile, ReceivesFile, RunsTask}
-pub use Rattle.owed_replies.specs.Tasks.{following, task_of}
+pub use Rattle.owed_replies.specs.JobRuns.{MakesFile, ReceivesFile, RunsJob}
 unfoldable pub use Rattle.owed_replies.specs.Trials.{trial_line}
 pub use Rattle.owed_replies.specs.TuningLaw.{HandsetsAreTuned, HandsetsLieOnThePath}
-pub use Rattle.owed_replies.specs.declared.purpose.Purpose.TheVariants.{Follow, Tuned}
 pub use Rattle.owed_replies.specs.declared.status.Status.TheVariants.{BadFile, Done, NoMemory, NoSync, WriteFault}

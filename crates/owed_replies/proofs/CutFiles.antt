@@ -3,7 +3,7 @@ use Rattle.owed_replies.proofs.Common.{◌≡◌, ℕ, ◌+◌, ◌*◌, ◌≤�
 use Rattle.owed_replies.proofs.Common.{length-append, None, Some, IfSome, Err, flat_map, Consumes, Sample, ConsumesAtMost, FileFault, Extra}
 use Rattle.owed_replies.proofs.Common.{ReadFault, Header, Width, Opens, Reading, header_spelling, opening, sample_len, sample_spelling, ◌<◌}
 use Rattle.owed_replies.proofs.Common.{width_of, opening-spelled, length-header_spelling, sample_len-mono, KeptTap, IsLong, file_status}
-use Rattle.owed_replies.proofs.Common.{Reception, CutsShort, IsLawfulHeader, IsUnopened, TakesFew, WritesAll, WritesFirst}
+use Rattle.owed_replies.proofs.Common.{Job, span_of, CutsShort, IsLawfulHeader, IsUnopened, TakesFew, WritesAll, WritesFirst}
 use Rattle.cdma_io.specs.Outside.{ConsumesFewer}
 use Rattle.chip_core.specs.declared.width.Width.TheVariants.{Eight, Sixteen}
 
@@ -85,19 +85,19 @@ unopened (Extra place) (Some bytes) told long =
 unopened e (Some bytes) told long = absurd long
 
 -- so nothing is owed of them
-pub nothing_first : (taps : List KeptTap) (count : ℕ) (r : Reception)
-    (rest left old new : Option (List ℕ)) → count ≡ r.span →
-    TakesFew count rest left → WritesFirst taps r rest left old new
-nothing_first taps count r None left old new same few = tt
-nothing_first taps count r (Some bytes) left old new same few =
+pub nothing_first : (taps : List KeptTap) (count : ℕ) (job : Job)
+    (rest left old new : Option (List ℕ)) → count ≡ span_of job →
+    TakesFew count rest left → WritesFirst taps job rest left old new
+nothing_first taps count job None left old new same few = tt
+nothing_first taps count job (Some bytes) left old new same few =
     λ (header : Header) (taken : List ℕ) (n : ℕ) (opened : opening bytes ≡ Ok header)
     (consumed : Consumes (Some bytes) left taken)
-    (long : 16 + sample_len (width_of header) * n ≤ length taken) (enough : r.span ≤ n) (some : 0 < n).
+    (long : 16 + sample_len (width_of header) * n ≤ length taken) (enough : span_of job ≤ n) (some : 0 < n).
     absurd (omega (arith, long, few header taken n opened consumed (omega (arith, enough, same)) some))
 
-pub nothing_all : (taps : List KeptTap) (r : Reception) (rest old new : Option (List ℕ)) → IsUnopened rest → WritesAll taps r rest old new
-nothing_all taps r None old new never = tt
-nothing_all taps r (Some bytes) old new never =
+pub nothing_all : (taps : List KeptTap) (job : Job) (rest old new : Option (List ℕ)) → IsUnopened rest → WritesAll taps job rest old new
+nothing_all taps job None old new never = tt
+nothing_all taps job (Some bytes) old new never =
     λ (header : Header) (opened : opening bytes ≡ Ok header). absurd (never header opened)
 
 -- ---- after them

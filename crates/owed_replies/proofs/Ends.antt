@@ -2,8 +2,8 @@
 use Rattle.owed_replies.proofs.Common.{◌≡◌, ℕ, ◌≤◌, ◌++◌, List, refl, ap, arith, ◌∙◌, true, Option, None, Some, IfSome, Result, ◌⊎◌, inl}
 use Rattle.owed_replies.proofs.Common.{[], Bool, flat_map, Appends-nil, Sample, Rose, FileFault, ReadFault, Header, header_spelling, Status}
 use Rattle.owed_replies.proofs.Common.{sample_spelling, width_of, KeptTap, front_begins, Done, NoSync, BadFile, NoMemory, WriteFault, IsEnd}
-use Rattle.owed_replies.proofs.Common.{file_status, BeginsFile, IsFault, TakesNoMore, TakesSpan, WritesNoMore, ended, PurposeIsUnheard}
-use Rattle.owed_replies.proofs.Common.{end_when, is_told, listening, Purpose, Follow, Tuned, ReceivesFile, Reception, IsOk, Width, IsAtEnd}
+use Rattle.owed_replies.proofs.Common.{file_status, BeginsFile, IsFault, TakesNoMore, TakesSpan, WritesNoMore, ended, IsUnheard}
+use Rattle.owed_replies.proofs.Common.{end_when, is_told, listening, span_of, Follow, ReceivesFile, Job, IsOk, Width, IsAtEnd}
 use Rattle.owed_replies.proofs.Common.{plan_named, WritesNoMoreMade, WritesMadeFile, ConsumesAtMost, MakesFile}
 
 -- a status that comes of a fault of the file blames a read, or the file's bytes
@@ -40,32 +40,33 @@ begins_file {header} {samples} (Some bytes) (Some after) same t = record {
       t.consumed;
 }
 
--- a run over a good file that nobody hears is done
-unheard_told : (taps : List KeptTap) (purpose : Purpose) (header : Header)
-    (first heard : List Sample) → PurposeIsUnheard purpose →
-    is_told (listening taps purpose header first) heard ≡ true
-unheard_told taps (Follow fingers paging traffic) header first heard unheard = absurd unheard
-unheard_told taps (Tuned fingers channel text) header first heard unheard = absurd unheard
-unheard_told taps purpose header first heard unheard = refl
+-- how a run over a good file ends doesn't depend on the taps
+pub told_alike : (taps : List KeptTap) (job : Job) (header : Header) (first samples : List Sample) →
+    is_told (listening taps job header first) samples
+    ≡ is_told (listening [] job header first) samples
+told_alike taps (Follow span workers fingers paging traffic limits) header first samples = refl
+told_alike taps job header first samples = refl
 
-pub ends_well : {T : Type 0} (taps : List KeptTap) (purpose : Purpose) (header : Header)
-    (first heard : List Sample) (told : Bool) (r : Result T Status) → PurposeIsUnheard purpose →
-    ended r ≡ end_when told → told ≡ is_told (listening taps purpose header first) heard →
+-- one over a file that nobody hears is done
+pub ends_well : {T : Type 0} (taps : List KeptTap) (job : Job) (header : Header)
+    (first heard : List Sample) (told : Bool) (r : Result T Status) → IsUnheard job →
+    ended r ≡ end_when told → told ≡ is_told (listening taps job header first) heard →
     ¬ (ended r ≡ NoSync)
-ends_well taps purpose header first heard told r unheard ends is never =
-    let well = unheard_told taps purpose header first heard unheard in
-    let done : ended r ≡ end_when true = ends ∙ ap end_when (is ∙ well) in
+ends_well taps job header first heard told r unheard ends is never =
+    let well : told ≡ true =
+    is ∙ told_alike taps job header first heard ∙ unheard header first heard in
+    let done : ended r ≡ end_when true = ends ∙ ap end_when well in
     cc
 
 -- ---- runs that end before the file does
 
-module _ {taps : List KeptTap} {r : Reception} {rest left : Option (List ℕ)}
+module _ {taps : List KeptTap} {job : Job} {rest left : Option (List ℕ)}
     {misread misread_now : ℕ} {SameSource : Type 0} {old : Option (List ℕ)} {miswritten : ℕ}
     {SameSink : Type 0} where
   -- memory ran out before anything was written
-  pub starved_file : SameSink → SameSource ⊎ IfSome rest (BeginsFile r.span) →
+  pub starved_file : SameSink → SameSource ⊎ IfSome rest (BeginsFile (span_of job)) →
       TakesNoMore rest left → misread ≤ misread_now →
-      ReceivesFile taps r NoMemory rest left misread misread_now SameSource old old miswritten
+      ReceivesFile taps job NoMemory rest left misread misread_now SameSource old old miswritten
       miswritten SameSink
   starved_file kept begun bound later = record {
     done = λ end. absurd end;
@@ -89,14 +90,14 @@ module _ {taps : List KeptTap} {r : Reception} {rest left : Option (List ℕ)}
     later_sink = omega arith;
   }
 
-module _ {taps : List KeptTap} {r : Reception} {rest left : Option (List ℕ)}
+module _ {taps : List KeptTap} {job : Job} {rest left : Option (List ℕ)}
     {misread misread_now : ℕ} {SameSource : Type 0} {old new : Option (List ℕ)}
     {miswritten miswritten_now : ℕ} {SameSink : Type 0} where
   -- a write failed after a good beginning
-  pub lost_file : IfSome rest (BeginsFile r.span) → Rose miswritten miswritten_now →
-      TakesNoMore rest left → WritesNoMore taps r rest left old new → misread ≤ misread_now →
+  pub lost_file : IfSome rest (BeginsFile (span_of job)) → Rose miswritten miswritten_now →
+      TakesNoMore rest left → WritesNoMore taps job rest left old new → misread ≤ misread_now →
       miswritten ≤ miswritten_now →
-      ReceivesFile taps r WriteFault rest left misread misread_now SameSource old new miswritten
+      ReceivesFile taps job WriteFault rest left misread misread_now SameSource old new miswritten
       miswritten_now SameSink
   lost_file begun lost bound written later later_sink = record {
     done = λ end. absurd end;

@@ -9,8 +9,9 @@ pub mod CutFiles
 pub mod Ends
 pub mod Faults
 pub mod Files
+pub mod JobRuns
+pub mod RankLines
 pub mod Replies
 pub mod Runs
 pub mod Stopped
-pub mod TaskRuns
 pub mod TuningLaw

@@ -3,15 +3,13 @@
 use Rattle.owed_replies.proofs.Common.{◌≡◌, ◌≢◌, ℕ, ◌≤◌, ◌⊎◌, inl, inr, List, [], length, refl, sym, ap, ◌∙◌, subst, Option, None, Some, Ok}
 use Rattle.owed_replies.proofs.Common.{IfErr, IfSome, OnErr, OnOk, Result, Err, map, take, append-nil, StartsWith, Appends, Sample, Header}
 use Rattle.owed_replies.proofs.Common.{IsSampleFile, FileFault, Width, file_unique, CellPlan, ScriptFault, plan_named, KeptTap, kept_by}
-use Rattle.owed_replies.proofs.Common.{Job, front_begins, taken_begins, Reception, Status, Task, Make, Receive, Trial, IsCut, IsEnd, ended}
-use Rattle.owed_replies.proofs.Common.{IsFaultIn, IsHeaderFault, IsSearchable, WritesText, PurposeIsUnheard, file_end_of, file_text, Reply}
-use Rattle.owed_replies.proofs.Common.{Purpose, WritesMadeFile, made_file, Answers, AnswersAfter, IsAnswered, IsEarlyFault, IsFaultyFile}
-use Rattle.owed_replies.proofs.Common.{IsFaultyScript, IsFileEnd, IsFileReply, IsPurposeEnd, IsReply, IsScriptReply, IsSearchEnd, IsTaskEnd}
-use Rattle.owed_replies.proofs.Common.{IsTaskReply, IsTrialEnd, IsTrialReply, IsVerdict, IsWholeFile, IsWholeScript, GainsNothingOr}
-use Rattle.owed_replies.proofs.Common.{taps_by, task_of, trial_line, AppendsPrefix}
+use Rattle.owed_replies.proofs.Common.{Job, front_begins, taken_begins, Status, Make, Trial, IsCut, IsEnd, ended, IsFaultIn, IsHeaderFault}
+use Rattle.owed_replies.proofs.Common.{IsSearchable, WritesText, file_end_of, file_text, span_of, Reply, WritesMadeFile, made_file, Answers}
+use Rattle.owed_replies.proofs.Common.{AnswersAfter, IsAnswered, IsEarlyFault, IsFaultyFile, IsFaultyScript, IsFileReply, IsReply}
+use Rattle.owed_replies.proofs.Common.{IsScriptReply, IsEndOf, IsTrialEnd, IsTrialReply, IsVerdict, IsWholeFile, IsWholeScript}
+use Rattle.owed_replies.proofs.Common.{GainsNothingOr, taps_for, trial_line, AppendsPrefix}
 use Rattle.owed_replies.proofs.Ends.{by_end}
 use Rattle.owed_replies.proofs.Files.{no_fault, one_fault}
-use Rattle.owed_replies.specs.declared.purpose.Purpose.TheVariants as purposes
 
 -- an early fault is one of the file's header, or of the script
 pub early_by : (status : Status) {Same : Type 0} →
@@ -25,11 +23,11 @@ early_by status file script early = absurd early
 -- ---- a run over a sample file
 
 -- all of the text was written
-pub text_owed : {taps : List KeptTap} {r : Reception} {status : Status} {bytes : List ℕ}
-    {old new : Option (List ℕ)} → WritesText taps r status bytes old new →
-    IsAnswered (IsFileReply taps r bytes) status old new
-text_owed {taps} {r} {status} w = record {
-  reply = Ok (file_text taps r w.searchable.header w.searchable.samples, status);
+pub text_owed : {taps : List KeptTap} {job : Job} {status : Status} {bytes : List ℕ}
+    {old new : Option (List ℕ)} → WritesText taps job status bytes old new →
+    IsAnswered (IsFileReply taps job bytes) status old new
+text_owed {taps} {job} {status} w = record {
+  reply = Ok (file_text taps job w.searchable.header w.searchable.samples, status);
   owed = record {
     header = w.searchable.header;
     samples = w.searchable.samples;
@@ -42,10 +40,10 @@ text_owed {taps} {r} {status} w = record {
 }
 
 -- the whole text of a file
-pub whole_file : {taps : List KeptTap} {r : Reception} {bytes : List ℕ} {header : Header}
-    {samples : List Sample} → IsSampleFile bytes header samples → r.span ≤ length samples →
-    IsWholeFile taps r bytes (file_text taps r header samples) (file_end_of r header samples)
-whole_file {taps} {r} {bytes} {header} {samples} file enough = record {
+pub whole_file : {taps : List KeptTap} {job : Job} {bytes : List ℕ} {header : Header}
+    {samples : List Sample} → IsSampleFile bytes header samples → span_of job ≤ length samples →
+    IsWholeFile taps job bytes (file_text taps job header samples) (file_end_of job header samples)
+whole_file {taps} {job} {bytes} {header} {samples} file enough = record {
   header = header;
   samples = samples;
   file = file;
@@ -55,35 +53,14 @@ whole_file {taps} {r} {bytes} {header} {samples} file enough = record {
 }
 
 -- the file's fault was told
-pub fault_owed : {taps : List KeptTap} {r : Reception} {bytes : List ℕ} {old new : Option (List ℕ)}
-    (fault : FileFault) → IsFaultIn r.span bytes fault →
-    IsAnswered (IsFileReply taps r bytes) (Status.BadFile fault) old new
+pub fault_owed : {taps : List KeptTap} {job : Job} {bytes : List ℕ} {old new : Option (List ℕ)}
+    (fault : FileFault) → IsFaultIn (span_of job) bytes fault →
+    IsAnswered (IsFileReply taps job bytes) (Status.BadFile fault) old new
 fault_owed fault is = record {
   reply = Err (Status.BadFile fault);
   owed = record { fault = fault; is = is; end_is = refl };
   answers = refl;
 }
-
--- without a handset
-pub search_end : (status : Status) → IsFileEnd status → status ≢ Status.NoSync →
-    IsSearchEnd status
-search_end Status.NoSync end alone = absurd (alone refl)
-search_end (Status.BadFile fault) end alone = end
-search_end (Status.BadScript fault) end alone = absurd end
-search_end Status.BadWords end alone = absurd end
-search_end status end alone = tt
-
--- for a purpose
-pub purpose_end : (purpose : Purpose) (status : Status) → IsFileEnd status →
-    (PurposeIsUnheard purpose → status ≢ Status.NoSync) → IsPurposeEnd purpose status
-purpose_end (purposes.Follow fingers paging traffic) status end alone = end
-purpose_end (purposes.Tuned fingers channel text) status end alone = end
-purpose_end purpose status end alone = search_end status end (alone tt)
-
--- no tap is kept of none
-pub none_kept : {A : Type 0} (limits : List ℕ) (form : A → ℕ) (taps : List A) → taps ≡ [] →
-    kept_by limits (map form taps) ≡ []
-none_kept limits form taps none = ap (λ (all : List _). kept_by limits (map form all)) none
 
 -- ---- a run over a script
 
@@ -183,22 +160,22 @@ trial_part number (Err status) causes = record {
 -- ---- one reply
 
 -- a sample file has one text and one end
-whole_alike : (taps : List KeptTap) (r : Reception) (bytes : List ℕ)
-    (one other : List ℕ × Status) → IsWholeFile taps r bytes one.0 one.1 →
-    IsWholeFile taps r bytes other.0 other.1 → one ≡ other
-whole_alike taps r bytes (text, end) (also, last) a b =
+whole_alike : (taps : List KeptTap) (job : Job) (bytes : List ℕ)
+    (one other : List ℕ × Status) → IsWholeFile taps job bytes one.0 one.1 →
+    IsWholeFile taps job bytes other.0 other.1 → one ≡ other
+whole_alike taps job bytes (text, end) (also, last) a b =
     let same = file_unique bytes a.header b.header a.samples b.samples a.file b.file in
     let texts : text ≡ also = a.text_is
-    ∙ ap (λ (h : Header). file_text taps r h a.samples) same.0
-    ∙ ap (file_text taps r b.header) same.1 ∙ sym b.text_is in
+    ∙ ap (λ (h : Header). file_text taps job h a.samples) same.0
+    ∙ ap (file_text taps job b.header) same.1 ∙ sym b.text_is in
     let ends : end ≡ last = a.end_is
-    ∙ ap (λ (h : Header). file_end_of r h a.samples) same.0
-    ∙ ap (file_end_of r b.header) same.1 ∙ sym b.end_is in
+    ∙ ap (λ (h : Header). file_end_of job h a.samples) same.0
+    ∙ ap (file_end_of job b.header) same.1 ∙ sym b.end_is in
     ap (λ (t : List ℕ). (t, end)) texts ∙ ap (λ (s : Status). (also, s)) ends
 
-searchable_of : (taps : List KeptTap) (r : Reception) (bytes text : List ℕ) (end : Status) →
-    IsWholeFile taps r bytes text end → IsSearchable bytes r.span
-searchable_of taps r bytes text end w = record {
+searchable_of : (taps : List KeptTap) (job : Job) (bytes text : List ℕ) (end : Status) →
+    IsWholeFile taps job bytes text end → IsSearchable bytes (span_of job)
+searchable_of taps job bytes text end w = record {
   header = w.header;
   samples = w.samples;
   file = w.file;
@@ -210,16 +187,16 @@ faulty_alike : (span : ℕ) (bytes : List ℕ) (one other : Status) → IsFaulty
 faulty_alike span bytes one other a b =
     a.end_is ∙ ap Status.BadFile (one_fault span bytes a.fault b.fault a.is b.is) ∙ sym b.end_is
 
-pub one_file_reply : (taps : List KeptTap) (r : Reception) (bytes : List ℕ) (one other : Reply) →
-    IsFileReply taps r bytes one → IsFileReply taps r bytes other → one ≡ other
-one_file_reply taps r bytes (Ok one) (Ok other) a b =
-    ap (λ (p : List ℕ × Status). Ok p) (whole_alike taps r bytes one other a b)
-one_file_reply taps r bytes (Ok one) (Err other) a b =
-    absurd (no_fault bytes r.span b.fault (searchable_of taps r bytes one.0 one.1 a) b.is)
-one_file_reply taps r bytes (Err one) (Ok other) a b =
-    absurd (no_fault bytes r.span a.fault (searchable_of taps r bytes other.0 other.1 b) a.is)
-one_file_reply taps r bytes (Err one) (Err other) a b =
-    ap (λ (s : Status). Err s) (faulty_alike r.span bytes one other a b)
+pub one_file_reply : (taps : List KeptTap) (job : Job) (bytes : List ℕ) (one other : Reply) →
+    IsFileReply taps job bytes one → IsFileReply taps job bytes other → one ≡ other
+one_file_reply taps job bytes (Ok one) (Ok other) a b =
+    ap (λ (p : List ℕ × Status). Ok p) (whole_alike taps job bytes one other a b)
+one_file_reply taps job bytes (Ok one) (Err other) a b =
+    absurd (no_fault bytes (span_of job) b.fault (searchable_of taps job bytes one.0 one.1 a) b.is)
+one_file_reply taps job bytes (Err one) (Ok other) a b =
+    absurd (no_fault bytes (span_of job) a.fault (searchable_of taps job bytes other.0 other.1 b) a.is)
+one_file_reply taps job bytes (Err one) (Err other) a b =
+    ap (λ (s : Status). Err s) (faulty_alike (span_of job) bytes one other a b)
 
 -- so has a script
 made_alike : (width : Width) (bytes : List ℕ) (one other : List ℕ × Status) →
@@ -262,21 +239,13 @@ one_trial_reply number (Ok one) (Ok other) a b =
 one_trial_reply number (Ok one) (Err other) a b = absurd b
 one_trial_reply number (Err one) other a b = absurd a
 
--- whatever the task
-pub one_task_reply : (forms : List ℕ) (task : Task) (bytes : List ℕ) (one other : Reply) →
-    IsTaskReply forms task bytes one → IsTaskReply forms task bytes other → one ≡ other
-one_task_reply forms (Receive r limits) bytes one other a b =
-    one_file_reply (taps_by limits forms) r bytes one other a b
-one_task_reply forms (Make width) bytes one other a b =
-    one_script_reply width bytes one other a b
-one_task_reply forms (Trial number workers) bytes one other a b =
-    one_trial_reply number one other a b
-
--- and the command
+-- whatever the command
 pub one_reply : (forms : List ℕ) (job : Job) (bytes : List ℕ) (one other : Reply) →
     IsReply forms job bytes one → IsReply forms job bytes other → one ≡ other
+one_reply forms (Make width) bytes one other a b = one_script_reply width bytes one other a b
+one_reply forms (Trial number workers) bytes one other a b = one_trial_reply number one other a b
 one_reply forms job bytes one other a b =
-    one_task_reply forms (task_of job) bytes one other a b
+    one_file_reply (taps_for job forms) job bytes one other a b
 
 -- ---- just that reply
 
@@ -288,34 +257,25 @@ settled held (Ok whole) status (Some now) answers =
 settled held (Err end) status new answers = answers
 
 -- an answer is that of the reply that the input is owed
-pub owed_answer : (forms : List ℕ) (task : Task) (status : Status) (bytes held : List ℕ) (reply : Reply)
+pub owed_answer : (forms : List ℕ) (job : Job) (status : Status) (bytes held : List ℕ) (reply : Reply)
     (rest old new : Option (List ℕ)) →
-    IfSome rest (λ bytes. IsAnswered (IsTaskReply forms task bytes) status old new) →
-    rest ≡ Some bytes → old ≡ Some held → IsTaskReply forms task bytes reply →
+    IfSome rest (λ bytes. IsAnswered (IsReply forms job bytes) status old new) →
+    rest ≡ Some bytes → old ≡ Some held → IsReply forms job bytes reply →
     AnswersAfter held reply status new
-owed_answer forms task status bytes held reply rest old new answered is was owed =
-    let a : IsAnswered (IsTaskReply forms task bytes) status (Some held) new =
+owed_answer forms job status bytes held reply rest old new answered is was owed =
+    let a : IsAnswered (IsReply forms job bytes) status (Some held) new =
     rw (is, was) at answered in
     subst (λ (r : Reply). AnswersAfter held r status new)
-    (one_task_reply forms task bytes a.reply reply a.owed owed)
+    (one_reply forms job bytes a.reply reply a.owed owed)
     (settled held a.reply status new a.answers)
 
-ends_otherwise : (purpose : Purpose) → ¬ (IsPurposeEnd purpose Status.BadWords)
-ends_otherwise purposes.Find end = end
-ends_otherwise purpose end = end
-
-pub named_well : (task : Task) → ¬ (IsTaskEnd task Status.BadWords)
-named_well (Receive r limits) end = ends_otherwise r.purpose end
-named_well task end = end
+pub named_well : (job : Job) → ¬ (IsEndOf job Status.BadWords)
+named_well (Make width) end = end
+named_well (Trial number workers) end = end
+named_well job end = end.0
 
 -- ---- what was asked for
 
 pub same_job : (named : Option Job) (one other : Job) → named ≡ Some one → named ≡ Some other →
     one ≡ other
 same_job named one other is so = cc
-
--- the task of one is that of the other
-pub task_named : {named : Option Job} (task : Task) (one other : Job) → task ≡ task_of one →
-    named ≡ Some one → named ≡ Some other → task ≡ task_of other
-task_named {named} task one other is so also =
-    is ∙ ap (λ (job : Job). task_of job) (same_job named one other so also)

@@ -3,13 +3,12 @@ use Rattle.owed_replies.proofs.Common.{◌≡◌, ℕ, ◌≤◌, ◌++◌, ◌�
 use Rattle.owed_replies.proofs.Common.{Bool, true, false, None, Some, IfSome, IsOk, Result, Ok, Err, OnOk, OnErr, Appends, Appends-kept}
 use Rattle.owed_replies.proofs.Common.{Rose, Sample, IsSampleFile, FileFault, Header, flat_map, header_spelling, sample_spelling, width_of}
 use Rattle.owed_replies.proofs.Common.{length-take-le, take-append-drop, flat_map-append, append_assoc, drop, Keeps, BeginsFile, ◌∙◌, Job}
-use Rattle.owed_replies.proofs.Common.{front_begins, KeptTap, Reception, Status, Task, Make, Receive, Trial, HasWritten, IsEnd, Answers}
-use Rattle.owed_replies.proofs.Common.{IsHeaderFault, AnswersAfter, Begins, IsAnswered, IsEarlyFault, IsReply, IsTaskReply, IsVerdict}
-use Rattle.owed_replies.proofs.Common.{Reply, GainsNothingOr, MayHold, IsPassedOn, PassesOn, RunsCommand, each_form, IsTaskPromising}
-use Rattle.owed_replies.proofs.Common.{TaskWritesWhole, TaskWritesTaken, WritesEach, task_of, kept_by, TellsEnd, AppendsPrefix, HasCause}
+use Rattle.owed_replies.proofs.Common.{front_begins, KeptTap, Status, Make, Trial, Follow, HasWritten, IsEnd, Answers}
+use Rattle.owed_replies.proofs.Common.{IsHeaderFault, AnswersAfter, Begins, IsAnswered, IsEarlyFault, IsReply, IsVerdict}
+use Rattle.owed_replies.proofs.Common.{Reply, GainsNothingOr, MayHold, IsPassedOn, PassesOn, RunsCommand, each_form, IsPromising}
+use Rattle.owed_replies.proofs.Common.{WritesWhole, WritesTaken, WritesEach, kept_by, TellsEnd, AppendsPrefix, HasCause}
 use Rattle.owed_replies.proofs.Common.{end_line, length, take_all, clean_end, clean_events, run_text}
 use Rattle.std.specs.Bool.{IsTrue}
-use Rattle.command_line.specs.declared.job.Job.TheVariants.{Follow}
 use Rattle.owed_replies.proofs.Commands.{write_fault_end}
 use Rattle.owed_replies.proofs.Ends.{by_end}
 use Rattle.cdma_io.specs.declared.file_fault.FileFault.TheVariants as file
@@ -50,10 +49,10 @@ part_kept begins old mid new wrote kept = record {
   part = wrote.part;
 }
 
-samples_kept : {taps : List KeptTap} {r : Reception} {header : Header} {bytes : List ℕ}
+samples_kept : {taps : List KeptTap} {job : Job} {header : Header} {bytes : List ℕ}
     {counted : ℕ → Type 0} (old mid new : Option (List ℕ)) →
-    HasWritten taps r header bytes counted old mid → Keeps mid new →
-    HasWritten taps r header bytes counted old new
+    HasWritten taps job header bytes counted old mid → Keeps mid new →
+    HasWritten taps job header bytes counted old new
 samples_kept old mid new wrote kept = record {
   samples = wrote.samples;
   lawful = wrote.lawful;
@@ -65,23 +64,23 @@ samples_kept old mid new wrote kept = record {
   written = Appends-kept old mid new _ wrote.written kept;
 }
 
-first_kept : (forms : List ℕ) (task : Task) {Still Now : Type 0} (rest left old mid new : Option (List ℕ)) →
-    (Still → Now) → TaskWritesTaken forms task Still rest left old mid → Keeps mid new →
-    TaskWritesTaken forms task Now rest left old new
-first_kept forms (Receive r limits) None left old mid new grows first kept = tt
-first_kept forms (Receive r limits) (Some bytes) left old mid new grows first kept =
-    λ header taken n opened consumed long enough some.
-    samples_kept old mid new (first header taken n opened consumed long enough some) kept
+first_kept : (forms : List ℕ) (job : Job) {Still Now : Type 0} (rest left old mid new : Option (List ℕ)) →
+    (Still → Now) → WritesTaken forms job Still rest left old mid → Keeps mid new →
+    WritesTaken forms job Now rest left old new
 first_kept forms (Make width) rest left old mid new grows first kept = grows first
 first_kept forms (Trial number workers) rest left old mid new grows first kept = tt
+first_kept forms job None left old mid new grows first kept = tt
+first_kept forms job (Some bytes) left old mid new grows first kept =
+    λ header taken n opened consumed long enough some.
+    samples_kept old mid new (first header taken n opened consumed long enough some) kept
 
-all_kept : (forms : List ℕ) (task : Task) (rest old mid new : Option (List ℕ)) →
-    TaskWritesWhole forms task rest old mid → Keeps mid new → TaskWritesWhole forms task rest old new
-all_kept forms (Receive r limits) None old mid new all kept = tt
-all_kept forms (Receive r limits) (Some bytes) old mid new all kept =
-    λ header opened. samples_kept old mid new (all header opened) kept
+all_kept : (forms : List ℕ) (job : Job) (rest old mid new : Option (List ℕ)) →
+    WritesWhole forms job rest old mid → Keeps mid new → WritesWhole forms job rest old new
 all_kept forms (Make width) rest old mid new all kept = tt
 all_kept forms (Trial number workers) rest old mid new all kept = tt
+all_kept forms job None old mid new all kept = tt
+all_kept forms job (Some bytes) old mid new all kept =
+    λ header opened. samples_kept old mid new (all header opened) kept
 
 -- ---- a good end comes of a good beginning
 
@@ -109,25 +108,25 @@ file_begins {span} {bytes} {header} {samples} file enough =
           (flat_map spelled (drop span samples))));
     }
 
-owed_well : (forms : List ℕ) (task : Task) (bytes : List ℕ) (reply : Reply) (status : Status)
-    (old new : Option (List ℕ)) → IsTaskReply forms task bytes reply →
-    Answers reply status old new → IsEnd status → IsTaskPromising task bytes
-owed_well forms (Receive r limits) bytes (Ok whole) status old new owed answers end =
-    file_begins owed.file owed.enough
-owed_well forms (Receive r limits) bytes (Err fault) status old new owed answers end =
-    absurd (subst IsEnd (answers ∙ owed.end_is) end)
+owed_well : (forms : List ℕ) (job : Job) (bytes : List ℕ) (reply : Reply) (status : Status)
+    (old new : Option (List ℕ)) → IsReply forms job bytes reply →
+    Answers reply status old new → IsEnd status → IsPromising job bytes
 owed_well forms (Make width) bytes (Ok whole) status old new owed answers end =
     subst (λ (r : Result _ _). IsOk r) (sym owed.named) refl
 owed_well forms (Make width) bytes (Err fault) status old new owed answers end =
     absurd (subst IsEnd (answers ∙ owed.end_is) end)
 owed_well forms (Trial number workers) bytes reply status old new owed answers end = tt
+owed_well forms job bytes (Ok whole) status old new owed answers end =
+    file_begins owed.file owed.enough
+owed_well forms job bytes (Err fault) status old new owed answers end =
+    absurd (subst IsEnd (answers ∙ owed.end_is) end)
 
-promising : (forms : List ℕ) (task : Task) (status : Status) (rest old new : Option (List ℕ)) →
-    IsEnd status → IfSome rest (λ bytes. IsAnswered (IsTaskReply forms task bytes) status old new) →
-    IfSome rest (IsTaskPromising task)
-promising forms task status None old new end answered = tt
-promising forms task status (Some bytes) old new end answered =
-    owed_well forms task bytes answered.reply status old new answered.owed answered.answers end
+promising : (forms : List ℕ) (job : Job) (status : Status) (rest old new : Option (List ℕ)) →
+    IsEnd status → IfSome rest (λ bytes. IsAnswered (IsReply forms job bytes) status old new) →
+    IfSome rest (IsPromising job)
+promising forms job status None old new end answered = tt
+promising forms job status (Some bytes) old new end answered =
+    owed_well forms job bytes answered.reply status old new answered.owed answered.answers end
 
 -- ---- ends after which nothing is held
 
@@ -217,10 +216,10 @@ module _ {forms : List ℕ} {named : Option Job} {rest left old mid new : Option
         bound = run.bound;
         written = λ job is. part_kept (Begins forms job rest left) old mid new (run.written job is) kept;
         cut = λ job is cut.
-            first_kept forms (task_of job) rest left old mid new
+            first_kept forms job rest left old mid new
             (λ none. subst (λ (k : Option (List ℕ)). Keeps k new) (unwritten none) kept)
             (run.cut job is cut) kept;
-        long = λ job is long. all_kept forms (task_of job) rest old mid new (run.long job is long) kept;
+        long = λ job is long. all_kept forms job rest old mid new (run.long job is long) kept;
         later_source = run.later_source;
         later_sink = omega (arith, run.later_sink, later);
       }
@@ -242,12 +241,12 @@ module _ {forms : List ℕ} {named : Option Job} {rest left old mid new : Option
             header samples is told was file enough clean free follows reads writes.
             absurd (writes fell);
         complete = λ job is well writes. absurd (writes fell);
-        kind = λ job is. write_fault_end (task_of job);
+        kind = λ job is. write_fault_end job;
         verdict = λ job is verdict. absurd verdict;
         read_fault = λ is. absurd (cc);
         write_fault = λ job is lost. (
           fell,
-          promising forms (task_of job) before rest old mid end
+          promising forms job before rest old mid end
               (run.verdict job is (by_end IsVerdict before end tt tt)),
         );
         memory = λ job is none. absurd (cc);

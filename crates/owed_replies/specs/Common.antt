@@ -26,8 +26,4 @@ pub use Rattle.heard_events.specs.declared.event.Event.TheVariants.{Frame, Pilot
 pub use Rattle.heard_events.specs.declared.settings.Settings.{Settings}
 pub use Rattle.pilot_search.specs.Near.{near_deltas}
 pub use Rattle.pilot_search.specs.Search.{best_phase, energy}
-pub use Rattle.owed_replies.specs.declared.purpose.Purpose.{Purpose}
-pub use Rattle.owed_replies.specs.declared.reception.Reception.{Reception}
 pub use Rattle.owed_replies.specs.declared.status.Status.{Status}
-pub use Rattle.owed_replies.specs.declared.task.Task.{Task}
-pub use Rattle.owed_replies.specs.declared.task.Task.TheVariants.{Make, Receive, Trial}

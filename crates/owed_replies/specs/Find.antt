@@ -2,7 +2,7 @@
 use Rattle.owed_replies.specs.Common.{Sample, ConsumesAtMost, Header, FileFault, IsLawfulHeader}
 use Rattle.owed_replies.specs.Common.{IsSampleFile, HasBits, Reading, header_spelling, next_place}
 use Rattle.owed_replies.specs.Common.{opening, sample_len, sample_spelling, width_of, Width, Status}
-use Rattle.owed_replies.specs.Common.{Reception, KeptTap}
+use Rattle.owed_replies.specs.Common.{Job, KeptTap}
 use Rattle.std.specs.Prelude.{◌≡◌, ℕ, ◌+◌, ◌*◌, ◌<◌, ◌≤◌, ◌++◌, ◌⊎◌, List, [], length, All, Option}
 use Rattle.std.specs.Prelude.{IfSome, Result, Ok, Err, Some}
 use Rattle.std.specs.List.{flat_map}
@@ -11,7 +11,7 @@ use Rattle.std.specs.Io.KnownBytes.{Appends, Consumes}
 use Rattle.cdma_io.specs.declared.file_fault.FileFault.TheVariants.{Short, Extra, ReadFault, TooFew}
 use Rattle.owed_replies.specs.declared.status.Status.TheVariants.{Done, NoSync, BadFile, WriteFault}
 use Rattle.owed_replies.specs.declared.status.Status.TheVariants.{BadWords, BadScript}
-use Rattle.owed_replies.specs.Hearing.{file_end_of, file_text}
+use Rattle.owed_replies.specs.Hearing.{file_end_of, file_text, span_of}
 use Rattle.owed_replies.specs.declared.status.Status.TheVariants as ends
 
 -- bytes that are a sample file of so many samples or more
@@ -52,35 +52,35 @@ pub record PassesSamples (width : Width) (count : ℕ) (old new : Option (List �
   pub consumed : Consumes old new (flat_map (sample_spelling width) samples)
 
 -- the file of these bytes was read, its text written, and the run ended as it should
-pub record WritesText (taps : List KeptTap) (r : Reception) (status : Status) (bytes : List ℕ)
+pub record WritesText (taps : List KeptTap) (job : Job) (status : Status) (bytes : List ℕ)
     (old new : Option (List ℕ)) : Type 0 where
-  pub searchable : IsSearchable bytes r.span
-  pub written : Appends old new (file_text taps r searchable.header searchable.samples)
-  pub ends : status ≡ file_end_of r searchable.header searchable.samples
+  pub searchable : IsSearchable bytes (span_of job)
+  pub written : Appends old new (file_text taps job searchable.header searchable.samples)
+  pub ends : status ≡ file_end_of job searchable.header searchable.samples
 
 -- A text is a beginning of the text of samples, as many as the span is or more and no more than the
 -- header counts, each within its width, with which the file of these bytes begins after that
 -- lawful header, which so is the one that they open with; and all of these samples were taken, with
 -- more bytes or none.
-pub record BeginsText (taps : List KeptTap) (r : Reception) (rest left : Option (List ℕ))
+pub record BeginsText (taps : List KeptTap) (job : Job) (rest left : Option (List ℕ))
     (text : List ℕ) : Type 0 where
   pub header : Header
   pub samples : List Sample
   pub more : List ℕ
   pub lawful : IsLawfulHeader header
-  pub counted : r.span ≤ length samples
+  pub counted : span_of job ≤ length samples
   pub most : length samples ≤ header.count
   pub in_range : All (HasBits (width_of header)) samples
   pub taken : Consumes rest left
       ((header_spelling header ++ flat_map (sample_spelling (width_of header)) samples) ++ more)
-  pub begins : StartsWith (file_text taps r header samples) text
+  pub begins : StartsWith (file_text taps job header samples) text
 
 -- known bytes grew by nothing, or by a beginning of that text
-pub record WritesNoMore (taps : List KeptTap) (r : Reception)
+pub record WritesNoMore (taps : List KeptTap) (job : Job)
     (rest left old new : Option (List ℕ)) : Type 0 where
   pub text : List ℕ
   pub written : Appends old new text
-  pub part : (text ≡ []) ⊎ BeginsText taps r rest left text
+  pub part : (text ≡ []) ⊎ BeginsText taps job rest left text
 
 -- a run that read its input to the end and wrote all of its text
 abbrev pub IsEnd : Status → Type 0

@@ -1,8 +1,8 @@
 -- The text for a sample file, and the events of a handset on the way.
 use Rattle.owed_replies.specs.Common.{sample_spelling, near_deltas, sent_events, best_phase, Sample}
-use Rattle.owed_replies.specs.Common.{tuned_text, sync_sent, TunedText, Reception, CellPlan, Header}
+use Rattle.owed_replies.specs.Common.{tuned_text, sync_sent, TunedText, Job, CellPlan, Header}
 use Rattle.owed_replies.specs.Common.{Settings, run_text, HasBits, Channel, Traffic, KeptTap, Width}
-use Rattle.owed_replies.specs.Common.{Purpose, energy, events, Tuning, Status, Event, Pilot}
+use Rattle.owed_replies.specs.Common.{energy, events, Tuning, Status, Event, Pilot}
 use Rattle.std.specs.Prelude.{◌≡◌, ℕ, ◌-◌, ◌≤◌, replicate, pos, slice_get, Bool, true, List, []}
 use Rattle.std.specs.Prelude.{if◌then◌else◌, ◌++◌, length, take, All, Option, None, Some, is_some}
 use Rattle.std.specs.Prelude.{nat_lt}
@@ -11,26 +11,21 @@ use Rattle.std.specs.Io.{StartsWith}
 use Rattle.std.specs.Io.KnownBytes.{Appends, Consumes}
 use Rattle.pilot_search.specs.declared.paths.Near.{Near}
 use Rattle.heard_events.specs.Marks.{mark}
-use Rattle.command_line.specs.Args.{IsFingers, IsLawfulTraffic, IsPaging}
+use Rattle.command_line.specs.Args.{IsFingers, IsLawfulTraffic, IsPaging, job_search}
+use Rattle.command_line.specs.declared.job.Job.TheVariants.{Follow, Idle, Rate2, Survey}
 use Rattle.event_tap.specs.EventLines.{event_line}
+use Rattle.event_tap.specs.declared.tuned_text.TunedText.TheVariants.{Listed, RateSetTwo, Slots}
 use Rattle.owed_replies.specs.CleanFiles.{cell_energy}
 use Rattle.owed_replies.specs.Ranks.{survey_text}
-use Rattle.owed_replies.specs.declared.purpose.Purpose.TheVariants.{Find, Follow, Survey, Tuned}
 use Rattle.owed_replies.specs.declared.status.Status.TheVariants.{Done, NoSync}
+use Rattle.command_line.specs.declared.job.Job.TheVariants as jobs
+use Rattle.heard_events.specs.declared.channel.Channel.TheVariants as channels
 
 -- ---- the text of a file
 
 -- the event of the samples' best phase
 unfoldable pub best_pilot : List Sample → Event
 best_pilot samples = Pilot (best_phase samples) (energy samples (best_phase samples))
-
--- the text of the first samples alone: the pilot's line, or the lines of the ranks; there is none
--- where the file is heard
-abbrev pub first_text : Purpose → List Sample → List ℕ
-first_text Find first = event_line (best_pilot first)
-first_text (Follow fingers paging traffic) first = []
-first_text (Tuned fingers channel text) first = []
-first_text (Survey base width top) first = survey_text base width top first
 
 -- the settings of a handset for a file of this header
 abbrev pub settings_for : Header → ℕ → ℕ → Option Traffic → Settings
@@ -61,38 +56,58 @@ tuning_for settings first =
       traffic = settings.traffic;
     }
 
--- who hears a file: nobody, or a handset whose events these taps hear, or a handset for the mark
--- and a receiver for the frames of one channel after it
+-- who hears a file: nobody, and this text of its first samples is all that is written; or a handset
+-- whose events these taps hear; or a handset for the mark and a receiver for the frames of one
+-- channel after it
 pub data Listening : Type 0 where
-  Nobody : Listening
+  Unheard : List ℕ → Listening
   ByTaps : Tuning → List KeptTap → Listening
   ByFrames : Tuning → Channel → TunedText → Listening
 
--- who hears one of this header with these first samples: these taps, where a handset follows it
-abbrev pub listening : List KeptTap → Purpose → Header → List Sample → Listening
-listening taps Find header first = Nobody
-listening taps (Follow fingers paging traffic) header first =
-    ByTaps (tuning_for (settings_for header fingers paging traffic) first) taps
-listening taps (Tuned fingers channel text) header first =
-    ByFrames (tuning_for (waiting header fingers) first) channel text
-listening taps (Survey base width top) header first = Nobody
+-- a traffic channel of these numbers
+abbrev pub traffic_channel_with : ℕ → ℕ → ℕ → Channel
+traffic_channel_with esn row offset =
+    channels.Traffic (record { esn = esn; row = row; offset = offset })
 
--- what is told of samples
+-- who hears a file of this header with these first samples, command by command: these taps, if a
+-- handset follows it. `find` writes the line of the best pilot. No file is received for `make` and
+-- `trial`.
+abbrev pub listening : List KeptTap → Job → Header → List Sample → Listening
+listening taps (Follow span workers fingers paging traffic limits) header first =
+    ByTaps (tuning_for (settings_for header fingers paging traffic) first) taps
+listening taps (Rate2 span workers fingers offset esn row) header first =
+    ByFrames (tuning_for (waiting header fingers) first) (traffic_channel_with esn row offset)
+    RateSetTwo
+listening taps (jobs.List span workers fingers offset esn row k) header first =
+    ByFrames (tuning_for (waiting header fingers) first) (traffic_channel_with esn row offset)
+    (Listed k)
+listening taps (Idle span workers fingers paging key cycle) header first =
+    ByFrames (tuning_for (waiting header fingers) first) (channels.Paging paging) (Slots key cycle)
+listening taps (Survey span workers base width top) header first =
+    Unheard (survey_text base width top first)
+listening taps job header first = Unheard (event_line (best_pilot first))
+
+-- the text for samples
 unfoldable pub told : Listening → List Sample → List ℕ
-told Nobody samples = []
+told (Unheard text) samples = text
 told (ByTaps t taps) samples = run_text taps (events t samples)
 told (ByFrames t channel text) samples = tuned_text text t channel samples
 
--- the text of a file, or of one of which only so many samples are known: that of the first ones,
--- and what is told of all
-unfoldable pub file_text : List KeptTap → Reception → Header → List Sample → List ℕ
-file_text taps r header samples =
-    first_text r.purpose (take r.span samples)
-    ++ told (listening taps r.purpose header (take r.span samples)) samples
+-- in how many of the first samples of a file the pilot is searched, or all are measured
+abbrev pub span_of : Job → ℕ
+span_of job = (job_search job).span
+
+-- who hears a file of this header and these samples
+abbrev pub listening_to : List KeptTap → Job → Header → List Sample → Listening
+listening_to taps job header samples = listening taps job header (take (span_of job) samples)
+
+-- the text of a file, or of one of which only so many samples are known
+unfoldable pub file_text : List KeptTap → Job → Header → List Sample → List ℕ
+file_text taps job header samples = told (listening_to taps job header samples) samples
 
 -- who hears ends well where a message told the time
 abbrev pub is_told : Listening → List Sample → Bool
-is_told Nobody samples = true
+is_told (Unheard text) samples = true
 is_told (ByTaps t taps) samples = is_some (mark t samples (length samples))
 is_told (ByFrames t channel text) samples = is_some (mark t samples (length samples))
 
@@ -100,15 +115,14 @@ abbrev pub end_when : Bool → Status
 end_when told = if told then Done else NoSync
 
 -- how a run over a good file ends, whatever the taps
-unfoldable pub file_end_of : Reception → Header → List Sample → Status
-file_end_of r header samples =
-    end_when (is_told (listening [] r.purpose header (take r.span samples)) samples)
+unfoldable pub file_end_of : Job → Header → List Sample → Status
+file_end_of job header samples = end_when (is_told (listening_to [] job header samples) samples)
 
--- a file that nobody hears
-abbrev pub PurposeIsUnheard : Purpose → Type 0
-PurposeIsUnheard Find = Unit {0}
-PurposeIsUnheard (Survey base width top) = Unit {0}
-PurposeIsUnheard purpose = ⊥
+-- no file for this job needs a message that tells the time: nobody hears it
+abbrev pub IsUnheard : Job → Type 0
+IsUnheard job =
+    (header : Header) (first samples : List Sample) →
+    is_told (listening [] job header first) samples ≡ true
 
 -- what is told of a clean link: the pilot at the cell's phase, all whole transmissions, the whole
 -- pages of the paging channel that is followed, and the frames of the traffic channel that is, with

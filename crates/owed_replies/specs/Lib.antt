@@ -3,13 +3,13 @@ pub mod CleanFiles
 pub mod CleanLinks
 pub mod Common
 pub mod Find
+pub mod Findings
 pub mod Hearing
+pub mod JobRuns
 pub mod Make
 pub mod Ranks
 pub mod Replies
 pub mod Runs
 pub mod Status
-pub mod TaskRuns
-pub mod Tasks
 pub mod Trials
 pub mod TuningLaw

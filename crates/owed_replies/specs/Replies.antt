@@ -2,7 +2,7 @@
 -- run ends, or the fault of the input.
 use Rattle.owed_replies.specs.Common.{Sample, FileFault, Header, Width, ConsumesAtMost, CellPlan}
 use Rattle.owed_replies.specs.Common.{IsSampleFile, ScriptFault, plan_named, KeptTap, kept_by, Job}
-use Rattle.owed_replies.specs.Common.{Purpose, Reception, Status, Task, Make, Receive, Trial}
+use Rattle.owed_replies.specs.Common.{Status}
 use Rattle.std.specs.Prelude.{◌≡◌, ◌≢◌, ℕ, ◌≤◌, ◌++◌, ◌⊎◌, List, [], length, Option, IsOk, None, Ok}
 use Rattle.std.specs.Prelude.{Some, Result, Err}
 use Rattle.std.specs.Io.{StartsWith}
@@ -10,13 +10,13 @@ use Rattle.std.specs.Io.KnownBytes.{Appends}
 use Rattle.owed_replies.specs.Broken.{WritesAll, WritesFirst}
 use Rattle.owed_replies.specs.Find.{BeginsFile, BeginsText, IsFaultIn, IsHeaderFault, IsSearchable}
 use Rattle.owed_replies.specs.Find.{TakesNoMore}
-use Rattle.owed_replies.specs.Hearing.{file_end_of, file_text}
+use Rattle.owed_replies.specs.Hearing.{IsUnheard, file_end_of, file_text, span_of}
 use Rattle.owed_replies.specs.Make.{BeginsMadeFile, made_file}
-use Rattle.owed_replies.specs.Tasks.{task_of}
 use Rattle.owed_replies.specs.Trials.{trial_line}
+use Rattle.command_line.specs.Args.{job_limits}
+use Rattle.command_line.specs.declared.job.Job.TheVariants.{Make, Trial}
 use Rattle.cdma_io.specs.declared.file_fault.FileFault.TheVariants as file
 use Rattle.cell_script.specs.declared.script_fault.ScriptFault.TheVariants as script
-use Rattle.owed_replies.specs.declared.purpose.Purpose.TheVariants as purposes
 use Rattle.owed_replies.specs.declared.status.Status.TheVariants as ends
 
 -- ---- replies
@@ -27,14 +27,14 @@ Reply = Result (List ℕ × Status) Status
 
 -- the bytes are a sample file of as many samples as the span is or more, and this is its text and
 -- its end
-pub record IsWholeFile (taps : List KeptTap) (r : Reception) (bytes text : List ℕ)
+pub record IsWholeFile (taps : List KeptTap) (job : Job) (bytes text : List ℕ)
     (end : Status) : Type 0 where
   pub header : Header
   pub samples : List Sample
   pub file : IsSampleFile bytes header samples
-  pub enough : r.span ≤ length samples
-  pub text_is : text ≡ file_text taps r header samples
-  pub end_is : end ≡ file_end_of r header samples
+  pub enough : span_of job ≤ length samples
+  pub text_is : text ≡ file_text taps job header samples
+  pub end_is : end ≡ file_end_of job header samples
 
 -- the bytes have this fault as a file of so many samples or more
 pub record IsFaultyFile (span : ℕ) (bytes : List ℕ) (end : Status) : Type 0 where
@@ -42,9 +42,9 @@ pub record IsFaultyFile (span : ℕ) (bytes : List ℕ) (end : Status) : Type 0 
   pub is : IsFaultIn span bytes fault
   pub end_is : end ≡ ends.BadFile fault
 
-abbrev pub IsFileReply : List KeptTap → Reception → List ℕ → Reply → Type 0
-IsFileReply taps r bytes (Ok whole) = IsWholeFile taps r bytes whole.0 whole.1
-IsFileReply taps r bytes (Err end) = IsFaultyFile r.span bytes end
+abbrev pub IsFileReply : List KeptTap → Job → List ℕ → Reply → Type 0
+IsFileReply taps job bytes (Ok whole) = IsWholeFile taps job bytes whole.0 whole.1
+IsFileReply taps job bytes (Err end) = IsFaultyFile (span_of job) bytes end
 
 -- the bytes are a script that names a cell, and this is the cell's file
 pub record IsWholeScript (width : Width) (bytes text : List ℕ) (end : Status) : Type 0 where
@@ -68,70 +68,70 @@ abbrev pub IsTrialReply : ℕ → Reply → Type 0
 IsTrialReply number (Ok whole) = whole ≡ (trial_line number, ends.Done)
 IsTrialReply number (Err end) = ⊥
 
--- ---- task by task
+-- ---- command by command: `make` reads a script, `trial` nothing, and all others a sample file
 
--- the taps that hear a file, by the limits of their forms; there are none where they hear nothing
-abbrev pub taps_by : Option (List ℕ) → List ℕ → List KeptTap
-taps_by None forms = []
-taps_by (Some limits) forms = kept_by limits forms
+-- the taps of these forms that hear a file
+abbrev pub taps_for : Job → List ℕ → List KeptTap
+taps_for job forms = kept_by (job_limits job) forms
 
--- what a run over these bytes owes, with taps of these forms
-abbrev pub IsTaskReply : List ℕ → Task → List ℕ → Reply → Type 0
-IsTaskReply forms (Receive r limits) = IsFileReply (taps_by limits forms) r
-IsTaskReply forms (Make width) = IsScriptReply width
-IsTaskReply forms (Trial number workers) = λ bytes. IsTrialReply number
+-- the required reply to these bytes, with taps of these forms
+abbrev pub IsReply : List ℕ → Job → List ℕ → Reply → Type 0
+IsReply forms (Make width) = IsScriptReply width
+IsReply forms (Trial number workers) = λ bytes. IsTrialReply number
+IsReply forms job = IsFileReply (taps_for job forms) job
 
 -- what memory may run out after, or a write fail after: a good beginning of the input
-abbrev pub IsTaskPromising : Task → List ℕ → Type 0
-IsTaskPromising (Receive r limits) = BeginsFile r.span
-IsTaskPromising (Make width) = λ bytes. IsOk (plan_named width bytes)
-IsTaskPromising (Trial number workers) = λ bytes. Unit {0}
+abbrev pub IsPromising : Job → List ℕ → Type 0
+IsPromising (Make width) = λ bytes. IsOk (plan_named width bytes)
+IsPromising (Trial number workers) = λ bytes. Unit {0}
+IsPromising job = BeginsFile (span_of job)
 
 -- a run that reads its input to the end, where it ends well; a trial reads nothing
-abbrev pub TaskReadsInput : Task → Type 0
-TaskReadsInput (Trial number workers) = ⊥
-TaskReadsInput task = Unit {0}
+abbrev pub ReadsInput : Job → Type 0
+ReadsInput (Trial number workers) = ⊥
+ReadsInput job = Unit {0}
 
 -- what may have been written, whatever the answer: a beginning of the text of what the input begins
 -- with, and of no more than was taken of it
-abbrev pub TaskBegins : List ℕ → Task → Option (List ℕ) → Option (List ℕ) → List ℕ → Type 0
-TaskBegins forms (Receive r limits) = BeginsText (taps_by limits forms) r
-TaskBegins forms (Make width) = λ rest left text. BeginsMadeFile width rest text
-TaskBegins forms (Trial number workers) = λ rest left text. StartsWith (trial_line number) text
+abbrev pub Begins : List ℕ → Job → Option (List ℕ) → Option (List ℕ) → List ℕ → Type 0
+Begins forms (Make width) = λ rest left text. BeginsMadeFile width rest text
+Begins forms (Trial number workers) = λ rest left text. StartsWith (trial_line number) text
+Begins forms job = BeginsText (taps_for job forms) job
 
 -- what was written where the input breaks off, or a read failed: the text of the first of the
 -- samples that were taken; and nothing of a script, which is read before anything is written, as
 -- this type says
-abbrev pub TaskWritesTaken : List ℕ → Task → Type 0 → Option (List ℕ) → Option (List ℕ) →
+abbrev pub WritesTaken : List ℕ → Job → Type 0 → Option (List ℕ) → Option (List ℕ) →
     Option (List ℕ) → Option (List ℕ) → Type 0
-TaskWritesTaken forms (Receive r limits) Unwritten = WritesFirst (taps_by limits forms) r
-TaskWritesTaken forms (Make width) Unwritten = λ rest left old new. Unwritten
-TaskWritesTaken forms (Trial number workers) Unwritten = λ rest left old new. Unit {0}
+WritesTaken forms (Make width) Unwritten = λ rest left old new. Unwritten
+WritesTaken forms (Trial number workers) Unwritten = λ rest left old new. Unit {0}
+WritesTaken forms job Unwritten = WritesFirst (taps_for job forms) job
 
 -- and where it goes on after its samples: their whole text
-abbrev pub TaskWritesWhole : List ℕ → Task → Option (List ℕ) → Option (List ℕ) → Option (List ℕ) →
+abbrev pub WritesWhole : List ℕ → Job → Option (List ℕ) → Option (List ℕ) → Option (List ℕ) →
     Type 0
-TaskWritesWhole forms (Receive r limits) = WritesAll (taps_by limits forms) r
-TaskWritesWhole forms task = λ rest old new. Unit {0}
+WritesWhole forms (Make width) = λ rest old new. Unit {0}
+WritesWhole forms (Trial number workers) = λ rest old new. Unit {0}
+WritesWhole forms job = WritesAll (taps_for job forms) job
 
 -- how many bytes are taken of the input at most, however the run ends: of a file a byte more than
 -- its header counts, of a script a byte more than it may have, and for a trial none
-abbrev pub TaskTakesNoMore : Task → Option (List ℕ) → Option (List ℕ) → Type 0
-TaskTakesNoMore (Receive r limits) = TakesNoMore
-TaskTakesNoMore (Make width) = λ rest left. ConsumesAtMost 1048577 rest left
-TaskTakesNoMore (Trial number workers) = λ rest left. ConsumesAtMost 0 rest left
+abbrev pub BoundsInput : Job → Option (List ℕ) → Option (List ℕ) → Type 0
+BoundsInput (Make width) = λ rest left. ConsumesAtMost 1048577 rest left
+BoundsInput (Trial number workers) = λ rest left. ConsumesAtMost 0 rest left
+BoundsInput job = TakesNoMore
 
 -- an input without a fault
-abbrev pub IsLawfulTaskInput : Task → List ℕ → Type 0
-IsLawfulTaskInput (Receive r limits) = λ bytes. IsSearchable bytes r.span
-IsLawfulTaskInput (Make width) = λ bytes. IsOk (plan_named width bytes)
-IsLawfulTaskInput (Trial number workers) = λ bytes. Unit {0}
+abbrev pub IsLawfulInput : Job → List ℕ → Type 0
+IsLawfulInput (Make width) = λ bytes. IsOk (plan_named width bytes)
+IsLawfulInput (Trial number workers) = λ bytes. Unit {0}
+IsLawfulInput job = λ bytes. IsSearchable bytes (span_of job)
 
 -- the input is known to have no fault, and no read of it failed; a trial has none
-abbrev pub TaskReadsWell : Task → Option (List ℕ) → Type 0 → Type 0
-TaskReadsWell (Trial number workers) rest Failed = Unit {0}
-TaskReadsWell task None Failed = ⊥
-TaskReadsWell task (Some bytes) Failed = IsLawfulTaskInput task bytes × ¬ Failed
+abbrev pub ReadsWell : Job → Option (List ℕ) → Type 0 → Type 0
+ReadsWell (Trial number workers) rest Failed = Unit {0}
+ReadsWell job None Failed = ⊥
+ReadsWell job (Some bytes) Failed = IsLawfulInput job bytes × ¬ Failed
 
 -- ---- ends
 
@@ -141,11 +141,6 @@ IsFileEnd ends.BadWords = ⊥
 IsFileEnd (ends.BadScript fault) = ⊥
 IsFileEnd (ends.BadFile fault) = fault ≢ file.ReadFault
 IsFileEnd status = Unit {0}
-
--- and over one without a handset
-abbrev pub IsSearchEnd : Status → Type 0
-IsSearchEnd ends.NoSync = ⊥
-IsSearchEnd status = IsFileEnd status
 
 -- and over a script
 abbrev pub IsScriptEnd : Status → Type 0
@@ -162,52 +157,11 @@ IsTrialEnd ends.WriteFault = Unit {0}
 IsTrialEnd ends.NoMemory = Unit {0}
 IsTrialEnd status = ⊥
 
--- the ends of a run over a sample file for a purpose
-abbrev pub IsPurposeEnd : Purpose → Status → Type 0
-IsPurposeEnd purposes.Find = IsSearchEnd
-IsPurposeEnd (purposes.Survey base width top) = IsSearchEnd
-IsPurposeEnd purpose = IsFileEnd
-
--- the ends of a task
-abbrev pub IsTaskEnd : Task → Status → Type 0
-IsTaskEnd (Receive r limits) = IsPurposeEnd r.purpose
-IsTaskEnd (Make width) = IsScriptEnd
-IsTaskEnd (Trial number workers) = IsTrialEnd
-
--- ---- command by command
-
--- each of these of a job is that of its task; `follow` alone uses the taps
-
-abbrev pub IsReply : List ℕ → Job → List ℕ → Reply → Type 0
-IsReply forms job = IsTaskReply forms (task_of job)
-
-abbrev pub IsPromising : Job → List ℕ → Type 0
-IsPromising job = IsTaskPromising (task_of job)
-
-abbrev pub ReadsInput : Job → Type 0
-ReadsInput job = TaskReadsInput (task_of job)
-
-abbrev pub Begins : List ℕ → Job → Option (List ℕ) → Option (List ℕ) → List ℕ → Type 0
-Begins forms job = TaskBegins forms (task_of job)
-
-abbrev pub WritesTaken : List ℕ → Job → Type 0 → Option (List ℕ) → Option (List ℕ) →
-    Option (List ℕ) → Option (List ℕ) → Type 0
-WritesTaken forms job = TaskWritesTaken forms (task_of job)
-
-abbrev pub WritesWhole : List ℕ → Job → Option (List ℕ) → Option (List ℕ) → Option (List ℕ) → Type 0
-WritesWhole forms job = TaskWritesWhole forms (task_of job)
-
-abbrev pub BoundsInput : Job → Option (List ℕ) → Option (List ℕ) → Type 0
-BoundsInput job = TaskTakesNoMore (task_of job)
-
-abbrev pub IsLawfulInput : Job → List ℕ → Type 0
-IsLawfulInput job = IsLawfulTaskInput (task_of job)
-
-abbrev pub ReadsWell : Job → Option (List ℕ) → Type 0 → Type 0
-ReadsWell job = TaskReadsWell (task_of job)
-
+-- the ends of a run for a job; where nobody hears a file, no message is missing
 abbrev pub IsEndOf : Job → Status → Type 0
-IsEndOf job = IsTaskEnd (task_of job)
+IsEndOf (Make width) = IsScriptEnd
+IsEndOf (Trial number workers) = IsTrialEnd
+IsEndOf job = λ status. IsFileEnd status × (IsUnheard job → status ≢ ends.NoSync)
 
 -- ---- answers
 

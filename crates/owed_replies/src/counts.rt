@@ -1,8 +1,9 @@
 //! How many events a trial's handset reported.
 
 ghost use Rattle.std.specs.Prelude.{◌≡◌, ◌^◌, []};
-ghost use Rattle.owed_replies.specs.Trials.{LeavesRoom, counts_of, counts_with};
+ghost use Rattle.owed_replies.specs.Trials.{LeavesRoom, counts_of, counts_with, summary};
 
+use event_tap::Text;
 use heard_events::Event;
 
 /// How many events of each kind a handset reported.
@@ -47,5 +48,21 @@ impl Counts {
             }
             _ => {}
         }
+    }
+    /// Returns the line of a trial that counted these events in a link of `samples` samples.
+    #[tactic(auto, unfolding(crate::specs::Trials::summary))]
+    pub fn summary(&self, number: u64, samples: u64, phase: u16) -> Text
+        ensures { result ≡ summary number samples phase self.now }
+    {
+        let mut line = Text::empty();
+        line.append_named("trial number=", number);
+        line.append_named(" samples=", samples);
+        line.append_named(" phase=", phase);
+        line.append_named(" syncs=", self.syncs);
+        line.append_named(" pagings=", self.pagings);
+        line.append_named(" frames=", self.frames);
+        line.append_named(" good=", self.good);
+        line.append_str("\n");
+        line
     }
 }

@@ -1,21 +1,21 @@
-//! The required output for a command and its input: what each command does ([`Task`]), the text for
-//! a sample file or the file for a script, and how a run ends ([`Status`]).
+//! The required output for a job and its input: the text for a sample file or the file for a script,
+//! and how a run ends ([`Status`]).
 //!
-//! The definitions say it without any code: the texts of a file (`Hearing`), of ranks (`Ranks`) and
-//! of a trial (`Trials`), the file of a script (`Make`), the replies command by command
-//! (`Replies`), and what is promised where the input breaks off or a call on the outside fails
-//! (`Find`, `Broken`). What a run of the program and its process promise are the records of `Runs`
-//! and `TaskRuns`; what they say of a clean link comes of the laws of `clean_link`.
+//! The definitions say it without any code: who hears a file, command by command, and the texts of a
+//! file (`Hearing`), of ranks (`Ranks`) and of a trial (`Trials`), the file of a script (`Make`), the
+//! replies (`Replies`), and what is promised where the input breaks off or a call on the outside
+//! fails (`Find`, `Broken`). What a run of the program and its process promise are the records of
+//! `Runs` and `JobRuns`; what they say of a clean link comes of the laws of `clean_link`.
+//!
+//! The code writes the texts that need no handset: what a file's first samples show ([`Findings`])
+//! and the line of a trial ([`Counts`]).
 #![tactic(auto)]
 
 mod counts;
-mod purpose;
-mod reception;
+mod findings;
+mod ranks;
 mod status;
-mod task;
 
 pub use counts::Counts;
-pub use purpose::Purpose;
-pub use reception::Reception;
+pub use findings::Findings;
 pub use status::Status;
-pub use task::{Task, task_of};

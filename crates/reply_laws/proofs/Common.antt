@@ -38,6 +38,7 @@ unfoldable pub use Rattle.event_tap.specs.FrameLines.{frame2_line}
 pub use Rattle.event_tap.specs.TunedTexts.{decoded_line}
 pub use Rattle.heard_events.proofs.FramesAlone.{decoded_alone, power_alone}
 unfoldable pub use Rattle.hex.specs.Hex.{decode_pairs}
+pub use Rattle.command_line.specs.declared.job.Job.TheVariants.{Idle}
 pub use Rattle.listed_frame.proofs.Choice.{decoded_by_one_codeword}
 pub use Rattle.listed_frame.proofs.SentFrames.{signs_frame_listed}
 pub use Rattle.listed_frame.specs.ListedFrames.{listed}
@@ -52,11 +53,8 @@ unfoldable pub use Rattle.owed_replies.proofs.Common.{file_end_of, file_text, ma
 pub use Rattle.owed_replies.proofs.Files.{none_within}
 pub use Rattle.owed_replies.proofs.Replies.{one_file_reply, one_reply, whole_file}
 pub use Rattle.owed_replies.proofs.TuningLaw.{handsets_tuned, near_long, on_plans_path, own_delta}
-pub use Rattle.owed_replies.specs.Hearing.{first_text}
 unfoldable pub use Rattle.owed_replies.specs.Hearing.{best_pilot}
-pub use Rattle.owed_replies.specs.declared.purpose.Purpose.{Purpose}
-pub use Rattle.owed_replies.specs.declared.task.Task.{Task}
-pub use Rattle.owed_replies.specs.declared.task.Task.TheVariants.{Make, Receive, Trial}
+pub use Rattle.owed_replies.specs.Replies.{taps_for}
 pub use Rattle.pilot_search.proofs.Common.{All-from_get_or, IsBestIn, length-drop, nat_tests, near_phase_at, near_place, near_value}
 unfoldable pub use Rattle.pilot_search.proofs.Common.{first_places, near_deltas}
 pub use Rattle.pilot_search.proofs.NearPlaces.{place_back}
@@ -72,7 +70,7 @@ pub use Rattle.tuned_listener.proofs.FrameTexts.{listed_texts, rate2_texts}
 pub use Rattle.tuned_listener.proofs.Sleep.{same_mark, sleeps}
 pub use Rattle.tuned_listener.proofs.SlotTimes.{mark_is_late, written_of_slots}
 pub use borrow.Author.Gap.{read_sfits}
-pub use Rattle.reply_laws.specs.Common.{Channel, Done, IsFingers, Listed, Paging, RateSetTwo, Reception, Slots, Status, Tuned, TunedText}
+pub use Rattle.reply_laws.specs.Common.{Channel, Done, IsFingers, Listed, Paging, RateSetTwo, Slots, Status, TunedText}
 pub use Rattle.reply_laws.specs.Common.{cell, cell_beside, file, header_of, reference_alone, slots_after, sync_with, waiting}
 pub use Rattle.reply_laws.specs.HeardThrough.{HeardThroughComesBack, HoldsOfNearReplies, IsFileNear}
 pub use Rattle.reply_laws.specs.MadeLinks.{HasLouderPilot}

@@ -4,12 +4,13 @@ use Rattle.reply_laws.proofs.Common.{◌∙◌, arith, All, append-nil, length-d
 use Rattle.reply_laws.proofs.Common.{flat_map, read_sfits, Sample, Width, Eight, Sixteen, HasBits, integer_width_of, header_spelling, told}
 use Rattle.reply_laws.proofs.Common.{sample_spelling, width_of, Header, AreBytes, AreBytes-drop, AreBytes-from_all, AreBytes-take, CellPlan}
 use Rattle.reply_laws.proofs.Common.{opening-ok, sample_bytes, sample_in, plan_named, KeptTap, best_pilot, file_end_of, file_text, Reply}
-use Rattle.reply_laws.proofs.Common.{made_file, IsFileReply, Reception, Status, Task, Make, Receive, Trial, nil_from_length, none_within}
+use Rattle.reply_laws.proofs.Common.{made_file, IsFileReply, Job, Status, nil_from_length, none_within, taps_for}
 use Rattle.reply_laws.proofs.Common.{whole_file}
 use Rattle.owed_replies.proofs.Common.{Result, opening, sample_len, FileFault, Extra, Short, TooFew, ScriptFault, IsFaultIn, file_end}
-use Rattle.owed_replies.proofs.Common.{IsScriptReply, IsTaskReply, IsWholeFile, taps_by, task_of, trial_line}
+use Rattle.owed_replies.proofs.Common.{IsScriptReply, span_of, trial_line}
 use Rattle.reply_laws.specs.ReplyLaws.{EachInputIsOwed, FindOwesThePilot, FollowOwesTheEvents, IdleOwesTheSlots, ListOwesTheFrames}
 use Rattle.reply_laws.specs.ReplyLaws.{MakeOwesTheFile, Rate2OwesTheFrames, SurveyOwesTheRanks, TrialOwesItsLine, WorkersChangeNoReply}
+use Rattle.reply_laws.specs.ReplyLaws.{with_workers}
 use Rattle.command_line.specs.declared.job.Job.TheVariants as jobs
 
 -- ---- bytes are those of samples
@@ -65,17 +66,17 @@ spells width (suc n) bytes small long =
 
 -- ---- each input is owed a reply
 
-faulty : {taps : List KeptTap} {r : Reception} {bytes : List ℕ} (fault : FileFault) →
-    IsFaultIn r.span bytes fault →
-    (reply : Reply) × IsFileReply taps r bytes reply
+faulty : {taps : List KeptTap} {job : Job} {bytes : List ℕ} (fault : FileFault) →
+    IsFaultIn (span_of job) bytes fault →
+    (reply : Reply) × IsFileReply taps job bytes reply
 faulty fault is =
     (Err (Status.BadFile fault), record { fault = fault; is = is; end_is = refl })
 
-opened_owed : (taps : List KeptTap) (r : Reception) (bytes : List ℕ) (header : Header) →
-    AreBytes bytes → opening bytes ≡ Ok header → (reply : Reply) × IsFileReply taps r bytes reply
-opened_owed taps r bytes header small is =
+opened_owed : (taps : List KeptTap) (job : Job) (bytes : List ℕ) (header : Header) →
+    AreBytes bytes → opening bytes ≡ Ok header → (reply : Reply) × IsFileReply taps job bytes reply
+opened_owed taps job bytes header small is =
     let opened = opening-ok bytes header small is in
-    elim (cases_lt header.count r.span) [
+    elim (cases_lt header.count (span_of job)) [
       | inl few ↦ faulty (TooFew header.count) (inr (header, is, (refl, few)))
       | inr enough ↦ elim (cases_lt (length bytes) (file_end header)) [
         | inl short ↦ faulty (Short (length bytes)) (inr (header, is, (enough, refl, short)))
@@ -87,7 +88,7 @@ opened_owed taps r bytes header small is =
               let s =
               spells (width_of header) header.count (drop 16 bytes) (AreBytes-drop 16 bytes small) rest
               in (
-                Ok (file_text taps r header s.samples, file_end_of r header s.samples),
+                Ok (file_text taps job header s.samples, file_end_of job header s.samples),
                 whole_file (record {
                   lawful = opened.lawful;
                   counted = s.counted;
@@ -101,10 +102,10 @@ opened_owed taps r bytes header small is =
       ]
     ]
 
-file_owed : (taps : List KeptTap) (r : Reception) (bytes : List ℕ) (due : Result Header FileFault) →
-    AreBytes bytes → opening bytes ≡ due → (reply : Reply) × IsFileReply taps r bytes reply
-file_owed taps r bytes (Ok header) small is = opened_owed taps r bytes header small is
-file_owed taps r bytes (Err fault) small is = faulty fault (inl is)
+file_owed : (taps : List KeptTap) (job : Job) (bytes : List ℕ) (due : Result Header FileFault) →
+    AreBytes bytes → opening bytes ≡ due → (reply : Reply) × IsFileReply taps job bytes reply
+file_owed taps job bytes (Ok header) small is = opened_owed taps job bytes header small is
+file_owed taps job bytes (Err fault) small is = faulty fault (inl is)
 
 script_owed : (width : Width) (bytes : List ℕ) (due : Result CellPlan ScriptFault) →
     plan_named width bytes ≡ due → (reply : Reply) × IsScriptReply width bytes reply
@@ -115,26 +116,20 @@ script_owed width bytes (Ok plan) is = (
 script_owed width bytes (Err fault) is =
     (Err (Status.BadScript fault), record { fault = fault; is = is; end_is = refl })
 
-task_owed : (forms : List ℕ) (task : Task) (bytes : List ℕ) → AreBytes bytes →
-    (reply : Reply) × IsTaskReply forms task bytes reply
-task_owed forms (Receive r limits) bytes small =
-    file_owed (taps_by limits forms) r bytes (opening bytes) small refl
-task_owed forms (Make width) bytes small =
-    script_owed width bytes (plan_named width bytes) refl
-task_owed forms (Trial number workers) bytes small = (Ok (trial_line number, Status.Done), refl)
-
 pub each_owed : EachInputIsOwed
-each_owed forms job bytes small = task_owed forms (task_of job) bytes (AreBytes-from_all bytes small)
+each_owed forms (jobs.Make width) bytes small = script_owed width bytes (plan_named width bytes) refl
+each_owed forms (jobs.Trial number workers) bytes small =
+    (Ok (trial_line number, Status.Done), refl)
+each_owed forms job bytes small =
+    file_owed (taps_for job forms) job bytes (opening bytes) (AreBytes-from_all bytes small) refl
 
 -- ---- the number of workers changes no reply
 
-abbrev shared_by : ℕ → Reception → Reception
-shared_by n r = record { span = r.span; workers = n; purpose = r.purpose }
-
-shared : (taps : List KeptTap) (r : Reception) (n : ℕ) (bytes : List ℕ) (reply : Reply) →
-    IsFileReply taps r bytes reply → IsFileReply taps (shared_by n r) bytes reply
+shared : (taps : List KeptTap) (job : Job) (n : ℕ) (bytes : List ℕ) (reply : Reply) →
+    IsFileReply taps job bytes reply → IsFileReply taps (with_workers n job) bytes reply
 unfolding file_text file_end_of
-shared taps r n bytes (Ok all) w = record {
+shared taps (jobs.Make width) n bytes reply f = f
+shared taps job n bytes (Ok all) w = record {
   header = w.header;
   samples = w.samples;
   file = w.file;
@@ -142,32 +137,19 @@ shared taps r n bytes (Ok all) w = record {
   text_is = w.text_is;
   end_is = w.end_is;
 }
-shared taps r n bytes (Err end) f = f
+shared taps job n bytes (Err end) f = f
 
 pub workers_change_nothing : WorkersChangeNoReply
 workers_change_nothing forms (jobs.Make width) n bytes reply owed = owed
 workers_change_nothing forms (jobs.Trial number workers) n bytes reply owed = owed
-workers_change_nothing forms other n bytes reply owed =
-    shared _ _ n bytes reply owed
+workers_change_nothing forms job n bytes reply owed = shared _ job n bytes reply owed
 
 -- ---- what each command owes
-
--- a text by another name
-named : {taps : List KeptTap} {r : Reception} {bytes text also : List ℕ} {end : Status} →
-    text ≡ also → IsWholeFile taps r bytes text end → IsWholeFile taps r bytes also end
-named is w = record {
-  header = w.header;
-  samples = w.samples;
-  file = w.file;
-  enough = w.enough;
-  text_is = sym is ∙ w.text_is;
-  end_is = w.end_is;
-}
 
 pub find_owes : FindOwesThePilot
 unfolding file_text file_end_of told best_pilot
 find_owes forms span workers bytes header samples file enough =
-    named (append-nil _) (whole_file file enough)
+    whole_file file enough
 
 pub follow_owes : FollowOwesTheEvents
 unfolding file_text file_end_of told
@@ -188,7 +170,7 @@ idle_owes span workers fingers paging key cycle forms bytes header samples file 
 pub survey_owes : SurveyOwesTheRanks
 unfolding file_text file_end_of told
 survey_owes forms span workers base width top bytes header samples file enough =
-    named (append-nil _) (whole_file file enough)
+    whole_file file enough
 
 pub make_owes : MakeOwesTheFile
 make_owes forms width bytes plan is = record { plan = plan; named = is; text_is = refl; end_is = refl }

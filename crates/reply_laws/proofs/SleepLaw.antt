@@ -2,8 +2,8 @@
 -- paths that the search hands on are near enough for it to follow.
 use Rattle.reply_laws.proofs.Common.{◌≡◌, ℕ, ◌≤◌, ◌++◌, List, [], length, take, sym, ap, ◌∙◌, subst, arith, Option, Some, Ok, is_some, mark}
 use Rattle.reply_laws.proofs.Common.{Sample, Header, KeptTap, Tuning, Channel, Paging, Mark, timed_of, mark_set, tuned_text, TunedText, ◌≢◌}
-use Rattle.reply_laws.proofs.Common.{Slots, same_mark, sleeps, mark_is_late, end_when, file_end_of, file_text, first_text, is_told, told, ℤ}
-use Rattle.reply_laws.proofs.Common.{listening, tuning_for, waiting, IsFileReply, Reply, SleepChangesNoReply, Purpose, Tuned, Reception}
+use Rattle.reply_laws.proofs.Common.{Slots, same_mark, sleeps, mark_is_late, end_when, file_end_of, file_text, told, ℤ}
+use Rattle.reply_laws.proofs.Common.{tuning_for, waiting, IsFileReply, Reply, SleepChangesNoReply, Job, Idle, taps_for}
 use Rattle.reply_laws.proofs.Common.{one_file_reply, whole_file, refl, IsBestIn, zero, suc, ◌<◌, ◌∷◌, get_or, inl, inr, All, nat_eq, int_le}
 use Rattle.reply_laws.proofs.Common.{unsigned_abs, cases_lt, nat_tests, All-cons, All-head, All-nil, All-tail, best_phase, energy, all_near}
 use Rattle.reply_laws.proofs.Common.{best_phase-is, near_deltas, one_delta, is_near, IsFingers, near_phase_at, free_taken, scanned}
@@ -163,35 +163,29 @@ fewer_agree one other few many less same =
 
 -- ---- what is owed
 
--- the text of a file whose channel is heard
-pub text_heard : (r : Reception) (fingers : ℕ) (channel : Channel) (text : TunedText) (header : Header)
-    (samples : List Sample) → r.purpose ≡ Tuned fingers channel text →
-    file_text [] r header samples
-    ≡ tuned_text text (tuning_for (waiting header fingers) (take r.span samples)) channel samples
+-- the text of a file whose slots are heard
+text_heard : (taps : List KeptTap) (span workers fingers number key cycle : ℕ) (header : Header)
+    (samples : List Sample) →
+    file_text taps (Idle span workers fingers number key cycle) header samples
+    ≡ tuned_text (Slots key cycle) (tuning_for (waiting header fingers) (take span samples))
+    (Paging number) samples
 unfolding file_text told
-text_heard r fingers channel text header samples purpose =
-    ap
-    (λ (p : Purpose). first_text p (take r.span samples)
-    ++ told (listening [] p header (take r.span samples)) samples) purpose
+text_heard taps span workers fingers number key cycle header samples = refl
 
 -- and its end
-pub end_heard : (r : Reception) (fingers : ℕ) (channel : Channel) (text : TunedText) (header : Header)
-    (samples : List Sample) → r.purpose ≡ Tuned fingers channel text →
-    file_end_of r header samples
+end_heard : (span workers fingers number key cycle : ℕ) (header : Header) (samples : List Sample) →
+    file_end_of (Idle span workers fingers number key cycle) header samples
     ≡ end_when
-    (is_some (mark (tuning_for (waiting header fingers) (take r.span samples)) samples (length samples)))
+    (is_some (mark (tuning_for (waiting header fingers) (take span samples)) samples (length samples)))
 unfolding file_end_of
-end_heard r fingers channel text header samples purpose =
-    ap
-    (λ (p : Purpose). end_when (is_told (listening [] p header (take r.span samples)) samples))
-    purpose
+end_heard span workers fingers number key cycle header samples = refl
 
 -- two files that are owed one reply are owed no other
-owed_too : (taps : List KeptTap) (r : Reception) (bytes changed : List ℕ) (both reply : Reply) →
-    IsFileReply taps r bytes both → IsFileReply taps r changed both →
-    IsFileReply taps r bytes reply → IsFileReply taps r changed reply
-owed_too taps r bytes changed both reply here there owed =
-    subst (IsFileReply taps r changed) (one_file_reply taps r bytes both reply here owed) there
+owed_too : (taps : List KeptTap) (job : Job) (bytes changed : List ℕ) (both reply : Reply) →
+    IsFileReply taps job bytes both → IsFileReply taps job changed both →
+    IsFileReply taps job bytes reply → IsFileReply taps job changed reply
+owed_too taps job bytes changed both reply here there owed =
+    subst (IsFileReply taps job changed) (one_file_reply taps job bytes both reply here owed) there
 
 -- ---- the law
 
@@ -199,35 +193,37 @@ owed_too taps r bytes changed both reply here there owed =
 -- agree, so it is tuned alike in both, the mark is the same, each slot in which it is awake has the
 -- same text, and so have the whole reply and its end.
 pub sleep_changes_no_reply : SleepChangesNoReply
-sleep_changes_no_reply r fingers number key cycle header one other bytes changed reply purpose most few
-    file file' agree =
-    let t = tuning_for (waiting header fingers) (take r.span one) in
-    let near = waiting_near header (take r.span one) fingers few in
+sleep_changes_no_reply forms span workers fingers number key cycle header one other bytes changed reply
+    most few file file' agree =
+    let job = Idle span workers fingers number key cycle in
+    let taps = taps_for job forms in
+    let t = tuning_for (waiting header fingers) (take span one) in
+    let near = waiting_near header (take span one) fingers few in
     let m = agree.told in
     let late = mark_is_late t near one m agree.is_told in
-    let enough : r.span ≤ length one = omega (arith, most, a_frame t near m one agree.is_told) in
+    let enough : span ≤ length one = omega (arith, most, a_frame t near m one agree.is_told) in
     let long : length one ≡ length other = file.counted ∙ sym file'.counted in
-    let first : take r.span one ≡ take r.span other =
-    fewer_agree one other r.span m.sample (omega (arith, most, late)) agree.before in
-    let tuned_too : tuning_for (waiting header fingers) (take r.span other) ≡ t =
+    let first : take span one ≡ take span other =
+    fewer_agree one other span m.sample (omega (arith, most, late)) agree.before in
+    let tuned_too : tuning_for (waiting header fingers) (take span other) ≡ t =
     ap (tuning_for (waiting header fingers)) (sym first) in
     let marks : mark t other (length other) ≡ mark t one (length one) =
     same_mark t near m one other long agree.is_told agree.before ∙ sym agree.is_told in
-    let texts : file_text [] r header one ≡ file_text [] r header other =
-    text_heard r fingers (Paging number) (Slots key cycle) header one purpose
+    let texts : file_text taps job header one ≡ file_text taps job header other =
+    text_heard taps span workers fingers number key cycle header one
     ∙ sleeps key cycle t number m one other near long agree.is_told agree.before agree.slots
     ∙ ap (λ (k : Tuning). tuned_text (Slots key cycle) k (Paging number) other) (sym tuned_too)
-    ∙ sym (text_heard r fingers (Paging number) (Slots key cycle) header other purpose) in
-    let ends : file_end_of r header one ≡ file_end_of r header other =
-    end_heard r fingers (Paging number) (Slots key cycle) header one purpose
+    ∙ sym (text_heard taps span workers fingers number key cycle header other) in
+    let ends : file_end_of job header one ≡ file_end_of job header other =
+    end_heard span workers fingers number key cycle header one
     ∙ ap (λ (found : Option Mark). end_when (is_some found)) (sym marks)
     ∙ ap (λ (k : Tuning). end_when (is_some (mark k other (length other)))) (sym tuned_too)
-    ∙ sym (end_heard r fingers (Paging number) (Slots key cycle) header other purpose) in
-    let both : Reply = Ok (file_text [] r header one, file_end_of r header one) in
-    let here : IsFileReply [] r bytes both = whole_file file enough in
-    let there : IsFileReply [] r changed both =
+    ∙ sym (end_heard span workers fingers number key cycle header other) in
+    let both : Reply = Ok (file_text taps job header one, file_end_of job header one) in
+    let here : IsFileReply taps job bytes both = whole_file file enough in
+    let there : IsFileReply taps job changed both =
     rw (texts, ends)
     (whole_file file' (omega (arith, enough, long))) in (
-      owed_too [] r bytes changed both reply here there,
-      owed_too [] r changed bytes both reply there here,
+      owed_too taps job bytes changed both reply here there,
+      owed_too taps job changed bytes both reply there here,
     )

@@ -30,15 +30,12 @@ pub use Rattle.owed_replies.specs.Common.{IsNotDirected, IsSampleFile, made_samp
 pub use Rattle.owed_replies.specs.Common.{sent_events, plan_named, header_of, sync_sent, tuning_to}
 pub use Rattle.owed_replies.specs.Common.{IsOnPath, phase_at, run_text, kept_by, Tuning, events}
 pub use Rattle.owed_replies.specs.Hearing.{clean_end, clean_events, end_when, settings_for, waiting}
-pub use Rattle.owed_replies.specs.Hearing.{tuning_for}
+pub use Rattle.owed_replies.specs.Hearing.{traffic_channel_with, tuning_for}
 pub use Rattle.owed_replies.specs.Make.{made_file}
 pub use Rattle.owed_replies.specs.Ranks.{survey_text}
 pub use Rattle.owed_replies.specs.Replies.{AnswersAfter, IsFileReply, IsReply, Reply}
-pub use Rattle.owed_replies.specs.Tasks.{traffic_channel_with}
 pub use Rattle.owed_replies.specs.Trials.{trial_line}
 pub use Rattle.owed_replies.specs.TuningLaw.{HandsetsAreTuned, HandsetsLieOnThePath}
-pub use Rattle.owed_replies.specs.declared.purpose.Purpose.TheVariants.{Tuned}
-pub use Rattle.owed_replies.specs.declared.reception.Reception.{Reception}
 pub use Rattle.owed_replies.specs.declared.status.Status.{Status}
 pub use Rattle.owed_replies.specs.declared.status.Status.TheVariants.{Done, NoMemory}
 pub use Rattle.slot_link.specs.Laws.{slots_after, slots_sent}

@@ -8,7 +8,6 @@ use Rattle.reply_laws.specs.Common.{event_line, run_text, tuned_text, TunedText,
 use Rattle.reply_laws.specs.Common.{Slots, Job, end_when, settings_for, tuning_for, waiting, Reply}
 use Rattle.reply_laws.specs.Common.{traffic_channel_with, made_file, survey_text, IsReply, Done}
 use Rattle.reply_laws.specs.Common.{trial_line, Tuning, Paging, Mark, AgreeWhereHeard, IsFingers}
-use Rattle.reply_laws.specs.Common.{IsFileReply, Tuned, Reception}
 use Rattle.heard_events.specs.declared.channel.Channel.TheVariants as channels
 use Rattle.command_line.specs.declared.job.Job.TheVariants as jobs
 
@@ -127,10 +126,10 @@ pub record AgreeWhileAwake (key cycle : ℕ) (t : Tuning) (number : ℕ) (one ot
 -- each reply that the one is owed the other is owed.
 abbrev pub SleepChangesNoReply : Type 0
 SleepChangesNoReply =
-    (r : Reception) (fingers number key cycle : ℕ) (header : Header) (one other : List Sample)
-    (bytes changed : List ℕ) (reply : Reply) →
-    r.purpose ≡ Tuned fingers (Paging number) (Slots key cycle) → r.span ≤ 32768 →
+    (forms : List ℕ) (span workers fingers number key cycle : ℕ) (header : Header)
+    (one other : List Sample) (bytes changed : List ℕ) (reply : Reply) → span ≤ 32768 →
     IsFingers fingers → IsSampleFile bytes header one → IsSampleFile changed header other →
-    AgreeWhileAwake key cycle (tuning_for (waiting header fingers) (take r.span one)) number one
+    AgreeWhileAwake key cycle (tuning_for (waiting header fingers) (take span one)) number one
     other →
-    IsFileReply [] r bytes reply ↔ IsFileReply [] r changed reply
+    let job = jobs.Idle span workers fingers number key cycle in
+    IsReply forms job bytes reply ↔ IsReply forms job changed reply

@@ -1,5 +1,5 @@
 use Rattle.cdma_replay.proofs.Common.{◌≡◌, ◌≤◌, ◌+◌, ℕ, List, [], IfSome, inr, length, ap, refl, ◌∙◌, subst, rules, arith, Sample, IsCut}
-use Rattle.cdma_replay.proofs.Common.{FileFault, IsLong, IsEnd, IsFaultIn, IsOfFiles, Listening, Listens, end_when, listening, file_status}
+use Rattle.cdma_replay.proofs.Common.{FileFault, IsLong, IsEnd, IsFaultIn, IsOfFiles, Listening, Listens, end_when, listening, span_of, file_status}
 use Rattle.cdma_replay.proofs.Common.{Status, fault_of_rest, ended_by, stopped_file, unread_file, none_most, rest_most, rose_before}
 use Rattle.cdma_replay.proofs.Broken.{writes_all, writes_first}
 use Rattle.owed_replies.proofs.Ends.{begins_file, by_end, ends_well, lost_file, starved_file}
@@ -38,12 +38,12 @@ returns-in-Err g c =
 
 -- what is told before any sample was written
 begun_of : (g : Over) (c : In-Ok g) →
-    HasBegun (g.T.KeepsTaps.kept c.args.taps) c.args.reception c.in_ok-reader.reader.header
+    HasBegun (g.T.KeepsTaps.kept c.args.taps) c.args.job c.in_ok-reader.reader.header
     c.open_span.new.span c.begin.new.self (g.T.KeepsTaps.kept c.begin.new.taps)
     (g.S.Source.rest c.args.source.now) (g.S.Source.rest c.open_span.new.source)
     (g.K.Sink.written c.args.sink.now) (g.K.Sink.written c.begin.new.sink)
 begun_of g c =
-    has_begun _ c.args.reception c.in_ok-listener.listener c.requires.span.0
+    has_begun _ c.args.job c.in_ok-listener.listener c.requires.span.0
     c.in_ok-reader.ensures.taken c.header.ensures.value c.in_ok-listener.ensures.fresh
     c.in-Ok.ensures.ok
 
@@ -66,12 +66,12 @@ returns-in_err-hear_rest g c =
     let reader = c.in_ok-reader.reader in
     let told = c.in_err-hear_rest.ensures in
     let begun = begun_of g (goal.at.returns-in_err-hear_rest g c).In-Ok in
-    let left : reader.left + c.args.reception.span ≡ reader.header.count =
+    let left : reader.left + span_of c.args.job ≡ reader.header.count =
     omega (arith, c.in_ok-reader.ensures.taken.left, c.requires.span.0) in
     let later : g.K.Sink.faults c.args.sink.now ≤ g.K.Sink.faults c.hear.new.sink =
     omega (arith, c.begin.ensures.cause.later, c.hear.ensures.cause.later) in
     let place : (fault : FileFault) → c.in_err-hear_rest.field-0.0 ≡ Status.BadFile fault →
-    IfSome rest (λ bytes. IsFaultIn c.args.reception.span bytes fault) =
+    IfSome rest (λ bytes. IsFaultIn (span_of c.args.job) bytes fault) =
     λ fault blames.
     subst (λ (n : ℕ). IfSome rest (λ (bytes : List ℕ). IsFaultIn n bytes fault)) begun.counted
     (fault_of_rest fault rest _ reader span begun.lawful (search rules) begun.consumed
@@ -101,9 +101,9 @@ returns g c =
     let told = c.in_ok-hear_rest.ensures in
     let end = c.end_when.ensures.ends in
     let begun = begun_of g (goal.at.returns g c).In-Ok in
-    let left : reader.left + c.args.reception.span ≡ reader.header.count =
+    let left : reader.left + span_of c.args.job ≡ reader.header.count =
     omega (arith, c.in_ok-reader.ensures.taken.left, c.requires.span.0) in
-    let l = listening (g.T.KeepsTaps.kept c.args.taps) c.args.reception.purpose reader.header span in
+    let l = listening (g.T.KeepsTaps.kept c.args.taps) c.args.job reader.header span in
     let first = c.in-Ok-hear.ensures.ok l [] begun.listens in
     let last = told.ok l _ first.listens in
     record {
@@ -116,7 +116,7 @@ returns g c =
       others = by_end IsOfFiles _ end tt tt;
       memory = λ none. absurd (subst IsEnd none end);
       early = λ none. absurd (subst IsEnd none end);
-      alone = λ unheard. ends_well _ c.args.reception.purpose reader.header span _ _ c.end_when.result
+      alone = λ unheard. ends_well _ c.args.job reader.header span _ _ c.end_when.result
           unheard c.end_when.ensures.value (c.is_told.ensures l _ _ last.tells.listens);
       bad_file = λ fault blames. absurd (subst IsEnd blames end);
       place = λ fault blames. absurd (subst IsEnd blames end);

@@ -5,7 +5,7 @@ use Rattle.cdma_replay.proofs.replaying.replay.Goals as goal
 
 pub returns-in-Ok : goal.returns-in-Ok
 returns-in-Ok g c =
-    command_run c.in-Ok.ensures.lawful c.task_of.ensures.value c.in-Ok.ensures.job c.run_task.ensures
+    command_run c.in-Ok.ensures.lawful c.in-Ok.ensures.job c.run_job.ensures
 
 -- arguments that name no job, or no memory to read them
 

@@ -62,8 +62,8 @@ returns g c =
     (subst (λ (xs : List Sample). StandsFor t c.count.new.mobile xs (events t xs))
     (span ∙ sym following.1) told.0)
     (told.1 ∙ ap (λ (xs : List Sample). counts_of (events t xs)) (span ∙ sym following.1)) in
-    line_is number c.summary_of.result c.header-header.result.count c.get.result
-    c.count_rest.new.counts c.summary_of.ensures (ap (λ (h : Header). h.count) header)
+    line_is number c.summary.result c.header-header.result.count c.get.result
+    c.count_rest.new.counts c.summary.ensures (ap (λ (h : Header). h.count) header)
     (c.get.ensures.value ∙ best_phase-only out best.phase best.energy found ∙ ap best_phase span)
     (rest
     ∙ ap (λ (k : Tuning). counts_of (events k (made_samples c.fill.new.self.plan))) tuning

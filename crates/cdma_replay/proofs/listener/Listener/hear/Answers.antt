@@ -1,6 +1,6 @@
-use Rattle.cdma_replay.proofs.Common.{◌++◌, subst, sym, on_err, on_ok, Listening, Listens, ListenerTells, Nobody, GainsPrefix, Listener}
+use Rattle.cdma_replay.proofs.Common.{◌++◌, subst, sym, on_err, on_ok, Listening, Listens, ListenerTells, GainsPrefix, Listener}
 use Rattle.std.specs.Box.{with_value}
-use Rattle.cdma_replay.proofs.Hearings.{on_handset, on_pilot, on_ranks, on_tuned, room_some, room_tuned, tells_nobody, tuned_part}
+use Rattle.cdma_replay.proofs.Hearings.{on_handset, on_tuned, on_unheard, room_some, room_tuned, tells_nobody, tuned_part}
 use Rattle.cdma_replay.proofs.Hearings.{tuned_tells}
 use Rattle.cdma_replay.specs.declared.listener.Listener.TheVariants as by
 use Rattle.cdma_replay.proofs.listener.Listener.hear.Goals as goal
@@ -74,28 +74,15 @@ returns-in-Tuned-clause-err g c =
     tuned_part (tells t channel text heard (rw c.deref_mut-in-Tuned.ensures.value listens))))
     c.hear.ensures.err
 
--- Clause `ok` holds for a listener that keeps the pilot: nobody hears the file by it, so the text
--- to be told is empty whatever the samples, and an unchanged sink has all of it.
-pub returns-in-Pilot-clause-ok : goal.returns-in-Pilot-clause-ok
-returns-in-Pilot-clause-ok g c l heard is =
+-- Clause `ok` holds where nobody hears the file: its text is that of the first samples whatever the
+-- samples, so there is nothing to tell of these, and the unchanged sink has all of it.
+pub returns-in-Unheard-clause-ok : goal.returns-in-Unheard-clause-ok
+returns-in-Unheard-clause-ok g c l heard is =
     let kept = g.T.KeepsTaps.kept c.args.taps.now in
     let held = g.K.Sink.written c.args.sink.now in
-    let self = c.args.self.now in
+    let found = c.in-Unheard.field-0 in
     let all = heard ++ c.args.samples.now in
-    on_pilot (λ (m : Listening). ListenerTells m self kept heard all held held) l _ kept heard
-    (subst (λ (h : Listener). Listens l h kept heard) c.in-Pilot.is is)
-    (tells_nobody self kept heard all held
-    (subst (λ (h : Listener). Listens Nobody h kept all) (sym c.in-Pilot.is) tt))
-
--- Clause `ok` holds for a listener that keeps the ranks of pilots: nobody hears the file by it
--- either, so there is nothing to tell of these samples, and the unchanged sink has all of it.
-pub returns-in-Ranks-clause-ok : goal.returns-in-Ranks-clause-ok
-returns-in-Ranks-clause-ok g c l heard is =
-    let kept = g.T.KeepsTaps.kept c.args.taps.now in
-    let held = g.K.Sink.written c.args.sink.now in
-    let self = c.args.self.now in
-    let all = heard ++ c.args.samples.now in
-    on_ranks (λ (m : Listening). ListenerTells m self kept heard all held held) l _ _ kept heard
-    (subst (λ (h : Listener). Listens l h kept heard) c.in-Ranks.is is)
-    (tells_nobody self kept heard all held
-    (subst (λ (h : Listener). Listens Nobody h kept all) (sym c.in-Ranks.is) tt))
+    subst (λ (h : Listener). ListenerTells l h kept heard all held held) (sym c.in-Unheard.is)
+    (on_unheard (λ (m : Listening). ListenerTells m (by.Unheard found) kept heard all held held) l found
+    kept heard (subst (λ (h : Listener). Listens l h kept heard) c.in-Unheard.is is)
+    (λ text. tells_nobody text found kept heard all held))

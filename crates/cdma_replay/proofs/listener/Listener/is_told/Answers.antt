@@ -1,16 +1,11 @@
 use Rattle.cdma_replay.proofs.Common.{◌≡◌, true, refl, subst, Listening, Listens, is_told, Listener}
-use Rattle.cdma_replay.proofs.Hearings.{on_handset, on_pilot, on_ranks, on_tuned}
+use Rattle.cdma_replay.proofs.Hearings.{on_handset, on_tuned, on_unheard}
 use Rattle.cdma_replay.proofs.listener.Listener.is_told.Goals as goal
 
-pub returns-in-Pilot : goal.returns-in-Pilot
-returns-in-Pilot c l kept heard is =
-    on_pilot (λ (m : Listening). true ≡ is_told m heard) l _ kept heard
-    (subst (λ (h : Listener). Listens l h kept heard) c.in-Pilot.is is) refl
-
-pub returns-in-Ranks : goal.returns-in-Ranks
-returns-in-Ranks c l kept heard is =
-    on_ranks (λ (m : Listening). true ≡ is_told m heard) l _ _ kept heard
-    (subst (λ (h : Listener). Listens l h kept heard) c.in-Ranks.is is) refl
+pub returns-in-Unheard : goal.returns-in-Unheard
+returns-in-Unheard c l kept heard is =
+    on_unheard (λ (m : Listening). true ≡ is_told m heard) l _ kept heard
+    (subst (λ (h : Listener). Listens l h kept heard) c.in-Unheard.is is) (λ text. refl)
 
 pub returns-in-Handset : goal.returns-in-Handset
 returns-in-Handset c l kept heard is =

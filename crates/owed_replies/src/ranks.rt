@@ -1,6 +1,7 @@
 //! Writes the lines of a survey, one for each rank.
 
-ghost use Rattle.cdma_replay.specs.Common.{AppendsPrefix, HasCause, rank_line, ranks_text};
+ghost use Rattle.cdma_io.specs.Outside.{AppendsPrefix, HasCause};
+ghost use Rattle.owed_replies.specs.Ranks.{rank_line, ranks_text};
 ghost use Rattle.std.specs.Prelude.{◌≡◌, ◌≤◌, OnErr, OnOk, take};
 ghost use Rattle.std.specs.Io.KnownBytes.{Appends};
 
@@ -9,7 +10,7 @@ use event_tap::Text;
 use pilot_survey::{Rank, Survey};
 
 /// Returns the line of a rank.
-#[tactic(auto, unfolding(owed_replies::specs::Ranks::rank_line))]
+#[tactic(auto, unfolding(crate::specs::Ranks::rank_line))]
 fn line_of(rank: Rank) -> Text
     ensures { result ≡ rank_line rank }
 {

@@ -1,6 +1,8 @@
-use Rattle.cdma_replay.proofs.Common.{◌≡◌, ◌<◌, ℕ, arith, subst, take, err_from_is_err_and, Appends, ranks_text}
-use Rattle.cdma_replay.proofs.RankLines.{lines_cut, lines_more, no_lines}
-use Rattle.cdma_replay.proofs.ranks.write_ranks.Goals as goal
+use Rattle.owed_replies.proofs.Common.{◌≡◌, ◌<◌, ℕ, arith, subst, take, Appends}
+use Rattle.std.proofs.lemmas.Result.{err_from_is_err_and}
+use Rattle.owed_replies.specs.Ranks.{ranks_text}
+use Rattle.owed_replies.proofs.RankLines.{lines_cut, lines_more, no_lines}
+use Rattle.owed_replies.proofs.ranks.write_ranks.Goals as goal
 
 pub loop-place-init : goal.loop-place-init
 loop-place-init g c = record {

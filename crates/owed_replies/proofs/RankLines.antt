@@ -1,8 +1,15 @@
 -- Lemmas on the lines of ranks that are written one after the other.
-use Rattle.cdma_replay.proofs.Common.{◌≡◌, ℕ, ◌+◌, ◌-◌, ◌<◌, ◌++◌, ◌∷◌, [], List, take, drop, sym, ap, ◌∙◌, subst, arith, append-nil, Some}
-use Rattle.cdma_replay.proofs.Common.{slice_get, Option, take_more, flat_map-append, get_or_from_slice_get, slice_get_within, Appends-nil}
-use Rattle.cdma_replay.proofs.Common.{Appends-trans, Appends, AppendsPrefix, Rank, prefix_before, prefix_after, rank_line, ranks_text}
-use Rattle.cdma_replay.proofs.Hearings.{taken_joined}
+use Rattle.owed_replies.proofs.Common.{◌≡◌, ℕ, ◌+◌, ◌-◌, ◌<◌, ◌++◌, ◌∷◌, [], List, take, drop, sym, ap, ◌∙◌, subst, arith, append-nil, Some}
+use Rattle.owed_replies.proofs.Common.{Option, flat_map-append, Appends-nil, Appends, AppendsPrefix}
+use Rattle.std.proofs.Common.{slice_get}
+use Rattle.std.proofs.KnownBytes.{Appends-trans}
+use Rattle.std.proofs.Math.Seq.{take-add}
+use Rattle.std.proofs.lemmas.List.{take_more}
+use Rattle.std.proofs.lemmas.Option.{get_or_from_slice_get, slice_get_within}
+use Rattle.event_tap.proofs.Prefixes.{prefix_after, prefix_before}
+use Rattle.pilot_survey.specs.declared.rank.Rank.{Rank}
+use Rattle.owed_replies.specs.Ranks.{rank_line}
+unfoldable use Rattle.owed_replies.specs.Ranks.{ranks_text}
 
 ranks_joined : (one other : List Rank) → ranks_text (one ++ other) ≡ ranks_text one ++ ranks_text other
 unfolding ranks_text
@@ -46,7 +53,7 @@ ranks_parted ranks place top rank is below =
     let more = top - (place + 1) in
     let all : top ≡ (place + 1) + more = omega (arith, below) in
     ap (λ (n : ℕ). ranks_text (take n ranks)) all
-    ∙ ap ranks_text (sym (taken_joined (place + 1) more ranks))
+    ∙ ap ranks_text (take-add (place + 1) more ranks)
     ∙ ranks_joined (take (place + 1) ranks) (take more (drop (place + 1) ranks))
     ∙ ap (λ (text : List ℕ). text ++ ranks_text (take more (drop (place + 1) ranks)))
     (ranks_more ranks place rank is)

@@ -1,58 +1,61 @@
--- Lemmas on what runs promise: one that receives a sample file, makes one or tries a link does a task,
--- and one that does a job's task does the job.
-use Rattle.owed_replies.proofs.Common.{◌≡◌, ℕ, ◌≤◌, ◌⊎◌, inl, inr, List, refl, subst, arith, Option, None, Some, IfSome, Result, Err, Width}
-use Rattle.owed_replies.proofs.Common.{IfSome_then, Appends, Rose, KeptTap, Job, Reception, Status, Task, Make, Receive, Trial, IsOfFiles}
-use Rattle.owed_replies.proofs.Common.{ended, AnswersAfter, IsAnswered, IsFileEnd, IsFileReply, IsScriptEnd, IsScriptReply, IsTaskReply}
-use Rattle.owed_replies.proofs.Common.{IsTrialEnd, IsVerdict, Reply, taps_by, MakesFile, ReceivesFile, RunsTask, task_of, trial_line}
+-- Lemmas on what runs promise: one that receives a sample file, makes one or tries a link does its job.
+use Rattle.owed_replies.proofs.Common.{◌≡◌, ◌≢◌, ℕ, ◌≤◌, ◌⊎◌, inl, inr, List, refl, subst, arith, Option, None, Some, IfSome, Result, Err, Width}
+use Rattle.owed_replies.proofs.Common.{IfSome_then, Appends, Rose, KeptTap, Job, Status, Make, Trial, IsOfFiles, ended, AnswersAfter}
+use Rattle.owed_replies.proofs.Common.{IsAnswered, IsFileEnd, IsFileReply, IsScriptEnd, IsScriptReply, IsReply, IsTrialEnd, IsVerdict, Reply}
+use Rattle.owed_replies.proofs.Common.{taps_for, MakesFile, ReceivesFile, RunsJob, trial_line}
 use Rattle.owed_replies.proofs.Bounds.{none_most}
-use Rattle.owed_replies.proofs.Replies.{HasTrialCauses, early_by, failed_with, fault_owed, made_owed, named_well, owed_answer, purpose_end}
-use Rattle.owed_replies.proofs.Replies.{script_cut, script_done, script_fault_owed, task_named, text_owed, trial_done, trial_early}
+use Rattle.owed_replies.proofs.Replies.{HasTrialCauses, early_by, failed_with, fault_owed, made_owed, named_well, owed_answer, same_job}
+use Rattle.owed_replies.proofs.Replies.{script_cut, script_done, script_fault_owed, text_owed, trial_done, trial_early}
 use Rattle.owed_replies.proofs.Replies.{trial_end, trial_part, trial_verdict}
 
 module _ {rest left : Option (List ℕ)} {misread misread_now : ℕ} {SameSource : Type 0}
     {old new : Option (List ℕ)} {miswritten miswritten_now : ℕ} {SameSink : Type 0} where
   -- ---- a run over a sample file
 
-  file_verdict : (taps : List KeptTap) (r : Reception) (status : Status) →
-      ReceivesFile taps r status rest left misread misread_now SameSource old new miswritten
+  file_verdict : (taps : List KeptTap) (job : Job) (status : Status) →
+      ReceivesFile taps job status rest left misread misread_now SameSource old new miswritten
       miswritten_now SameSink → IsVerdict status →
-      IfSome rest (λ bytes. IsAnswered (IsFileReply taps r bytes) status old new)
-  file_verdict taps r Status.Done run verdict =
+      IfSome rest (λ bytes. IsAnswered (IsFileReply taps job bytes) status old new)
+  file_verdict taps job Status.Done run verdict =
       IfSome_then rest (run.done tt) (λ bytes wrote. text_owed wrote)
-  file_verdict taps r Status.NoSync run verdict =
+  file_verdict taps job Status.NoSync run verdict =
       IfSome_then rest (run.done tt) (λ bytes wrote. text_owed wrote)
-  file_verdict taps r (Status.BadFile fault) run verdict =
+  file_verdict taps job (Status.BadFile fault) run verdict =
       IfSome_then rest (run.place fault refl) (λ bytes is. fault_owed fault is)
-  file_verdict taps r (Status.BadScript fault) run verdict = absurd run.others
-  file_verdict taps r status run verdict = absurd verdict
+  file_verdict taps job (Status.BadScript fault) run verdict = absurd run.others
+  file_verdict taps job status run verdict = absurd verdict
 
-  file_end : (taps : List KeptTap) (r : Reception) (status : Status) →
-      ReceivesFile taps r status rest left misread misread_now SameSource old new miswritten
+  file_end : (taps : List KeptTap) (job : Job) (status : Status) →
+      ReceivesFile taps job status rest left misread misread_now SameSource old new miswritten
       miswritten_now SameSink → IsFileEnd status
-  file_end taps r (Status.BadFile fault) run = (run.bad_file fault refl).0
-  file_end taps r (Status.BadScript fault) run = absurd run.others
-  file_end taps r Status.BadWords run = absurd run.others
-  file_end taps r status run = tt
+  file_end taps job (Status.BadFile fault) run = (run.bad_file fault refl).0
+  file_end taps job (Status.BadScript fault) run = absurd run.others
+  file_end taps job Status.BadWords run = absurd run.others
+  file_end taps job status run = tt
 
   -- taps have one name
-  pub with_taps : {taps named : List KeptTap} {r : Reception} {status : Status} → taps ≡ named →
-      ReceivesFile taps r status rest left misread misread_now SameSource old new miswritten
+  pub with_taps : {taps named : List KeptTap} {job : Job} {status : Status} → taps ≡ named →
+      ReceivesFile taps job status rest left misread misread_now SameSource old new miswritten
       miswritten_now SameSink →
-      ReceivesFile named r status rest left misread misread_now SameSource old new miswritten
+      ReceivesFile named job status rest left misread misread_now SameSource old new miswritten
       miswritten_now SameSink
-  with_taps {taps} {named} {r} {status} same run =
+  with_taps {taps} {named} {job} {status} same run =
       subst
-      (λ (k : List KeptTap). ReceivesFile k r status rest left misread misread_now SameSource old new
+      (λ (k : List KeptTap). ReceivesFile k job status rest left misread misread_now SameSource old new
       miswritten miswritten_now SameSink) same run
 
-  pub file_run : (forms : List ℕ) (r : Reception) (limits : Option (List ℕ)) (status : Status) →
-      ReceivesFile (taps_by limits forms) r status rest left misread misread_now SameSource old new
+  pub file_run : (forms : List ℕ) (job : Job) (status : Status) →
+      ((width : Width) → job ≢ Make width) → ((number workers : ℕ) → job ≢ Trial number workers) →
+      ReceivesFile (taps_for job forms) job status rest left misread misread_now SameSource old new
       miswritten miswritten_now SameSink →
-      RunsTask forms (Receive r limits) status rest left misread misread_now SameSource old new
-      miswritten miswritten_now SameSink
-  file_run forms r limits status run = record {
-    kind = purpose_end r.purpose status (file_end (taps_by limits forms) r status run) run.alone;
-    verdict = file_verdict (taps_by limits forms) r status run;
+      RunsJob forms job status rest left misread misread_now SameSource old new miswritten
+      miswritten_now SameSink
+  file_run forms (Make width) status unmade untried run = absurd (unmade width refl)
+  file_run forms (Trial number workers) status unmade untried run =
+      absurd (untried number workers refl)
+  file_run forms job status unmade untried run = record {
+    kind = (file_end (taps_for job forms) job status run, run.alone);
+    verdict = file_verdict (taps_for job forms) job status run;
     read_fault = run.read_fault;
     write_fault = λ lost. (run.write_fault lost, run.begun lost);
     memory = λ none. (run.memory none, run.early none);
@@ -95,7 +98,7 @@ module _ {rest left : Option (List ℕ)} {misread misread_now : ℕ} {SameSource
   pub made_run : (forms : List ℕ) (width : Width) (status : Status) →
       MakesFile width status rest left misread misread_now SameSource old new miswritten
       miswritten_now SameSink →
-      RunsTask forms (Make width) status rest left misread misread_now SameSource old new miswritten
+      RunsJob forms (Make width) status rest left misread misread_now SameSource old new miswritten
       miswritten_now SameSink
   made_run forms width status run = record {
     kind = script_end width status run;
@@ -117,36 +120,36 @@ module _ {rest left : Option (List ℕ)} {misread misread_now : ℕ} {SameSource
     later_sink = run.later_sink;
   }
 
-  -- ---- a task
+  -- ---- a job
 
   -- where nothing failed, a run answers what its input is owed
-  pub exact_answer : (forms : List ℕ) (task : Task) (status : Status) →
-      RunsTask forms task status rest left misread misread_now SameSource old new miswritten
+  pub exact_answer : (forms : List ℕ) (job : Job) (status : Status) →
+      RunsJob forms job status rest left misread misread_now SameSource old new miswritten
       miswritten_now SameSink → (bytes held : List ℕ) (reply : Reply) → rest ≡ Some bytes →
-      old ≡ Some held → IsTaskReply forms task bytes reply → ¬ (Rose misread misread_now) →
+      old ≡ Some held → IsReply forms job bytes reply → ¬ (Rose misread misread_now) →
       ¬ (Rose miswritten miswritten_now) →
       (status ≡ Status.NoMemory) ⊎ AnswersAfter held reply status new
-  exact_answer forms task Status.BadWords run bytes held reply is was owed reads writes =
-      absurd (named_well task run.kind)
-  exact_answer forms task Status.ReadFault run bytes held reply is was owed reads writes =
+  exact_answer forms job Status.BadWords run bytes held reply is was owed reads writes =
+      absurd (named_well job run.kind)
+  exact_answer forms job Status.ReadFault run bytes held reply is was owed reads writes =
       absurd (reads (run.read_fault refl))
-  exact_answer forms task Status.WriteFault run bytes held reply is was owed reads writes =
+  exact_answer forms job Status.WriteFault run bytes held reply is was owed reads writes =
       absurd (writes (run.write_fault refl).0)
-  exact_answer forms task Status.NoMemory run bytes held reply is was owed reads writes = inl refl
-  exact_answer forms task status run bytes held reply is was owed reads writes =
-      inr (owed_answer forms task status bytes held reply rest old new (run.verdict tt) is was owed)
+  exact_answer forms job Status.NoMemory run bytes held reply is was owed reads writes = inl refl
+  exact_answer forms job status run bytes held reply is was owed reads writes =
+      inr (owed_answer forms job status bytes held reply rest old new (run.verdict tt) is was owed)
 
-  -- what is promised of a job's task is promised of the job that the arguments name
-  pub run_of : {forms : List ℕ} {task : Task} {status : Status} {named : Option Job} {one : Job}
-      (job : Job) → task ≡ task_of one → named ≡ Some one → named ≡ Some job →
-      RunsTask forms task status rest left misread misread_now SameSource old new miswritten
+  -- what is promised of one job that the arguments name is promised of each
+  pub run_of : {forms : List ℕ} {status : Status} {named : Option Job} {one : Job} (job : Job) →
+      named ≡ Some one → named ≡ Some job →
+      RunsJob forms one status rest left misread misread_now SameSource old new miswritten
       miswritten_now SameSink →
-      RunsTask forms (task_of job) status rest left misread misread_now SameSource old new miswritten
+      RunsJob forms job status rest left misread misread_now SameSource old new miswritten
       miswritten_now SameSink
-  run_of {forms} {task} {status} {named} {one} job is so also run =
+  run_of {forms} {status} {named} {one} job so also run =
       subst
-      (λ (t : Task). RunsTask forms t status rest left misread misread_now SameSource old new
-      miswritten miswritten_now SameSink) (task_named task one job is so also) run
+      (λ (j : Job). RunsJob forms j status rest left misread misread_now SameSource old new
+      miswritten miswritten_now SameSink) (same_job named one job so also) run
 
 -- ---- a trial
 
@@ -161,7 +164,7 @@ pub trial_run : (forms : List ℕ) (number workers : ℕ) (ran : Result (Unit {0
     (ran ≡ Err Status.NoMemory → SameSink) →
     (ran ≡ Err Status.WriteFault → Rose miswritten miswritten_now) → miswritten ≤ miswritten_now →
     SameSource →
-    RunsTask forms (Trial number workers) (ended ran) rest rest misread misread SameSource old new
+    RunsJob forms (Trial number workers) (ended ran) rest rest misread misread SameSource old new
     miswritten miswritten_now SameSink
 trial_run forms number workers ran rest misread {SameSource} {old} {new} causes memory write_fault
     later unread =

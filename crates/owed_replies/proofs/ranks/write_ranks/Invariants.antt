@@ -1,5 +1,6 @@
-use Rattle.cdma_replay.proofs.Common.{◌≤◌, take, Appends, ranks_text}
-use Rattle.cdma_replay.proofs.ranks.write_ranks.Given as goal
+use Rattle.owed_replies.proofs.Common.{◌≤◌, take, Appends}
+use Rattle.owed_replies.specs.Ranks.{ranks_text}
+use Rattle.owed_replies.proofs.ranks.write_ranks.Given as goal
 
 abbrev pub invariant-loop-place : goal.invariant-loop-place
 invariant-loop-place g l = record {
