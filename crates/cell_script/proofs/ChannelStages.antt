@@ -51,7 +51,7 @@ heard-append size count (p ∷ pages) page are is room = (
 
 -- ---- the channels at a stage
 
--- the last channel is under way: its pages have so many body bits
+-- the last channel is under way: its pages have `count` body bits
 pub record IsOpen (rate : Rate) (count : ℕ) (plan : CellPlan) : Type 0 where
   pub rate_is : sent_paging_rate plan.sync ≡ rate
   pub before : List PagingPlan

@@ -80,7 +80,7 @@ apart_after before [] none = (All-nil (λ (q : ChannelLine). is_used q.row befor
 apart_after before (l ∷ ls) none =
     apart_step before l ls (is_used l.row before) refl none (apart_after (before ++ l ∷ []) ls)
 
--- ---- at most so many rows
+-- ---- a bounded number of rows
 
 abbrev IsWithin : ℕ → ChannelLine → Type 0
 IsWithin most q = (1 ≤ q.row) × (q.row ≤ most)

@@ -183,7 +183,8 @@ bits_in-parts front hex are =
     ∙ ap (λ (t : List ℕ). bits_of_parts front t) (drop-append_seam front (58 ∷ hex))
 
 -- Bits that were spelled are read again: the text is split at its colon into count and hex digits,
--- which give the padded bits (`hex_bits_back`), and the first so many of these are the bits.
+-- which give the padded bits (`hex_bits_back`), and the first of these, as many as the count says,
+-- are the bits.
 pub bits_back : (bits : List Bool) → length bits ≤ 1184 → bits_in_text (bit_text bits) ≡ Some bits
 unfolding bit_text
 bits_back bits few =

@@ -33,7 +33,7 @@ unfoldable pub draft_after : Draft → List ℕ → Option Draft
 draft_after draft line =
     if is_line line then with_line draft (take (length line - 1) line) else None
 
--- The plan that lines state, added to a draft. Else a number, where the first line has number n:
+-- The plan that lines state, added to a draft. Otherwise a number, if the first line has number n:
 -- that of the first line that can't stand where it stands, or that of the line after the last where
 -- one is missing.
 unfoldable pub stated : Draft → ℕ → List (List ℕ) → Result CellPlan ℕ

@@ -71,6 +71,6 @@ unsigned_line rows text = unsigned_from 0 (0 ∷ 0 ∷ 0 ∷ 0 ∷ []) rows text
 abbrev pub row_form : List StatementField → ℕ → FieldForm
 row_form rows k = get_or (map (λ (row : StatementField). row.form) rows) k forms.Signed
 
--- each value of so many is in the range of its field's form
+-- each of the first n values is in the range of its field's form
 abbrev pub AreOfForms : List StatementField → ℕ → List ℕ → Type 0
 AreOfForms rows count values = (k : ℕ) → k < count → IsOfForm (row_form rows k) (get_or values k 0)

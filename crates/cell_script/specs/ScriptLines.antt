@@ -253,8 +253,8 @@ traffic_frame_in text = do
 
 -- ---- what a line states
 
--- the kind of a statement is told by its first word: of one that tells of a paging or traffic
--- channel, and of any
+-- the first word of a statement selects its kind: for statements of paging and traffic channels,
+-- and for all statements
 abbrev pub channel_statement_in : List ℕ → Option Statement
 channel_statement_in text =
     if begins_with text (codes "paging ") then option_map statements.Paging (paging_in text)

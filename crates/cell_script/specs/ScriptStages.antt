@@ -26,7 +26,7 @@ abbrev pub may_follow : Rate → ℕ → Bool → Bool
 may_follow rate count follows =
     if follows then nat_le 8 (bits_left (half_frame_body rate) count) else true
 
--- whether a cycle of so many body bits isn't too long
+-- whether a cycle of n body bits isn't too long
 abbrev pub is_cycle : Rate → ℕ → Bool
 is_cycle rate count = nat_le (half_frame_bits (half_frame_body rate) count) 8192
 

@@ -43,7 +43,8 @@ pub(crate) struct ChannelRows {
     gains: u64,
 }
 
-/// The first row of which something is so: the one found before, and else this one where it is.
+/// The first row of which something is so: the one found before, otherwise this one if it is such a
+/// row.
 fn first_row(before: Option<u8>, is: bool, row: u8) -> Option<u8>
     ensures { result ≡ option_or before (if is then Some row else None) }
 {

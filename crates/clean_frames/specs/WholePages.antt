@@ -40,7 +40,7 @@ pub record Placed : Type 0 where
   pub last : ℕ
   pub page : Page
 
--- the pages after so many body bits, where the run under way began in this half-frame
+-- the pages after n body bits, if the current run began in this half-frame
 abbrev pub placed : ℕ → CheckForm → ℕ → ℕ → List Page → List Placed
 placed size form at run [] = []
 placed size form at run (page ∷ pages) =
@@ -54,7 +54,7 @@ placed size form at run (page ∷ pages) =
 abbrev pub cycle_half_frames : Rate → CheckForm → List Page → ℕ
 cycle_half_frames rate form pages = length (page_cycle rate form pages) / (half_frame_body rate + 1)
 
--- whether a transmission of a page, so many half-frames after the first one, begins its run in
+-- whether the transmission of a page that is n half-frames after the first one begins its run in
 -- half-frame `low` or later and ends before half-frame `high`
 abbrev pub is_between : ℕ → ℕ → ℕ → Placed → Bool
 is_between low high half_frames p =
@@ -65,8 +65,8 @@ abbrev pub sending_of : CheckForm → ℕ → ℕ → Placed → ℕ × List Boo
 sending_of form first half_frames p =
     ((half_frames + p.last) / 2 - first, capsule M30 form p.page.body)
 
--- The transmissions of the pages, in so many rounds of the cycle, whose runs lie in n frames from
--- frame `first` on, up to the page's last bit.
+-- The transmissions of the pages, in a number of rounds of the cycle, whose runs lie in n frames
+-- from frame `first` on, up to the page's last bit.
 abbrev pub sendings_between : Rate → CheckForm → List Page → ℕ → ℕ → ℕ → List (ℕ × List Bool)
 sendings_between rate form pages first n rounds =
     let cycle = cycle_half_frames rate form pages in
@@ -78,7 +78,7 @@ sendings_between rate form pages first n rounds =
 
 -- ---- in a file
 
--- whether a transmission of a page, so many half-frames after the first one, begins its run at a
+-- whether the transmission of a page that is n half-frames after the first one begins its run at a
 -- mark or after it, and ends in a frame that the file holds whole; both are local chips
 abbrev pub is_whole_page : ℕ → ℕ → ℕ → Placed → Bool
 is_whole_page mark_chip end_chip half_frames p =
@@ -128,8 +128,8 @@ pub record KnownPage : Type 0 where
 abbrev pub message_in : List Bool → PagingMessage
 message_in body = message_at (number_at 0 8 body) (drop 8 body)
 
--- what a handset tells of a transmission of a page, so many half-frames after the first one, when
--- it knows the frame of its last bit
+-- the event for the transmission of a page that is n half-frames after the first one, when the
+-- handset knows the frame of its last bit
 abbrev pub page_told : CellPlan → ℕ → Placed → KnownPage
 page_told plan half_frames p = record {
   at = heard_after data_frame_chips plan.link.samples

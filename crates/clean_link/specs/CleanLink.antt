@@ -55,7 +55,7 @@ pub record IsTunedToPlan (plan : CellPlan) (t : Tuning) : Type 0 where
 
 -- ---- whole transmissions
 
--- what a handset tells of a transmission, when it knows the last of its frames
+-- the event for a transmission, when the handset knows the last of its frames
 abbrev pub sending_event : CellPlan → SyncFields → ℕ → Event
 sending_event plan m sending =
     Sync
@@ -63,7 +63,7 @@ sending_event plan m sending =
     (sync_capsule plan.cell.check30 (message_of plan.cell m sending))
     (message_of plan.cell m sending)
 
--- what it tells of all whole transmissions, in order
+-- the events for all whole transmissions, in order
 abbrev pub events_of_channel : CellPlan → Option SyncPlan → List Event
 events_of_channel plan None = []
 events_of_channel plan (Some sync) =

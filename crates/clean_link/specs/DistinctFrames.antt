@@ -84,8 +84,8 @@ codewords_giving shown (suc n) j eight =
     (codewords_giving shown n (j + 1) (drop 1 nine)))
     (filter (gives shown j) ((eight ++ false ∷ []) ∷ (eight ++ true ∷ []) ∷ []))
 
--- What a frame's repeated symbols, so many of each of its code symbols, show of the code symbols of
--- a codeword that repeats each of its own another number of times
+-- What a frame's repeated symbols show of the code symbols of a codeword that repeats each of its
+-- own code symbols another number of times
 abbrev pub symbols_known_of : (ℕ → Bool) → List Bool → ℕ → ℕ → ℕ → List Bool
 symbols_known_of known symbols repeats others c =
     map (λ k. get_or symbols (k / repeats) false)

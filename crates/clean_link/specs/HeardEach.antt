@@ -49,8 +49,8 @@ abbrev pub IsEventOf : CellPlan → TrafficPlan → ℕ → Event → Type 0
 IsEventOf plan p frame event = (f : SetOneFrame)
     × (cycled_frame (frames_of plan p) frame ≡ f ∷ []) × IsSentFrame plan p frame f event
 
--- One event for each frame of a channel that begins at the mark, so many superframes after local
--- chip 0, or later, and lies in the file, in order.
+-- One event for each frame of a channel that begins at the mark, which is `superframes` superframes
+-- after local chip 0, or later, and that lies in the file, in order.
 pub record AreEventsOf (plan : CellPlan) (p : TrafficPlan) (superframes : ℕ)
     (frames : List Event) : Type 0 where
   pub event : ℕ → Event

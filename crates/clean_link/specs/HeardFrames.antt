@@ -16,11 +16,11 @@ pub record IsOnePilot (traffic : Traffic) (legs : List Leg) : Type 0 where
 
 -- ---- what is told of the frames of a channel
 
--- what a handset tells of a frame that ends at so many samples
+-- the event of a frame that ends at n samples
 abbrev pub sent_frame_event : ℕ → SetOneFrame → Event
 sent_frame_event n f = Frame n f.rate true f.information (sent_power_bits f)
 
--- what it tells of the one that is sent as frame `frame`
+-- the events for the frame that is sent as frame `frame`
 abbrev pub frame_told : CellPlan → TrafficPlan → ℕ → List Event
 frame_told plan p frame =
     map (sent_frame_event (frame_ends plan p frame)) (cycled_frame (frames_of plan p) frame)

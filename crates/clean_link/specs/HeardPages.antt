@@ -16,7 +16,7 @@ type_within {A} given = A
 abbrev pub ReadPage : Type 0
 ReadPage = type_within (as_spelled_page [] None)
 
--- that page, known at so many samples
+-- that page, known at n samples
 abbrev pub known_page : ℕ → ReadPage → KnownPage
 known_page n page = record { at = n; capsule = page.capsule; message = page.message }
 

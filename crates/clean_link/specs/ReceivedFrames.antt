@@ -56,9 +56,9 @@ pub record IsSentFrame2 (plan : CellPlan) (p : TrafficPlan) (frame : ℕ) (f : S
 
 -- ---- after a mark
 
--- Soft frames that are just a channel's frames that begin at a mark or after it and lie in the
--- file, in order, one for each of them, of which something is true; the mark is so many superframes
--- after local chip 0.
+-- Soft frames, one for each of a channel's frames that begin at a mark or after it and lie in the
+-- file, in order, each of which satisfies a condition. The mark is a number of superframes after
+-- local chip 0.
 pub record AreReceivedFrom (plan : CellPlan) (p : TrafficPlan) (at : Option ℕ)
     (Is : ℕ → SoftFrame → Type 0) (frames : List SoftFrame) : Type 0 where
   pub superframes : ℕ

@@ -34,11 +34,11 @@ sets_events_at t samples n =
 
 -- ---- the paging channel
 
--- what a handset tells of a page
+-- the event for a page
 abbrev pub known_event : KnownPage → Event
 known_event page = Paging page.at page.capsule page.message
 
--- what it tells of the whole pages of a channel after the mark, where one is set
+-- the events for the whole pages of a channel after the mark, if one is set
 abbrev pub pages_after_mark : CellPlan → ℕ → Option ℕ → List Event
 pages_after_mark plan channel None = []
 pages_after_mark plan channel (Some superframes) =
@@ -55,8 +55,8 @@ paging_sent plan channel = pages_after plan channel (told_with_sync plan plan.sy
 
 -- ---- the traffic channel
 
--- what it tells of the channel that it follows, by the channel's row and the mark's local chip,
--- where a mark is set
+-- the events for the traffic channel that is followed, by the channel's row and the mark's local
+-- chip, if a mark is set
 abbrev pub told_followed : (ℕ → ℕ → List Event) → Option Traffic → Option ℕ → List Event
 told_followed sent None told = []
 told_followed sent (Some traffic) None = []
@@ -101,7 +101,7 @@ sets_heard plan energy channel followed =
 abbrev pub is_at : ℕ → Event → Bool
 is_at n event = at_of event == n
 
--- Events by the number of samples at which they are known, up to so many; at one number those of
+-- Events by the number of samples at which they are known, up to n samples; at one number those of
 -- the first list come first.
 abbrev pub by_places : ℕ → List Event → List Event → List Event
 by_places count one other =

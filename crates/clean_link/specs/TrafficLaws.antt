@@ -38,13 +38,13 @@ pub record IsHeardAs (plan : CellPlan) (p : TrafficPlan) (t : Tuning) (traffic :
 
 -- ---- handoff
 
--- no message that is heard of the channel within so many samples directs a handoff
+-- no message that is received on the channel within n samples directs a handoff
 abbrev pub IsUndirected : Tuning → Traffic → Mark → List Sample → ℕ → Type 0
 IsUndirected t traffic m samples n =
     (i : ℕ) → i ≤ n → All IsNotDirected (messages_at t traffic m samples i)
 
 -- Where that is so of any file, each frame is heard from the reference's pilot alone: a direction
--- never waits, and all else that is heard leaves the active set.
+-- never waits, and everything else that is received keeps the active set.
 abbrev pub OnePilotIsHeard : Type 0
 OnePilotIsHeard = (t : Tuning) (traffic : Traffic) (m : Mark) (samples : List Sample) (n k : ℕ) →
     IsUndirected t traffic m samples n → IsOnePilot traffic (legs_at t traffic m samples n k)
@@ -92,8 +92,8 @@ SixteenPowerBitsAreSent =
 -- ---- in a file
 
 -- Where no handoff is directed there is one event for each frame of the channel that begins at the
--- mark or after it and lies in the file, at the frame's own end, in order. It is what any pilots
--- tell of whom the reference's is the only one. So it is in any file as long as the cell's.
+-- mark or after it and lies in the file, at the frame's own end, in order. It is the case of any
+-- pilots in which the reference's is the only one. So it is in any file as long as the cell's.
 abbrev pub EachFrameIsHeard : Type 0
 EachFrameIsHeard = (width : Width) (plan : CellPlan) (p : TrafficPlan) (t : Tuning)
     (traffic : Traffic) (m : Mark) (superframes : ℕ) (legs : ℕ → List Leg)

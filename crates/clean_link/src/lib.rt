@@ -11,9 +11,9 @@
 //!
 //! The steps up to a span's codeword are `clean_signal`'s, stated over any channel of a plan and
 //! any stream with one finger on the path, and the sync channel is their first case (`CleanLaws`).
-//! What bits alone tell of pages is `clean_frames`'. The frames of a traffic channel are encoded
-//! one by one, and take of them the soft values (`TrafficLaws`). Those that are received of the
-//! reference base station alone come back whatever messages are heard, of either rate set
+//! What follows from bits of pages only is in `clean_frames`. The frames of a traffic channel are
+//! encoded one by one, and take of them the soft values (`TrafficLaws`). Those that are received of
+//! the reference base station alone come back whatever messages are heard, of either rate set
 //! (`ReceivedLaws`). What a handset hears of all channels is said channel by channel and frame by
 //! frame (`HeardEach`), and, where each frame is distinct, as one list (`SentEvents`).
 //!

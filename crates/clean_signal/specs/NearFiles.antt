@@ -53,7 +53,7 @@ OtherPathsAreNoise = (plan : CellPlan) (link : LinkPlan) (e : ℕ) →
 
 -- ---- a louder link
 
--- the same cell over a link whose factor is so many times this one's
+-- the same cell over a link whose factor is n times this one's
 abbrev pub louder : ℕ → CellPlan → CellPlan
 louder d plan = over_link (record plan.link { factor = scaled (pos d) plan.link.factor }) plan
 

@@ -87,7 +87,7 @@ abbrev pub scrambled_with : List Bool → List Bool → List Bool
 scrambled_with [] symbols = symbols
 scrambled_with (b ∷ bits) symbols = zip_with xor symbols (b ∷ bits)
 
--- Frames of so many symbols, which the code symbols of eight bits or more fill, each of them sent
+-- Frames of `symbols` symbols, which the code symbols of eight bits or more fill, each of them sent
 -- equally often.
 pub record IsWholeChannel (c : Channel) (symbols : ℕ) : Type 0 where
   pub kind : Kind
@@ -109,8 +109,8 @@ pub record AreReadBy (c : Carrier) (s : StreamOf Channel) (bits_of : ℕ → Lis
       scrambled_with (s.scrambling k)
       (sent s.channel.shape s.channel.repeats (continued_symbols bits_of (base + k)))
 
--- The codeword of so many frames of a source: the encoder's eight bits before the first of them,
--- and theirs.
+-- The codeword of n frames of a source: the encoder's eight bits before the first of them, and
+-- theirs.
 abbrev pub span_codeword : (ℕ → List Bool) → ℕ → ℕ → Codeword
 span_codeword bits_of first frames = record {
   start = bits_before bits_of first;

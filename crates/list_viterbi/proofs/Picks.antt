@@ -62,7 +62,7 @@ odd_has i j g h even odd most next =
     omega (arith, here, long)
 
 -- SO MANY PICKS
--- so many scores and choices, of the first picks of both lists
+-- the scores and choices of the first n picks of both lists
 pub record IsPicked (k : ℕ) (xs ys : List Pick) (i j n : ℕ) (scores : List ℤ) (choices : ℕ) :
     Type 0 where
   pub taken : List Pick

@@ -53,7 +53,7 @@ finds_from t place [] = []
 finds_from t place (s ∷ ss) =
     record { score = s; state = t; rank = place } ∷ finds_from t (suc place) ss
 
--- the first k codewords of the lists of the first so many states
+-- the first k codewords of the lists of the first n states
 unfoldable pub first_finds : List (List ℤ) → ℕ → ℕ → List Find
 first_finds column k zero = []
 first_finds column k (suc n) =
@@ -69,7 +69,7 @@ entry_at columns f = record {
   score = f.score;
 }
 
--- the scores of the first codewords into all states, of so many at most for each
+-- the scores of the first codewords into all states, at most a fixed number for each
 pub record ColumnValue : Type 0 where
   pub k : ℕ
   pub scores : List (List ℤ)

@@ -40,7 +40,7 @@ abbrev pub HaveScores : List ℤ → List Entry → Type 0
 HaveScores softs entries = All (λ e. e.score ≡ score_of softs (codeword_of e)) entries
 
 -- what a list decoder makes of soft values: the first k allowed codewords with their scores, or all
--- where there are fewer, and how many they are; it is still for so many bits
+-- where there are fewer, and how many they are; it is still for `bits` bits
 pub record AreListed (softs : List ℤ) (ends : Ends) (k bits left : ℕ) (out : List Entry)
     (result : ℕ) : Type 0 where
   pub first : AreFirst (score_of softs) (IsAllowed ends (length softs / 2)) k (map codeword_of out)

@@ -69,7 +69,7 @@ EntriesStart ends state [] = ¬ (HasStart ends (low_bits 8 state))
 EntriesStart ends state (e ∷ []) = HasStart ends (low_bits 8 state) × IsStartEntry state e
 EntriesStart ends state (e ∷ f ∷ es) = ⊥
 
--- the first k of the lists of the first so many states
+-- the first k of the lists of the first n states
 unfoldable pub first_lists : List (List Entry) → ℕ → ℕ → List Entry
 first_lists column k zero = []
 first_lists column k (suc n) = merge entry_score k (first_lists column k n) (get_or column n [])

@@ -33,7 +33,7 @@ picks_into column first second k t = picks_by column (gain_by first second (lane
 
 -- Choices are a number, bit r of which is the oldest bit of the state that codeword r comes from.
 
--- how many of the first so many codewords come from the state with oldest bit 1
+-- how many of the first n codewords come from the state with oldest bit 1
 unfoldable pub ones_below : ℕ → ℕ → ℕ
 ones_below choices zero = 0
 ones_below choices (suc n) = ones_below choices n + digit (bit_of choices n)

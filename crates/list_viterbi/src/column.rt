@@ -1,4 +1,4 @@
-//! The scores of the first codewords into all states, after so many bits.
+//! The scores of the first codewords into all states, after a number of bits.
 
 ghost use Rattle.std.specs.Prelude.{◌≡◌, ◌<◌, ◌≤◌, ◌+◌, ◌^◌, ℕ, [], length, get_or, vec_len, All};
 ghost use Rattle.std.specs.Prelude.{unsigned_abs, IfOk};

@@ -59,7 +59,7 @@ impl ListDecoder {
     ///
     /// There are two soft values a bit, that of the symbol of 753 octal first and then that of 561
     /// octal (TIA/EIA-95-B, 7.1.3.1.3.1). Soft values, scores and the order of codewords are those
-    /// of `viterbi::Decoder::best_into`. Between zeros there are 2^(bits - 8) codewords, and else
+    /// of `viterbi::Decoder::best_into`. There are 2^(bits - 8) codewords between zeros, otherwise
     /// 2^(bits + 8), which is never fewer than 16.
     pub fn list_into(&mut self, softs: &[i64], ends: Ends, k: u8, out: &mut Codewords) -> u8
         requires some { 1 ≤ k }

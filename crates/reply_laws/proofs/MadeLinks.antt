@@ -1,5 +1,6 @@
--- The file that is made of a script can be read and is a clean link where the search finds the cell's path;
--- what it is owed if the cell's pilot is louder than all of its other channels together.
+-- The file that is made of a script can be read and is a clean link where the search finds the
+-- cell's path; the required output if the cell's pilot is louder than all of its other channels
+-- together.
 use Rattle.reply_laws.proofs.Common.{clean_sent, clean_signs, ◌≡◌, ℕ, ◌+◌, ◌-◌, ◌*◌, ◌<◌, ◌≤◌, List, ◌++◌, get_or, take, All, refl, sym, ap}
 use Rattle.reply_laws.proofs.Common.{◌∙◌, subst, arith, unsigned_abs, Option, Ok, flat_map, All-from_get_or, Sample, HasBits, IsSampleFile}
 use Rattle.reply_laws.proofs.Common.{IsLawfulHeader, header_spelling, most_samples, sample_spelling, width_of, Width, Sixteen, Eight, Job}

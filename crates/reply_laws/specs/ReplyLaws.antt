@@ -17,7 +17,7 @@ EachInputIsOwed =
     (forms : List ℕ) (job : Job) (bytes : List ℕ) → All (λ b. b < 256) bytes →
     (reply : Reply) × IsReply forms job bytes reply
 
--- the same job by so many workers; `make` has none
+-- the same job by n workers; `make` has none
 abbrev pub with_workers : ℕ → Job → Job
 with_workers n (jobs.Find span workers) = jobs.Find span n
 with_workers n (jobs.Follow span workers fingers paging traffic limits) =

@@ -16,8 +16,8 @@ use Rattle.clean_frames.specs.SentFrames.{sent_bits, sent_power_bits, IsDistinct
 
 -- ---- any frames
 
--- One line for each frame of a channel that begins at the mark, so many superframes after local
--- chip 0, or later, and lies in the file, in order, of which something is true.
+-- One line for each frame of a channel that begins at the mark, a number of superframes after local
+-- chip 0, or later, and that lies in the file, in order, each of which satisfies a condition.
 pub record AreSentLines (plan : CellPlan) (p : TrafficPlan) (Is : ℕ → List ℕ → Type 0)
     (superframes : ℕ) (text : List ℕ) : Type 0 where
   pub line : ℕ → List ℕ

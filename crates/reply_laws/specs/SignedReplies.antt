@@ -89,7 +89,7 @@ abbrev pub rate2_job : ℕ → ℕ → ℕ → Traffic → Job
 rate2_job span workers fingers traffic =
     jobs.Rate2 span workers fingers traffic.offset traffic.esn traffic.row
 
--- what `list` is asked for, with so many codewords of a rate
+-- the job of `list`, with n codewords of a rate
 abbrev pub list_job : ℕ → ℕ → ℕ → ℕ → Traffic → Job
 list_job k span workers fingers traffic =
     jobs.List span workers fingers traffic.offset traffic.esn traffic.row k

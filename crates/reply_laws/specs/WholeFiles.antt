@@ -55,7 +55,7 @@ second_header = header_of Sixteen second_cell
 abbrev pub second_file : List ℕ
 second_file = made_file Sixteen second_cell
 
--- the event of a transmission, which is known at so many samples
+-- the event of a transmission, which is known at n samples
 abbrev pub second_event : ℕ → ℕ → Event
 second_event at sending =
     let told = message_of second_cell.cell (some_message 0) sending in

@@ -281,7 +281,7 @@ module _ (plan : CellPlan) (t : Tuning) (number : ℕ) (m : Mark) (superframes :
       let same = paging_alone t number m tuned.alone in
       record { phase = same.phase; row = same.row; fingers = same.fingers }
 
-  -- each of their frames ends so many samples after the mark
+  -- the number of samples after the mark at which each of their frames ends
   end_is : (slot i : ℕ) → frame_of_slot_end stream slot i ≡ m.sample + 24576 * (4 * slot + i + 1)
   end_is slot i = known_at_once t.count stream (frame_of_slot slot i) alone refl ∙ omega arith
 

@@ -30,14 +30,15 @@ bits_in_slot bits_of first = flat_map (λ k. bits_of (first + k)) (places 4)
 abbrev pub placed_message : Placed → PagingMessage
 placed_message p = message_in p.page.body
 
--- Of the pages of one round of a cycle, which begins so many half-frames after the first one,
--- those whose run begins in the four frames from frame `first` on, and which end in them too, in
--- order. A run begins with a half-frame; a page ends with its last bit.
+-- The pages of one round of a cycle, which begins a number of half-frames after the first one,
+-- whose run begins in the four frames from frame `first` on, and which also end in them, in order.
+-- A run begins with a half-frame; a page ends with its last bit.
 abbrev pub round_in_slot : ℕ → ℕ → List Placed → List PagingMessage
 round_in_slot first half_frames pages =
     map placed_message (filter (is_between (2 * first) (2 * (first + 4)) half_frames) pages)
 
--- Those of all rounds of the cycle: no round but the first so many begins before the slot ends.
+-- Those of all rounds of the cycle: the first 2 (first + 4) are enough, because no later round
+-- begins before the slot ends.
 unfoldable pub pages_in_slot : Rate → CheckForm → List Page → ℕ → List PagingMessage
 pages_in_slot rate form pages first =
     flat_map
@@ -84,8 +85,8 @@ slots_sent key cycle plan p = slots_after key cycle plan p (told_with_sync plan 
 
 -- ---- frames
 
--- the symbols of so many frames from frame `first` on, frame after frame in the order in which they
--- are sent, of a source of bits whose encoder goes on from frame to frame
+-- the symbols of n frames from frame `first` on, frame after frame in the order in which they are
+-- sent, of a source of bits whose encoder continues from frame to frame
 abbrev pub sent_in_span : Channel → (ℕ → List Bool) → ℕ → ℕ → List Bool
 sent_in_span c bits_of first frames =
     flat_map (λ j. sent c.shape c.repeats (continued_symbols bits_of (first + j))) (places frames)

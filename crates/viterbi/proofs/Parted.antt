@@ -3,7 +3,7 @@ use Rattle.viterbi.proofs.Common.{◌≡◌, ℕ, zero, suc, ◌+◌, ◌-◌, �
 use Rattle.viterbi.proofs.Common.{arith, pos, to_z, of_z, w64, FitsSigned, ⊎_elim, to_z-of_z, get_or-map, get_or_append_left, length-map}
 use Rattle.viterbi.proofs.Common.{get_or-append_right, length-chunk, get_or-chunk, cases_lt, chunk}
 
--- two vectors of so many
+-- two vectors of n entries
 abbrev pub two_chunks : ℕ → List ℤ → ℕ → List ℕ
 two_chunks n column at = map (of_z w64) (chunk at n column) ++ map (of_z w64) (chunk (at + n) n column)
 

@@ -60,7 +60,7 @@ Agrees columns k t metric (Some s) =
     × ((path columns k t ≡ s.codeword.bits) × (binary 8 s.codeword.start
     ≡ low_bits 8 (path_origin columns k t)))
 
--- where the state with oldest bit 1 may not be taken it has no survivor, and else both have one
+-- if the state with oldest bit 1 may not be taken, it has no survivor; otherwise both have one
 abbrev pub Alive : Bool → Option Survivor → Option Survivor → Type 0
 Alive true one None = Unit {0}
 Alive true one (Some two) = ⊥
@@ -68,8 +68,8 @@ Alive false None two = ⊥
 Alive false (Some one) None = ⊥
 Alive false (Some one) (Some two) = Unit {0}
 
--- whether, after so many bits, states with oldest bit 1 may not be taken: from zeros no codeword
--- leads into one
+-- whether, after n bits, states with oldest bit 1 may not be taken: from zeros no codeword leads
+-- into one
 abbrev pub forced_at : Ends → ℕ → Bool
 forced_at Zero k = nat_lt k 8
 forced_at Free k = false

@@ -3,15 +3,15 @@
 use chip_core::Bits;
 use chip_core::air::SPAN_BITS;
 
-/// The most bits of a codeword that a decoder has room for: those of three frames.
+/// The most bits of a codeword for which a decoder has room: those of three frames.
 pub const MOST_BITS: usize = SPAN_BITS as usize;
 
-/// Which codewords are allowed.
+/// The codewords that are allowed, by their ends.
 #[derive(Clone, Copy, PartialEq, Eq, Debug)]
 pub enum Ends {
     /// Codewords that start from eight zeros and end with eight zeros.
     Zero,
-    /// Codewords with any eight start bits and any end.
+    /// Codewords with any eight start bits and any last bits.
     Free,
 }
 
@@ -24,5 +24,5 @@ pub struct Codeword {
     pub bits: Bits,
 }
 
-/// A codeword, by its shorter name.
+/// A shorter name of a codeword.
 pub type Word = Codeword;

@@ -7,25 +7,25 @@ ghost use Rattle.viterbi.specs.Columns.{took, path, path_origin};
 use crate::codeword::MOST_BITS;
 use chip_core::Bits;
 
-/// A bit for each state after some bit, state `s` at bit `s % 8` of byte `s / 8`: whether the best
-/// codeword into it comes from the state before whose oldest bit is 1.
+/// The decisions of one bit of a codeword. Bit `s % 8` of byte `s / 8` says whether the best
+/// codeword into state `s` comes from the previous state whose oldest bit is 1.
 pub type Decisions = [u8; 32];
 
-/// Whether a state came from the one with oldest bit 1.
+/// Returns whether a state came from the one with oldest bit 1.
 fn is_taken(decisions: &Decisions, state: u8) -> bool
     ensures { result ≡ took decisions.now state }
 {
     decisions[(state / 8) as usize] >> (state % 8) & 1 == 1
 }
 
-/// The state before a state.
+/// Returns the state before a state.
 fn state_before(decisions: &Decisions, state: u8) -> u8
     ensures { result ≡ 2 * (state % 128) + digit (took decisions.now state) }
 {
     2 * (state % 128) + u8::from(is_taken(decisions, state))
 }
 
-/// The bits that the columns lead back to from a state go into `bits`; the answer is the state
+/// Writes the bits to which the columns lead back from a state into `bits`, and returns the state
 /// before them.
 fn trace_back(columns: &[Decisions], end: u8, bits: &mut [bool]) -> u8
     requires { length bits.old ≡ length columns.now }
@@ -41,7 +41,7 @@ fn trace_back(columns: &[Decisions], end: u8, bits: &mut [bool]) -> u8
     state
 }
 
-/// The bits, in order, in memory of their own; there are at most 576.
+/// Returns the bits, in order, as a list; there are at most 576.
 pub fn bits_of(path: &[bool]) -> Bits
     requires { length path.now ≤ 576 }
     ensures { result ≡ path.now }
@@ -53,8 +53,8 @@ pub fn bits_of(path: &[bool]) -> Bits
     bits
 }
 
-/// The state before the bits that the columns, one for each bit, lead back to from a state, and the
-/// bits.
+/// Returns the bits to which the columns, one for each bit, lead back from a state, and the state
+/// before them.
 pub fn traced(columns: &[Decisions], end: u8) -> (u8, Bits)
     requires { length columns.now ≤ 576 }
     ensures start { result.0 ≡ path_origin columns.now (length columns.now) end }

@@ -18,8 +18,8 @@ use crate::metrics::greatest;
 use crate::symbol_gains::{lane_gains, pattern_of};
 use std::simd::prelude::*;
 
-/// The greater of each two metrics, the first on a tie, and a bit for each: whether it is the
-/// second.
+/// Returns the greater of each two metrics, the first on a tie, and a bit for each: whether it is
+/// the second.
 fn selected_lanes(even: i64x8, odd: i64x8) -> (i64x8, u64)
     requires even_long { length even ≡ 8 }
     requires odd_long { length odd ≡ 8 }
@@ -34,7 +34,7 @@ fn selected_lanes(even: i64x8, odd: i64x8) -> (i64x8, u64)
 
 /// Eight metrics of states with oldest bit 0 plus the gains, and eight of states with oldest bit 1
 /// minus the gains: both generators, 753 and 561 octal (TIA/EIA-95-B, 7.1.3.1.3.1), tap the oldest
-/// bit, so where it is 1 both symbols are turned.
+/// bit, so if it is 1 both symbols are inverted.
 fn moved_lanes(a: i64x8, b: i64x8, gain: i64x8) -> (i64x8, i64x8)
     requires even { Each2 (λ x y. Fit x y (x +ℤ y)) a gain }
     requires odd { Each2 (λ x y. Fit x y (x -ℤ y)) b gain }
@@ -44,7 +44,7 @@ fn moved_lanes(a: i64x8, b: i64x8, gain: i64x8) -> (i64x8, i64x8)
     (a + gain, b - gain)
 }
 
-/// Lanes, each less the number.
+/// Returns the lanes, each less the number.
 fn lessened(lanes: i64x8, number: i64) -> i64x8
     requires long { length lanes ≡ 8 }
     requires fit { Each1 (λ x. Fit x number (x -ℤ number)) lanes }
@@ -53,7 +53,7 @@ fn lessened(lanes: i64x8, number: i64) -> i64x8
     lanes - i64x8::splat(number)
 }
 
-/// Eight pairs of neighbours from a place on, parted.
+/// Returns eight pairs of neighbors from a place on, split into their first and second entries.
 fn parted(column: &[i64], at: usize) -> (i64x8, i64x8)
     requires room { at + 16 ≤ length column.now }
     requires fit { (t : ℕ) → t < length column.now → FitsSigned w64 (get_or column.now t (pos 0)) }
@@ -65,7 +65,8 @@ fn parted(column: &[i64], at: usize) -> (i64x8, i64x8)
     low.deinterleave(high)
 }
 
-/// Eight pairs of neighbours from a place on, parted, each less `top`.
+/// Returns eight pairs of neighbors from a place on, split into their first and second entries,
+/// each less `top`.
 fn neighbours(column: &[i64], at: usize, top: i64) -> (i64x8, i64x8)
     requires room { at + 16 ≤ length column.now }
     requires fit { (t : ℕ) → t < length column.now → FitsSigned w64 (get_or column.now t (pos 0)) }
@@ -78,9 +79,10 @@ fn neighbours(column: &[i64], at: usize, top: i64) -> (i64x8, i64x8)
     (lessened(even, top), lessened(odd, top))
 }
 
-/// One bit further for eight states, from the metrics `a` and `b` of the states before them with
-/// oldest bit 0 and 1, and what the bit adds where that is 0: their metrics, and a bit for each,
-/// whether it is reached from the one with oldest bit 1. Where `FORCED`, none is.
+/// Returns the metrics of eight states after another bit, and a bit for each: whether it is reached
+/// from the state with oldest bit 1. `a` and `b` are the metrics of the states before them with
+/// oldest bit 0 and 1, and the gains are those for oldest bit 0. If `FORCED`, no state is reached
+/// from oldest bit 1.
 fn selected_block<const FORCED: bool>(a: i64x8, b: i64x8, gain: i64x8) -> (i64x8, u64)
     requires a_long { length a ≡ 8 }
     requires b_long { length b ≡ 8 }
@@ -102,7 +104,7 @@ fn selected_block<const FORCED: bool>(a: i64x8, b: i64x8, gain: i64x8) -> (i64x8
     }
 }
 
-/// What a bit adds where the oldest bit is 0, for the eight states of a block.
+/// Returns the gains of a bit for the eight states of a block, if the oldest bit is 0.
 fn gains_of(gains: &[i64; 32], block: usize) -> i64x8
     requires block { block < 32 }
     requires fit { (j : ℕ) → j < 32 → FitsSigned w64 (get_or gains.now j (pos 0)) }
@@ -114,8 +116,8 @@ fn gains_of(gains: &[i64; 32], block: usize) -> i64x8
     i64x8::from_slice(&gains[8 * pattern..])
 }
 
-/// The eight states of a block, one bit further, with `top` taken off every metric: their metrics,
-/// and a bit for each, whether it is reached from the one with oldest bit 1.
+/// Returns the metrics of the eight states of a block after another bit, less `top`, and a bit for
+/// each: whether it is reached from the state with oldest bit 1.
 fn block_step<const FORCED: bool>(
     column: &[i64],
     top: i64,
@@ -139,7 +141,7 @@ fn block_step<const FORCED: bool>(
     selected_block::<FORCED>(a, b, gains_of(gains, block))
 }
 
-/// The greater of each two lanes.
+/// Returns the greater of each two lanes.
 fn greater(one: i64x8, other: i64x8) -> i64x8
     requires one_long { length one ≡ 8 }
     requires other_long { length other ≡ 8 }
@@ -151,9 +153,9 @@ fn greater(one: i64x8, other: i64x8) -> i64x8
     lanes
 }
 
-/// All states, one bit further, by the soft values of its two symbols, with `top`, the largest
-/// metric, taken off every metric; the answer is the largest of the new ones. Where `FORCED`, each
-/// state is reached from the one with oldest bit 0.
+/// Moves all states one bit on, by the soft values of its two symbols, and subtracts `top`, the
+/// largest metric, from every metric. Returns the largest of the new ones. If `FORCED`, each state
+/// is reached from the one with oldest bit 0.
 fn step_all<const FORCED: bool>(
     column: &[i64],
     top: i64,
@@ -187,7 +189,7 @@ fn step_all<const FORCED: bool>(
     greatest(&most.to_array())
 }
 
-/// All states, one bit further, as by `step_all`.
+/// Moves all states one bit on, as `step_all` does.
 pub fn step(
     column: &[i64],
     top: i64,

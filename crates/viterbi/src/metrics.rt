@@ -1,5 +1,5 @@
 //! Columns of metrics. A state's metric is the score of the best codeword into it, less what was
-//! taken off all metrics.
+//! subtracted from all metrics.
 
 ghost use Rattle.std.specs.Prelude.{◌≡◌, ◌<◌, ◌≤◌, ℕ, length, get_or, pos, ◌≤ℤ◌, ◌<ℤ◌};
 ghost use Rattle.chip_core.specs.Sums.{IsFirstGreatest};
@@ -8,8 +8,8 @@ ghost use Rattle.viterbi.specs.Survivors.{end_count};
 
 use crate::codeword::Ends;
 
-/// Whether the next bit, after so many, may come only from states with oldest bit 0: no codeword
-/// from zeros leads into another.
+/// Returns whether the bit after the first `bit` bits may come only from states with oldest bit 0:
+/// no codeword from zeros leads into another.
 pub fn is_forced(ends: Ends, bit: usize) -> bool
     ensures { result ≡ forced_at ends bit }
 {
@@ -19,7 +19,7 @@ pub fn is_forced(ends: Ends, bit: usize) -> bool
     }
 }
 
-/// The metrics before the first bit.
+/// Sets the metrics before the first bit.
 pub fn clear(column: &mut [i64])
     ensures long { length column.new ≡ length column.old }
     ensures zeros { (t : ℕ) → t < length column.old → get_or column.new t (pos 0) ≡ pos 0 }
@@ -29,7 +29,7 @@ pub fn clear(column: &mut [i64])
     }
 }
 
-/// In how many states, from the first on, a codeword may end.
+/// Returns in how many states, from the first on, a codeword may end.
 pub fn end_states(ends: Ends) -> usize
     ensures { result ≡ end_count ends }
 {
@@ -39,7 +39,7 @@ pub fn end_states(ends: Ends) -> usize
     }
 }
 
-/// Of so many states, from the first on, the one of the largest metric, the first of several.
+/// Returns which of the first `count` states has the largest metric, the first on a tie.
 pub fn best_state(metrics: &[i64], count: usize) -> u8
     requires whole { length metrics.now ≡ 256 }
     requires some { 1 ≤ count }
@@ -55,7 +55,7 @@ pub fn best_state(metrics: &[i64], count: usize) -> u8
     best as u8
 }
 
-/// The largest of the metrics.
+/// Returns the largest of the metrics.
 pub fn greatest(metrics: &[i64]) -> i64
     requires { 1 ≤ length metrics.now }
     ensures { IsGreatest metrics.now result }

@@ -1,18 +1,18 @@
-//! What a bit adds to the score of a codeword, by the state into which it leads.
+//! The gain of a bit: what it adds to the score of a codeword, by the state into which it leads.
 //!
-//! A bit has two symbols. Which they are depends on the state, and of each eight states from a
-//! multiple of 8 on they are of one of four kinds.
+//! A bit has two symbols. They depend on the state. For each eight states from a multiple of 8 on,
+//! the gains follow one of four patterns.
 
 ghost use Rattle.std.specs.Prelude.{◌≡◌, ◌<◌, ◌≤◌, ◌+◌, ◌^◌, ℕ, get_or, pos, unsigned_abs};
 ghost use Rattle.viterbi.specs.Lanes.{gain_by, lane_codes, patterns};
 
-/// Of which of four kinds the gains of each eight states are.
+/// Which of the four patterns the gains of each eight states follow.
 const PATTERNS: [u8; 32] = [
     0, 2, 3, 1, 3, 1, 0, 2, 1, 3, 2, 0, 2, 0, 1, 3, 3, 1, 0, 2, 0, 2, 3, 1, 2, 0, 1, 3, 1, 3, 2, 0,
 ];
 
-/// What two symbols add to the score, both 0, only the first 1, only the second 1, both 1, by their
-/// soft values.
+/// Returns what two symbols add to the score by their soft values: if both are 0, only the first is
+/// 1, only the second is 1, both are 1.
 pub fn gains(first: i64, second: i64) -> [i64; 4]
     requires { unsigned_abs first + unsigned_abs second ≤ 2 ^ 62 }
     ensures { (c : ℕ) → c < 4 → get_or result c (pos 0) ≡ gain_by first second c }
@@ -25,8 +25,8 @@ pub fn gains(first: i64, second: i64) -> [i64; 4]
     ]
 }
 
-/// What a bit adds where the oldest bit is 0, for eight states of each kind, by the soft values of
-/// its two symbols (TIA/EIA-95-B, 7.1.3.1.3.1).
+/// Returns the gains of a bit if the oldest bit is 0, for eight states of each pattern, by the soft
+/// values of its two symbols (TIA/EIA-95-B, 7.1.3.1.3.1).
 pub fn lane_gains(first: i64, second: i64) -> [i64; 32]
     requires { unsigned_abs first + unsigned_abs second ≤ 2 ^ 62 }
     ensures { (j : ℕ) → j < 32 →
@@ -39,7 +39,7 @@ pub fn lane_gains(first: i64, second: i64) -> [i64; 32]
     ]
 }
 
-/// The kind of the gains of the eight states from `8 * block` on.
+/// Returns the pattern of the gains of the eight states from `8 * block` on.
 pub fn pattern_of(block: usize) -> usize
     requires { block < 32 }
     ensures value { result ≡ get_or patterns block 0 }

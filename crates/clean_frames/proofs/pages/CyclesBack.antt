@@ -19,7 +19,7 @@ use Rattle.paging_message.specs.Laying as laying
 
 -- ---- a later round
 
--- a page, so many half-frames later
+-- a page, n half-frames later
 abbrev pub later : ℕ → Placed → Placed
 later x p = record { run = x + p.run; last = x + p.last; page = p.page }
 
@@ -94,7 +94,7 @@ placed-append size spell o (x ∷ xs) ys =
 
 -- what is said of the pages that are inside
 module _ {X : Type 0} (h : Placed → X) (low high : ℕ) where
-  -- of a round, so many half-frames later
+  -- the same for the pages of a round, n half-frames later
   abbrev round : ℕ → List Placed → List X
   round x ps = map (λ p. h (later x p)) (filter (is_between low high x) ps)
 
@@ -458,8 +458,8 @@ none_whole first end_chip x (p ∷ ps) past are =
 -- ---- the law
 
 -- From frame `first` on a handset hears just the transmissions of pages that are whole. Where the
--- file ends before that frame there are none. Else the half-frames that it holds end the capsules
--- that lie between the first and the last of them, and these are the whole ones.
+-- file ends before that frame there are none. Otherwise the half-frames that it holds end the
+-- capsules that lie between the first and the last of them, and these are the whole ones.
 pub whole_pages_back : WholePagesComeBack
 whole_pages_back rate form pages first end_chip are =
     let size = half_frame_body rate in

@@ -14,7 +14,7 @@ use Rattle.clean_frames.proofs.Common.{first_bits_told, none_starts-map, NoneSta
 abbrev pub spelled : (Page → List Bool) → List Page → List Bool
 spelled spell run = joined (map spell run) 0
 
--- the pages of a run after so many body bits, where the run began in this half-frame
+-- the pages of a run after n body bits, if the run began in this half-frame
 abbrev pub placed_run : ℕ → (Page → List Bool) → ℕ → ℕ → List Page → List Placed
 placed_run size spell run at [] = []
 placed_run size spell run at (page ∷ pages) =
@@ -66,7 +66,7 @@ selected-not spell low high p ps e = rw e refl
 
 -- half-frames of a size, and pages that a function spells
 module _ (size : ℕ) (spell : Page → List Bool) (large : 0 < size) where
-  -- in which half-frame the last of so many body bits lies
+  -- the half-frame in which the last of `count` body bits lies
   last_before : (high count : ℕ) → 0 < count → count ≤ size * high → (count - 1) / size < high
   last_before high count some le = div_below (count - 1) size high large (omega (arith, some, le))
 
@@ -114,7 +114,7 @@ module _ (size : ℕ) (spell : Page → List Bool) (large : 0 < size) where
 
   -- ---- one run
 
-  -- so many bits of a run tell the pages that end with them
+  -- the first bits of a run determine the pages that end within them
   bits_told : (low high run at x : ℕ) (pages : List Page)
       (bits : ℕ) → AreChained size x (map spell pages) → low ≤ run → at + bits ≡ size * high →
       flat_map (ending_at size at (map spell pages)) (places bits)

@@ -78,8 +78,8 @@ framed_two first n o cs ds a b =
     ∙ ap (λ (l : List (ℕ × List Bool)). with_number n cs ++ l) (framed first (suc o) n ds b)
     ∙ sym (map-append (λ (c : List Bool). (n, c)) cs ds)
 
--- A frame more is two half-frames more: the scan tells what it told of those before, and then what
--- each of the two ends, given all half-frames before it.
+-- Another frame is two more half-frames: the scan returns what it returned for those before, and
+-- then what each of the two ends, given all half-frames before it.
 scan_two : (size first n : ℕ) (f : ℕ → Piece) → scan size [] (2 * first) (map f (places (2 * suc n)))
     ≡ scan size [] (2 * first) (map f (places (2 * n))) ++
     (with_number (2 * first + 2 * n) (told_in size (map f (places (2 * n))) (f (2 * n))) ++

@@ -188,7 +188,7 @@ module _ (plan : CellPlan) (m : SyncFields) where
       frame_piece base (0 + i) q r (omega (arith, is.parts, lt, before)) (omega (arith, is.low, lt, before)) in
       ap (λ (p : Piece). p.starts) here ∙ ne_eqb r 0 (λ e. omega (arith, e, lt, before)))
 
-  -- else the message under way has the transmission's pieces
+  -- otherwise the open message has the transmission's pieces
   pub begun : (base k q w : ℕ) → IsSentAt base k q w → w ≤ k →
       from_last_start (run (piece_of base) 0 (suc k)) ≡ run (piece_of base) (k - w) (suc w)
   begun base k q w is after =

@@ -91,8 +91,8 @@ change_kind : (m : Mark) (j : ℕ) (change : SetChange) (s : Standing) → All (
 change_kind m j change s =
     either_kind (change.changed || change.report) _ (All-cons (IsKind 5) _ [] refl (All-nil (IsKind 5)))
 
--- What a handset tells of its sets at a number of samples is of kind 5: where a moment lies there
--- it is at most the event of that moment's change, and elsewhere it is nothing.
+-- The events of the pilot sets at a number of samples are of kind 5: at a moment there is at most
+-- the event of that moment's change, and elsewhere there is none.
 moment_kind : (t : Tuning) (traffic : Traffic) (m : Mark) (samples : List Sample) (n : ℕ) →
     All (IsKind 5) (sets_at t traffic m samples n)
 unfolding sets_at

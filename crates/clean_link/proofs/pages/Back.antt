@@ -143,7 +143,7 @@ module _ (t : Tuning) (channel : ℕ) (m : Mark) (samples : List Sample) (own : 
       ∙ sym (flat_map-map (told_of t channel m) (λ (c : List Bool). (k, c)) (capsules k)))
       ∙ sym (flat_map-flat_map (told_of t channel m) each (places frames))
 
-  -- frames that end within so many samples are few enough
+  -- the bound holds for the frames that end within n samples
   bound_enough : IsBound (paging_stream t channel m) paging_bound
   bound_enough n k ends = omega (arith, ends)
 
@@ -218,7 +218,7 @@ run_begun size from run false large begun =
     let begins = (from + size - 1) / size * size in
     omega (arith, mul-div-le begins size)
 
--- the pages after so many body bits of a cycle
+-- the pages after `count` body bits of a cycle
 pub pages_placed : (size : ℕ) (form : CheckForm) (from run count : ℕ) (pages : List Page) →
     0 < size → run * size ≤ from → AreHeard size count pages →
     All IsPlaced (placed size form from run pages)
@@ -315,7 +315,7 @@ module _ {plan : CellPlan} {t : Tuning} (channel : ℕ) {m : Mark} {superframes 
       ∙ ap (λ (rate : Rate). flat_map (told_of t channel m)
       (capsules_with_frames (half_frame_body rate) own (frames_after plan superframes))) same_rate
 
-  -- what a handset tells of a whole page
+  -- the events for a whole page
   page_tells : (h : ℕ) (p : Placed) → IsPlaced p →
       is_whole_page (24576 * (4 * superframes)) (end_chip plan) h p ≡ true →
       told_of t channel m (sending_of plan.cell.check30 (4 * superframes) h p) ≡

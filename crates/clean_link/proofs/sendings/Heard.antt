@@ -119,8 +119,8 @@ module _ {width : Width} {plan : CellPlan} {samples : List Sample} {t : Tuning}
         (λ j. sync_frame_bits plan.cell sync.message (first_sync_frame plan + j)) k tuned.alone there
         (λ j here. is.back sync t j sends tuned here)
 
-    -- Frame w of transmission q, which is the file's frame k, tells of the transmission if it ends it, and
-    -- otherwise nothing.
+    -- Frame w of transmission q, which is the file's frame k, completes the transmission's event if
+    -- it is its last frame, and otherwise no event.
     pub heard_is : (k q w : ℕ) (ends : Bool) → in_file t k ≡ true →
         IsSentAt plan sync.message (first_sync_frame plan) k q w → ends_sending plan sync.message k w ≡ ends →
         heard_at t samples k ≡
@@ -325,7 +325,7 @@ module _ {width : Width} {plan : CellPlan} {t : Tuning} (lawful : IsLawfulPlan w
       false_from_ne_true (ends_sending plan m k w) (λ h. other (ends_tells plan m k w h).last) in
       none k q w there (record { parts = omega (arith, early); low = low }) over)
 
-  -- the last tells of the transmission where it is whole
+  -- the last frame completes the event of a whole transmission
   tells_last : (q : ℕ) → tells give plan t (q * sending_frames plan m + last_frame plan m) ≡
       given_where (is_whole plan m) (λ s. sent s ∷ []) q
   tells_last q =

@@ -181,7 +181,7 @@ blocks {X} g h f e (suc n) low here none =
 abbrev pub IsBound : Stream → (ℕ → ℕ) → Type 0
 IsBound s bound = (n k : ℕ) → frame_chips s.form * (k + 1) ≤ n → k < bound n
 
--- the frames in a file are the first so many
+-- exactly the first `frames` frames lie in a file
 pub record HasFrames (count : ℕ) (s : Stream) (frames : ℕ) : Type 0 where
   pub inside : (k : ℕ) → k < frames → is_in_file count s k ≡ true
   pub outside : (k : ℕ) → frames ≤ k → is_in_file count s k ≡ false
@@ -249,7 +249,7 @@ module _ {count low : ℕ} (s : Stream) (timed : IsTimed count s low) (bound : �
       ∙ ap (flat_map g)
       (filter_ext_places (below_key inside known (count + 1)) inside (bound count) (λ k below. all_known k))
 
-  -- and those frames are the first so many
+  -- and those frames are the first `frames` ones
   pub frames_first : (frames : ℕ) → HasFrames count s frames →
       filter (is_in_file count s) (places (bound count)) ≡ places frames
   frames_first frames has =

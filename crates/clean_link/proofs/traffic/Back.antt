@@ -91,8 +91,8 @@ module _ {width : Width} {plan : CellPlan} {t : Tuning} {samples : List Sample}
             record { marked = marked; sync = sync; sends = sends; rate = rate_in is tuned sync t.count m sends set },
           )
 
--- What is heard of a channel that is followed comes back where the mark of all samples tells it: nothing
--- where none is set, and else what is true of what is heard after that mark.
+-- What is heard of a channel that is followed comes back where the mark of all samples tells it:
+-- nothing if none is set, otherwise what is true of what is heard after that mark.
 pub each_after : {width : Width} {plan : CellPlan} {t : Tuning} (samples : List Sample) {at : Option ℕ} →
     IsReceivable width plan → IsOnPath plan t → MarkIsAt plan (mark t samples t.count) at →
     {p : TrafficPlan} (f : FollowsOne plan t.traffic p) (Are : Option ℕ → List Event → Type 0)

@@ -21,7 +21,7 @@ use Rattle.symbol_path.specs.Scrambling.{scrambling_chips}
 
 -- ---- states
 
--- the state so many chips later, a chip at a time
+-- the state n chips later, a chip at a time
 unfoldable pub walked : ℕ → ℕ → ℕ
 walked zero v = v
 walked (suc n) v = walked n (stepped v)
@@ -56,7 +56,7 @@ group_start mask v =
     let d = walked 64 c in
     start_by (chip_of mask a) (chip_of mask b) (chip_of mask c) (chip_of mask d)
 
--- of so many groups, from the state at the first chip of the first of them
+-- the same for n groups, from the state at the first chip of the first of them
 abbrev pub starts : ℕ → ℕ → ℕ → List ℕ
 starts mask zero v = []
 starts mask (suc n) v = group_start mask v ∷ starts mask n (walked 1536 v)

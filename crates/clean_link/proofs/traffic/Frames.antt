@@ -89,7 +89,7 @@ received_lies plan p chip frame kept =
     let both = and_parts (nat_le chip (frame_chip p frame)) (nat_le (frame_chip p (frame + 1)) (end_chip plan)) kept in
     (leb-true chip (frame_chip p frame) both.0, leb-true (frame_chip p (frame + 1)) (end_chip plan) both.1)
 
--- frames that end within so many samples are few enough
+-- the bound holds for the frames that end within n samples
 pub bound_enough : (t : Tuning) (traffic : Traffic) (m : Mark) → IsBound (one_stream t traffic m) frames_bound
 bound_enough t traffic m n k ends = omega (arith, ends)
 
@@ -142,7 +142,7 @@ module _ {width : Width} {plan : CellPlan} {p : TrafficPlan} {t : Tuning} {traff
       let begun = (received_lies plan p mark_chip i kept).0 in
       omega (arith, low, begun, place, latest))
 
-  -- so one that is received is so many frames after the mark, in the file
+  -- so the number of a received frame counts frames after the mark, and it lies in the file
   pub inside_at : (frame : ℕ) → received frame ≡ true → (4 * superframes + (frame - 4 * superframes) ≡ frame)
       × (inside (frame - 4 * superframes) ≡ true)
   inside_at frame kept =
@@ -463,7 +463,7 @@ module _ {width : Width} {plan : CellPlan} {p : TrafficPlan} {t : Tuning} {traff
   abbrev legs : ℕ → List Leg
   legs = first_legs traffic m
 
-  -- the one pilot tells what is sent
+  -- the one pilot gives what is sent
   none_of_one : (n : ℕ) → n ≤ plan.link.samples → All IsNotDirected (messages_by t traffic m legs samples n)
   unfolding places
   none_of_one n most =

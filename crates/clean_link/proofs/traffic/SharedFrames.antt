@@ -174,8 +174,8 @@ closed n v enough allowed =
 
 -- ---- frames of any rate set
 
--- Rates whose frames repeat each code symbol so often, and have so many bits. All repeated symbols
--- are `all`, of which each known one is sent at a place that isn't replaced.
+-- Rates by how often their frames repeat each code symbol, and by their number of bits. There are
+-- `all` repeated symbols, of which each known one is sent at a place that isn't replaced.
 module _ {R : Type 0} (repeats size : R → ℕ) (all : ℕ)
     (copies : (r : R) (c k : ℕ) → c < 2 * size r → repeats r * c ≤ k →
     k < repeats r * c + repeats r → (k < all) × (k / repeats r ≡ c))

@@ -92,7 +92,7 @@ front part a phase f n =
     ∙ ap (λ (z : ℤ). z +ℤ sum_below n (λ t. part_at part a phase f (suc t))) (at_first part a phase f)
     ∙ ap (λ (z : ℤ). (pos (a 0) *ℤ part (turn_of phase f)) +ℤ z) (sum_same n _ _ (λ t lt. at_next part a phase f t))
 
--- what so many samples add up to at phase f, over the link
+-- the sum of n samples at phase f, over the link
 abbrev pub turned_to : (ℕ → ℕ) → ℕ → ℕ → ℕ → Pair
 turned_to a phase f n = record { i = part_to (side false) a phase f n; q = part_to (side true) a phase f n }
 

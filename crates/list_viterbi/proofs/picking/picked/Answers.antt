@@ -24,8 +24,8 @@ sum_at-requires-clause-place c =
     (to_z w64 (of_z w64 c.args.odd_gain)) c.args.even.now c.args.odd.now
     c.loop-n.invariant.odd_place (sym c.if-takes_odd.ensures)
 
--- One pick more is one step of the merge of both lists: the odd one's head is taken where it comes
--- next, else the even one's head, and where the even list has come to its end too nothing is taken.
+-- One pick more is one step of the merge of both lists: the odd one's head is taken if it comes
+-- next, otherwise the even one's head, and nothing is taken if the even list has also ended.
 pub loop-n-preserved : goal.loop-n-preserved
 loop-n-preserved c =
     let even = c.args.even.now in

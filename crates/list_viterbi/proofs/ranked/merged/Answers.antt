@@ -4,8 +4,8 @@ use Rattle.list_viterbi.proofs.Walks.{second_has, took_second, took_first, took_
 use Rattle.list_viterbi.proofs.ranked.merged.Goals.{then-takes_second, else-takes_second+then-i-len, else-takes_second+else-i-len}
 use Rattle.list_viterbi.proofs.ranked.merged.Goals as goal
 
--- One step more takes the next of both ranked lists: the second one's head where it comes next,
--- else the first one's, and where the first one has come to its end too nothing is taken.
+-- One step more takes the next of both ranked lists: the second one's head if it comes next,
+-- otherwise the first one's, and nothing is taken if the first one has also ended.
 pub loop-n-preserved : goal.loop-n-preserved
 loop-n-preserved g c =
     let score = g.T.Scored.score in
