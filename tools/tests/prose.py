@@ -1,4 +1,4 @@
-"""The sentences of pages, manual pages, help texts, docstrings and errors, and the patterns that they may not have.
+"""The sentences of pages, help texts, docstrings, errors and comments of crates, and the patterns they may not have.
 
 `python3 -m tools.tests.prose [PAGE ..]` prints the ten longest sentences of each page, with their lengths in words.
 """
@@ -113,6 +113,18 @@ ERROR_PATTERNS = (
     pattern(r"\b[Ww]here (?:it|an?|the|there|no|one|each|nothing|something)\b", "'if'"),
     pattern(r"^no (?:whole |plain )?(?:number|file|list|object|text|JSON|script)(?=[:,]|$| of\b| with\b)", "'not a'"),
 )
+# Words that no comment of a crate may have: those that read most as if translated.
+CRATE_PATTERNS = (
+    pattern("".join(rf"(?<!\b(?i:{it}) )" for it in (*BEFORE_ELSE, "whatever")) + r"\b[Ee]lse\b", "'otherwise'"),
+    pattern(r"\b[Ss]o many\b", "the parameter's name, or 'n'"),
+    pattern(r"\b[Bb]ehind\b", "'after'"),
+    pattern(r"\b[Ww]ant of\b", "'out of memory', 'lack of'"),
+    pattern(r"\b[Ii]n place of\b", "'instead of', 'replaces'"),
+    pattern(r"\b[Tt]ells? (?:of|what)\b", "'says', 'returns', 'determines', or the event"),
+    pattern(r"\b[Hh]angs? on\b", "'depends on'"),
+    pattern(r"\bit is owed\b", "'the required output'"),
+    pattern(r"\bthe rate alone\b", "'only the rate'"),
+)
 # Functions and exceptions whose strings a user reads: errors and remarks.
 ERRORS = (
     "Refused", "WrongArguments", "ArgumentTypeError", "Error", "Failed", "Missing", "NoFrame", "NoLine", "NoList",
@@ -206,6 +218,23 @@ def error_sentences(place: str, text: str) -> Iterator[Sentence]:
         for part in [*(node.args if name in ERRORS else []), *named]:
             for found in texts_in(part):
                 yield from sentences_of_block(place, node.lineno, found)
+
+
+def comment_sentences(place: str, text: str) -> Iterator[Sentence]:
+    """Yields the sentences of the comments of a crate's file, those after code on its line too."""
+    block: list[str] = []
+    first = 0
+    for number, line in enumerate([*text.splitlines(), ""], 1):
+        found = re.match(r"\s*(?://[/!]?|--+)( .*|$)", line)
+        if found and found[1].strip():
+            first = first if block else number
+            block.append(found[1].strip())
+            continue
+        yield from sentences_of_block(place, first, " ".join(block))
+        block = []
+        after = re.search(r"\S\s+(?://|--) (\S.*)", line)
+        if after:
+            yield from sentences_of_block(place, number, after[1])
 
 
 def help_sentences(place: str, parser: argparse.ArgumentParser) -> Iterator[Sentence]:

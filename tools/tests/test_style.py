@@ -1,5 +1,4 @@
-"""The English of pages, help texts, docstrings and errors: no patterns of translated prose, and no sentence too long.
-"""
+"""The English of pages, help texts, docstrings, errors and comments: no translated prose, and no sentence too long."""
 
 import argparse
 import importlib
@@ -11,13 +10,16 @@ from collections.abc import Iterable, Iterator
 from unittest import mock
 
 import cdma_tools.commands
+from cdma_tools.repository.crate_list import crates_below
 from tools.tests.helping import ROOT, needs
 from tools.tests.prose import (
+    CRATE_PATTERNS,
     ERROR_PATTERNS,
     MOST_WORDS,
     PAGES,
     Allowed,
     Sentence,
+    comment_sentences,
     docstring_sentences,
     error_sentences,
     faults,
@@ -37,6 +39,12 @@ FOLDERS = ("cdma", "cdma_tools", "conformance", "examples", "cdma_model", "model
 THIS_FILE = os.path.relpath(__file__, ROOT)
 # Sentences in which a pattern is right. A test fails for an exception that is not needed.
 ALLOWED: tuple[Allowed, ...] = ()
+# How many comments of a crate may have a pattern, since they are still to be reworded: lower the number with each.
+STILL_TO_REWORD = {
+    "cdma_replay": 18,  # these three crates are about to get one form of a request, which rewrites most of them
+    "command_line": 4,
+    "owed_replies": 25,
+}
 # Sentences that read as if translated word by word, as pages and docstrings had them; none may come back.
 GONE = (
     "Of a script whose reading failed nothing was",
@@ -147,6 +155,22 @@ class One:
 """
 
 
+COMMENTS = """\
+//! What it is for.
+
+/// The first part. The second,
+/// of `a.b else`.
+pub fn one()
+{
+    two(); // behind the mast
+}
+    -- A lemma.
+x = 1
+---- HEAD
+y = "//" -1
+"""
+
+
 def texts(found: Iterable[Sentence]) -> list[str]:
     """Returns the texts of sentences."""
     return [it.text for it in found]
@@ -179,6 +203,22 @@ class Parts(unittest.TestCase):
         found = list(docstring_sentences("p", MODULE))
         self.assertEqual(sorted(texts(found)), ["A class.", "A second paragraph.", "Returns.", "Tells."])
         self.assertEqual([it.line for it in found if it.text == "A class."], [7])
+
+    def test_comments(self) -> None:
+        found = list(comment_sentences("p", COMMENTS))
+        wanted = [(1, "What it is for."), (3, "The first part."), (3, "The second, of `x`."), (7, "behind the mast")]
+        self.assertEqual([(it.line, it.text) for it in found], [*wanted, (9, "A lemma."), (11, "HEAD")])
+
+    def test_each_pattern_of_comments_is_found(self) -> None:
+        for text in (
+            "the first, and else the last", "the first so many", "right behind it", "for want of memory", "0 in place of 1",
+            "what it tells of a page", "a bit tells what follows", "it hangs on the rate", "it is owed", "by the rate alone",
+        ):  # fmt: skip
+            with self.subTest(text):
+                self.assertEqual(len(list(faults([Sentence("p", 1, text)], (), set(), CRATE_PATTERNS))), 1)
+        for text in ("whatever else a file holds", "Nothing else allocates."):
+            with self.subTest(text):
+                self.assertEqual(list(faults([Sentence("p", 1, text)], (), set(), CRATE_PATTERNS)), [])
 
     def test_errors_and_help_texts(self) -> None:
         found = list(error_sentences("p", ERRORS))
@@ -283,6 +323,18 @@ class Style(unittest.TestCase):
         words = {place: len(read_place(place).split()) for place in PAGES if re.fullmatch(r"docs/[^/]*\.md", place)}
         self.assertEqual(sorted(words), sorted(f"docs/{name}" for name in os.listdir(DOCS) if name.endswith(".md")))
         self.assertLessEqual(sum(words.values()), MOST_WORDS_OF_PAGES, words)
+
+    def test_comments_of_crates(self) -> None:
+        for crate in crates_below(ROOT):
+            found: list[str] = []
+            for path, _, names in sorted(os.walk(os.path.join(ROOT, "crates", crate))):
+                for name in sorted(names):
+                    place = os.path.relpath(os.path.join(path, name), ROOT)
+                    if name.endswith((".rt", ".antt")) and "out" not in place.split(os.sep):
+                        sentences = (it for it in comment_sentences(place, read_place(place)) if it.length <= MOST_WORDS)
+                        found += faults(sentences, (), set(), CRATE_PATTERNS)
+            with self.subTest(crate):
+                self.assertLessEqual(len(found), STILL_TO_REWORD.get(crate, 0), "\n".join(found))
 
     def test_old_sentences_are_gone(self) -> None:
         """From pages, and from everything in modules."""
