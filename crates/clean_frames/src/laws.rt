@@ -2,10 +2,10 @@
 
 ghost use Rattle.clean_frames.specs.WholePages.{PageSendingsComeBack, WholePagesComeBack};
 
-/// Read from any of its frames on, a paging channel's half-frames end just the capsules of the
+/// Read from any of its frames on, a paging channel's half-frames end exactly the capsules of the
 /// pages whose run begins there or later, once for each round of the cycle, in order, each in the
-/// frame of its last bit. So the frames from a mark to a file's end, as far as the file holds them
-/// whole, end just the capsules of the pages that it holds whole from there on.
+/// frame of its last bit. So the whole frames from a mark to a file's end end exactly the capsules
+/// of the pages that the file holds whole from there on.
 pub fn half_frames_end_whole_pages()
     ensures frames { PageSendingsComeBack }
     ensures file { WholePagesComeBack }

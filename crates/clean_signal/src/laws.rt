@@ -31,7 +31,7 @@ pub fn channels_have_the_sent_signs()
 {}
 
 /// The frames of a span are one codeword, whose start bits are the last eight of the frame before
-/// it. Of all codewords of its length, with any start bits, it alone has the largest score.
+/// it. Among all codewords of its length, with any start bits, only it has the largest score.
 pub fn channel_codewords_are_the_only_best()
     ensures channel { ChannelCodewordsAreTheOnlyBest }
 {}
@@ -90,7 +90,7 @@ pub fn rounding_is_noise()
 /// best phase of all samples that differ little from those. Noise of the size e changes the
 /// absolute value of a phase's sum by at most 2 e for each sample, so the roots of two energies
 /// keep their order if they are more than 4 e apart for each sample. For what a cell sends, this
-/// can be computed from the script alone, and it holds for each file with such noise.
+/// can be computed from only the script, and it holds for each file with such noise.
 pub fn the_search_bears_noise()
     ensures less { FoundThroughLess }
     ensures search { SearchBearsNoise }

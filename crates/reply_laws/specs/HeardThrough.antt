@@ -1,5 +1,5 @@
--- What each command owes of a file with noise, if the script alone shows that its cell is heard
--- through noise of that size. The only premise on the file is that it is near.
+-- What each command must write for a file with noise, if only the script shows that its cell is
+-- heard through noise of that size. The only premise on the file is that it is near.
 use Rattle.std.specs.List.{Contains}
 use Rattle.std.specs.Prelude.{List, ◌≡◌, Option, take, None, Some, ◌≤◌, All, Ok, ℕ}
 use Rattle.reply_laws.specs.Common.{signaling_sent, IsNotDirected, IsSampleFile, made_samples}
