@@ -20,7 +20,7 @@ use cell_plan::{LinkPlan, PilotPlan, SyncPlan};
 use chip_core::Pair;
 use chip_core::air::{PILOT_ROW, SYNC_ROW};
 
-/// What is known of the plan that the statements so far make. A part that wasn't stated yet is that
+/// What is known of the plan that the statements so far make. A part that is not stated yet is that
 /// of the smallest cell: a link of 1, one sample, a pilot of gain 1.
 #[derive(Clone, Copy)]
 pub(crate) struct Judge {

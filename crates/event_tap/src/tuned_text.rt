@@ -8,7 +8,7 @@ pub enum TunedText {
     /// Each frame is decoded as one of rate set 1 (7.1.3.5) from the first `k` codewords of each
     /// rate, and has its line.
     Listed {
-        /// How many codewords of a rate are looked at, from 1 to 16.
+        /// How many codewords of a rate are tried, from 1 to 16.
         k: u8,
     },
     /// Each slot of a paging channel that a sleeping handset monitors (6.6.2.1.1.3) has its line,

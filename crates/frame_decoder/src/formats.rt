@@ -17,7 +17,7 @@ use viterbi::{Codeword, Decoder, Ends};
 pub struct ScoredCodeword {
     /// All bits of the frame.
     pub bits: Bits,
-    /// How well its symbols agree with the soft values.
+    /// The score of its symbols against the soft values.
     pub score: i64,
 }
 
@@ -26,12 +26,12 @@ pub struct ScoredCodeword {
 pub struct DecodedFrame<R> {
     /// The rate at which it was sent; the highest if the frame is bad.
     pub rate: R,
-    /// Whether there is a candidate whose symbols agree with the soft values better than not.
+    /// Whether there is a candidate whose score is above 0.
     pub good: bool,
     /// The information bits.
     pub bits: Bits,
-    /// How well the best candidate's symbols agree with the soft values; without a candidate, those
-    /// of the best codeword at the highest rate.
+    /// The score of the best candidate against the soft values; without a candidate, that of the
+    /// best codeword at the highest rate.
     pub score: i64,
 }
 
@@ -77,8 +77,8 @@ pub(crate) fn best_codeword<R: Copy>(
     }
 }
 
-/// Whether the quality indicator is that of the information bits; always true if frames of the rate
-/// have none.
+/// Returns whether the quality indicator is that of the information bits; always true if frames of
+/// the rate have none.
 pub fn is_right<R: Copy>(format: &FrameFormat<R>, bits: &Bits) -> bool
     requires format { IsFormat format.now }
     requires count { length bits.now ≡ bits_in format.now }

@@ -1,4 +1,4 @@
-//! How frames of a channel are sent.
+//! The formats in which frames of channels are sent.
 
 use chip_core::air::{DATA_SYMBOLS, SYNC_SYMBOLS};
 use symbol_path::{Kind, Rate};
@@ -18,7 +18,7 @@ impl FrameKind {
     ghost use Rattle.symbol_path.specs.SentOrder.{shape_of, size};
     ghost use Rattle.frame_decoder.specs.Spans.{channel_of, channel_for};
 
-    /// How a frame's bits are sent.
+    /// Returns how a frame's bits are sent.
     pub(crate) fn span_format(self) -> SpanFormat
         ensures value { channel_of result ≡ channel_for self }
         ensures sent { 2 * result.bits * result.repeats ≡ size (shape_of result.kind) }
@@ -43,9 +43,9 @@ impl FrameKind {
 /// How a frame's bits are sent, two code symbols a bit.
 #[derive(Clone, Copy)]
 pub(crate) struct SpanFormat {
-    /// How many symbols a frame sends, and in which order.
+    /// The number of symbols that a frame sends, and their order.
     pub kind: Kind,
-    /// How many bits a frame has.
+    /// The number of bits of a frame.
     pub bits: u16,
     /// How often each code symbol is sent.
     pub repeats: u8,

@@ -15,11 +15,11 @@ use viterbi::Decoder;
 pub struct Decoded {
     /// The rate at which it was sent; 9,600 bits a second if the frame is bad.
     pub rate: Rate,
-    /// Whether its symbols agree with the soft values better than not.
+    /// Whether its score is above 0: its symbols agree with the soft values.
     pub good: bool,
     /// The information bits.
     pub bits: Bits,
-    /// How well the best candidate's symbols agree with the soft values.
+    /// The score of the best candidate's symbols against the soft values.
     pub score: i64,
 }
 

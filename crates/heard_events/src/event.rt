@@ -41,7 +41,7 @@ pub enum Event {
         at: u64,
         /// The rate at which it was sent; 9,600 bits a second if the frame is bad.
         rate: Rate,
-        /// Whether its symbols agree with the soft values better than not.
+        /// Whether its symbols agree with the soft values: its score is above 0.
         good: bool,
         /// The information bits.
         bits: Bits,

@@ -1,4 +1,4 @@
-//! How strong the pilots of the sets are before an evaluation of the sets.
+//! Measures the strength of the pilots of the sets before each evaluation of the sets.
 
 ghost use Rattle.heard_events.specs.Common.{Sample, HoldsLast, HoldsBefore, modulo_code};
 ghost use Rattle.std.specs.Prelude.{◌≡◌, ◌<◌, ◌≤◌, List, unsigned_abs};

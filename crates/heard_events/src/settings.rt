@@ -1,4 +1,4 @@
-//! How a handset is set up.
+//! The settings of a handset.
 
 use chip_core::{CheckForm, Traffic};
 

@@ -1,4 +1,4 @@
-//! What a bit adds to the score of a codeword, by the state into which it leads.
+//! The gain of a bit: what it adds to the score of a codeword, by the state into which it leads.
 
 ghost use Rattle.std.specs.Prelude.{◌≡◌, ◌<◌, get_or, pos};
 ghost use Rattle.viterbi.specs.Lanes.{lane_code_of};
@@ -20,7 +20,7 @@ fn code_of(state: u8) -> usize
     CODES[8 * pattern + (state % 8) as usize] as usize
 }
 
-/// What a bit adds to the score of a codeword into a state, where the oldest bit is 0.
+/// Returns what a bit adds to the score of a codeword into a state, if the oldest bit is 0.
 pub fn gain_at(gains: &[i64; 4], state: u8) -> i64
     ensures { result ≡ get_or gains.now (lane_code_of state) (pos 0) }
 {

@@ -3,7 +3,7 @@
 ghost use Rattle.list_viterbi.specs.Laws.{NamesOneList, AreFirstByDefinition, HaveLength};
 ghost use Rattle.list_viterbi.specs.Laws.{HaveBestFirst, HaveFirstPassing};
 
-/// What the list decoder promises names one list.
+/// The contract of the list decoder determines one list.
 pub fn one_list()
     ensures { NamesOneList }
 {}

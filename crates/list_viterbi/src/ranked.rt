@@ -5,13 +5,13 @@ ghost use Rattle.list_viterbi.specs.Merging.{second_is_next, merge};
 
 use std::marker::Model;
 
-/// What has a score.
+/// A value with a score.
 pub trait Scored: Copy {
     ghost nothing: { Self };
 
     ghost score: { Self → ℤ };
 
-    /// What stands in the places of a list that aren't used.
+    /// Returns the filler of unused places of a list.
     fn nothing() -> Self
         ensures { result ≡ nothing };
 

@@ -1,4 +1,4 @@
-//! What is decoded of a frame.
+//! Decodes a frame with lists of codewords.
 
 ghost use Rattle.std.specs.Prelude.{◌≡◌, ◌≤◌, ◌^◌, All, length, map, sum_by, unsigned_abs};
 ghost use Rattle.std.specs.List.{find};
@@ -78,11 +78,11 @@ fn candidate_of(
     candidate(&format, &codewords)
 }
 
-/// What is decoded of a traffic frame of rate set 1, with the first `k` codewords of each rate that
-/// has a quality indicator, from 1 to 16.
+/// Decodes a traffic frame of rate set 1 with the first `k` codewords of each rate that has a
+/// quality indicator, from 1 to 16.
 ///
-/// `softs` has the soft values of a frame's 384 symbols in the sent order, turned by the
-/// scrambling, and `places` the places of the power control bits, whose soft values count as 0. Of
+/// `softs` has the soft values of a frame's 384 symbols in the sent order, with the scrambling
+/// removed, and `places` the places of the power control bits, whose soft values count as 0. Of
 /// 9,600 and of 4,800 bits a second the first `k` codewords are found, of those that start from
 /// eight zeros and end with eight zeros, and the first of them whose quality indicator is right is
 /// the rate's candidate, if there is one. The best codewords of 2,400 and 1,200 bits a second

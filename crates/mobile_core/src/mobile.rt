@@ -29,7 +29,7 @@ pub struct Step {
     pub event: Option<Event>,
 }
 
-/// What a handset hands over to a receiver of the samples after those that it has taken.
+/// The state that a handset hands over to a receiver of the following samples.
 #[derive(Drop)]
 pub struct HeardRing {
     /// How many samples the file has.

@@ -1,5 +1,5 @@
-//! What is decoded of the frames of traffic channels of rate set 2: at 14,400, 7,200, 3,600 and
-//! 1,800 bits a second. How they are sent stands in `symbol_path`.
+//! Decodes the frames of traffic channels of rate set 2: at 14,400, 7,200, 3,600 and 1,800 bits a
+//! second. `symbol_path` defines how they are sent.
 //!
 //! The rates, their quality indicators and the dropped symbols are this project's profile. The rest
 //! is that of rate set 1: the convolutional code (TIA/EIA-95-B, 7.1.3.1.3), the interleaver

@@ -1,4 +1,4 @@
-//! What is decoded of a frame.
+//! The result of decoding a frame.
 
 ghost use Rattle.std.specs.Prelude.{◌≡◌, ◌≤◌, ◌^◌, sum_by, unsigned_abs};
 ghost use Rattle.rate_set_two.specs.TrafficFrames.{decoded2};
@@ -8,24 +8,24 @@ use frame_decoder::{FrameSofts, frame_of};
 use symbol_path::{PowerPlaces, Rate2, format_of2};
 use viterbi::Decoder;
 
-/// What is decoded of a frame.
+/// The result of decoding a frame.
 #[derive(Clone, Copy)]
 pub struct Decoded2 {
     /// The rate at which it was sent, and 14,400 bits a second where it isn't good.
     pub rate: Rate2,
-    /// Whether there is a candidate whose symbols agree with the soft values better than not.
+    /// Whether there is a candidate whose score is above 0.
     pub good: bool,
     /// The information bits.
     pub bits: Bits,
-    /// How well the best candidate's symbols agree with the soft values, and where there is none
-    /// those of the best codeword at 14,400 bits a second.
+    /// The score of the best candidate's symbols against the soft values; without a candidate, that
+    /// of the best codeword at 14,400 bits a second.
     pub score: i64,
 }
 
-/// What is decoded of a frame of rate set 2.
+/// Decodes a frame of rate set 2.
 ///
-/// `softs` has the soft values of a frame's 384 symbols in the sent order, turned by the
-/// scrambling, and `places` the places of the power control bits, whose soft values count as 0, as
+/// `softs` has the soft values of a frame's 384 symbols in the sent order, with the scrambling
+/// removed, and `places` the places of the power control bits, whose soft values count as 0, as
 /// those of dropped symbols do. The best codeword of each rate, among those that start and end with
 /// eight zeros, is a candidate if its quality indicator is right. The candidate of the largest
 /// score is taken, the higher rate on a tie, and is good exactly if that score is above 0. If it
