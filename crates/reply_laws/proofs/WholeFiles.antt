@@ -69,8 +69,8 @@ second_sync gain =
     ap (map (sending_event (second_with gain) (some_message 0))) are.0
     ∙ rw (are.1, are.2, are.3, are.4) refl
 
-told : (gain : ℕ) → clean_end (second_with gain) ≡ Done
-told gain = rw (second_sync gain) refl
+second_ends_well : (gain : ℕ) → clean_end (second_with gain) ≡ Done
+second_ends_well gain = rw (second_sync gain) refl
 
 no_traffic : IsFreeOf second_cell.traffic 1
 no_traffic = All-nil (λ (t : TrafficPlan). t.row ≢ 1)
@@ -87,7 +87,7 @@ module _ (forms limits : List ℕ) (workers : ℕ) where
   only reply owed =
       louder_follow workers 1 None limits (omega arith, omega arith) forms second_script Sixteen
       second_cell 2048 reply louder owed no_traffic tt (none_directed 100)
-      ∙ ap (λ (end : Status). Ok (second_text forms limits, end)) (told 100)
+      ∙ ap (λ (end : Status). Ok (second_text forms limits, end)) (second_ends_well 100)
 
   owed : IsReply forms job second_file whole
   owed =
@@ -215,5 +215,5 @@ loud_comes_back = record {
         run_text (kept_by limits forms)
             (sent_events loud_cell (energy (take 2048 samples) (phase_at loud_cell 0)) 1 None),
         end,
-      )) (told 2000);
+      )) (second_ends_well 2000);
 }

@@ -14,7 +14,8 @@ use Rattle.clean_frames.proofs.Common.{turned_back, whole_rows, run_pieces_whole
 use Rattle.clean_frames.proofs.pages.Scans.{frames_scanned, in_frame, AreFrames}
 use Rattle.clean_frames.proofs.pages.Laid.{length-page, page_capsule, pages_placed, placed-begins, runs-begin, runs-follow, runs_laid}
 use Rattle.clean_frames.proofs.pages.Laid.{runs_of, first_begins, first_runs, placed-follows}
-use Rattle.clean_frames.proofs.pages.RunsHeard.{from_within, is_inside, pieces_of, placed_runs, selected, told, AreRuns, placed_run}
+use Rattle.clean_frames.proofs.pages.RunsHeard.{AreRuns, from_within, is_inside, pieces_of, placed_run, placed_runs, selected}
+use Rattle.clean_frames.proofs.pages.RunsHeard.{spelled_at_end}
 use Rattle.paging_message.specs.Laying as laying
 
 -- ---- a later round
@@ -307,8 +308,8 @@ module _ (size : ℕ) (form : CheckForm) (first n rounds : ℕ) (large : 0 < siz
       (ap (λ (k : ℕ). scan size [] k (cut (pieces_of size spell all))) (sym e)
       ∙ from_within size spell large all 0 low (2 * n) (repeated_are_runs size spell rounds runs are)
       ∙ ap (λ (k : ℕ). selected spell k (k + 2 * n) (placed_runs size spell 0 all)) e)
-      ∙ map-map (in_frame first) (told spell) (filter (is_inside low (low + 2 * n)) (placed_runs size spell 0 all))
-      ∙ rounds_said (λ p. in_frame first (told spell p)) low (low + 2 * n) size spell rounds runs large are
+      ∙ map-map (in_frame first) (spelled_at_end spell) (filter (is_inside low (low + 2 * n)) (placed_runs size spell 0 all))
+      ∙ rounds_said (λ p. in_frame first (spelled_at_end spell p)) low (low + 2 * n) size spell rounds runs large are
 
   -- a cycle whose half-frames are known
   cycle_heard : (page : Page) (pages : List Page) (cycle : List Bool) →

@@ -43,21 +43,21 @@ abbrev pub is_inside : ℕ → ℕ → Placed → Bool
 is_inside low high p = nat_le low p.run && nat_lt p.last high
 
 -- the capsule of a page, with the half-frame in which it ends
-abbrev pub told : (Page → List Bool) → Placed → ℕ × List Bool
-told spell p = (p.last, spell p.page)
+abbrev pub spelled_at_end : (Page → List Bool) → Placed → ℕ × List Bool
+spelled_at_end spell p = (p.last, spell p.page)
 
 -- those of all pages that are inside
 abbrev pub selected : (Page → List Bool) → ℕ → ℕ → List Placed → List (ℕ × List Bool)
-selected spell low high ps = map (told spell) (filter (is_inside low high) ps)
+selected spell low high ps = map (spelled_at_end spell) (filter (is_inside low high) ps)
 
 pub selected-append : (spell : Page → List Bool) (low high : ℕ) (ps qs : List Placed) →
     selected spell low high (ps ++ qs) ≡ selected spell low high ps ++ selected spell low high qs
 selected-append spell low high ps qs =
-    ap (map (told spell)) (filter-append (is_inside low high) ps qs)
-    ∙ map-append (told spell) (filter (is_inside low high) ps) (filter (is_inside low high) qs)
+    ap (map (spelled_at_end spell)) (filter-append (is_inside low high) ps qs)
+    ∙ map-append (spelled_at_end spell) (filter (is_inside low high) ps) (filter (is_inside low high) qs)
 
 selected-here : (spell : Page → List Bool) (low high : ℕ) (p : Placed) (ps : List Placed) →
-    is_inside low high p ≡ true → selected spell low high (p ∷ ps) ≡ told spell p ∷ selected spell low high ps
+    is_inside low high p ≡ true → selected spell low high (p ∷ ps) ≡ spelled_at_end spell p ∷ selected spell low high ps
 selected-here spell low high p ps e = rw e refl
 
 selected-not : (spell : Page → List Bool) (low high : ℕ) (p : Placed) (ps : List Placed) →

@@ -41,32 +41,32 @@ flat_map-flat_map {A} {B} {C} g f (x ∷ xs) =
 -- ---- the capsules of a frame, as they are read
 
 -- what is told of a capsule whose frame is known at n: nothing where it has a fault
-abbrev pub told : CheckForm → ℕ → List Bool → List KnownPage
-told form n c = map (known_page n) (option_to_list (page_in form (Some c)))
+abbrev pub known_pages_of : CheckForm → ℕ → List Bool → List KnownPage
+known_pages_of form n c = map (known_page n) (option_to_list (page_in form (Some c)))
 
 -- a capsule that a bit may end
 option_told : (form : CheckForm) (n : ℕ) (o : Option (List Bool)) →
     map (known_page n) (option_to_list (page_in form o)) ≡
-    flat_map (told form n) (option_to_list o)
+    flat_map (known_pages_of form n) (option_to_list o)
 option_told form n None = refl
-option_told form n (Some c) = sym (append-nil (told form n c))
+option_told form n (Some c) = sym (append-nil (known_pages_of form n c))
 
 -- the bits of a frame, one after another
 frame_told : (form : CheckForm) (n : ℕ) (e : ℕ → Option (List Bool)) (size : ℕ) →
     map (known_page n) (flat_map (λ i. option_to_list (page_in form (e i))) (places size)) ≡
-    flat_map (told form n) (flat_map (λ i. option_to_list (e i)) (places size))
+    flat_map (known_pages_of form n) (flat_map (λ i. option_to_list (e i)) (places size))
 frame_told form n e size =
     map-flat_map (known_page n) (λ i. option_to_list (page_in form (e i))) (places size)
     ∙ flat_map_ext_places (λ i. map (known_page n) (option_to_list (page_in form (e i))))
-    (λ i. flat_map (told form n) (option_to_list (e i))) size (λ i below. option_told form n (e i))
-    ∙ sym (flat_map-flat_map (told form n) (λ i. option_to_list (e i)) (places size))
+    (λ i. flat_map (known_pages_of form n) (option_to_list (e i))) size (λ i below. option_told form n (e i))
+    ∙ sym (flat_map-flat_map (known_pages_of form n) (λ i. option_to_list (e i)) (places size))
 
 -- ---- the frames of a paging channel, whose bits are known
 
 -- what is told of a capsule that a frame of this number ends
 abbrev pub told_of : Tuning → ℕ → Mark → ℕ × List Bool → List KnownPage
 told_of t channel m sent =
-    told t.check30 (known_at t.count (paging_stream t channel m) sent.0) sent.1
+    known_pages_of t.check30 (known_at t.count (paging_stream t channel m) sent.0) sent.1
 
 module _ (t : Tuning) (channel : ℕ) (m : Mark) (samples : List Sample) (own : ℕ → List Bool)
     (frames : ℕ) (has : HasFrames t.count (paging_stream t channel m) frames)
@@ -119,7 +119,7 @@ module _ (t : Tuning) (channel : ℕ) (m : Mark) (samples : List Sample) (own : 
   -- what is told of one frame
   frame_gives : (n k : ℕ) → k < frames →
       map (known_page n) (pages_from t channel m samples k 0) ≡
-      flat_map (told t.check30 n) (frame_capsules (half_frame_body (streams.paging_rate m.prat)) own k)
+      flat_map (known_pages_of t.check30 n) (frame_capsules (half_frame_body (streams.paging_rate m.prat)) own k)
   frame_gives n k below =
       ap (map (known_page n)) (frame_pages k below)
       ∙ frame_told t.check30 n (ending k) (length (own k))

@@ -489,9 +489,9 @@ unfolding binary
 lost_is = refl
 
 -- no two codewords have the same code symbols but for those
-told : tells_all_bits lost ≡ true
+lost_tells_all_bits : tells_all_bits lost ≡ true
 unfolding places stays_apart
-told = refl
+lost_tells_all_bits = refl
 
 -- and two kept code symbols of one bit differ
 shown : shows_full_rate lost (full_rate_symbols some_information) ≡ true
@@ -502,7 +502,7 @@ shown = refl
 pub full_rate_frame_distinct : AFullRateFrameIsDistinct
 full_rate_frame_distinct =
     full_rate_distinct replaced_places some_information sized
-    (ap tells_all_bits lost_is ∙ told)
+    (ap tells_all_bits lost_is ∙ lost_tells_all_bits)
     (ap (λ (symbols : List ℕ). shows_full_rate symbols (full_rate_symbols some_information)) lost_is
     ∙ shown)
 

@@ -472,9 +472,9 @@ module _ (t : Tuning) (traffic : Traffic) (m : Mark) (legs : ℕ → List Leg) (
 module _ (t : Tuning) (near : AreNear (sync_stream t).fingers) (samples : List Sample)
     (none : All IsNotDirected (events t samples)) where
   -- those of each number of samples
-  there : (n : ℕ) → n ≤ length samples → All IsNotDirected (message_events_at t samples n)
+  none_directs : (n : ℕ) → n ≤ length samples → All IsNotDirected (message_events_at t samples n)
   unfolding heard_within places
-  there n few =
+  none_directs n few =
       let all = each_of_all IsNotDirected (events_at t samples) 0 (length samples + 1) n
       (omega arith) (omega (arith, few))
       (All-tail IsNotDirected (Pilot t.phase t.energy) (heard_within t samples (length samples)) none) in
@@ -501,4 +501,4 @@ module _ (t : Tuning) (near : AreNear (sync_stream t).fingers) (samples : List S
       (messages_from_mark t near t.traffic samples n)
       ∙ ap (λ (last : Option Mark). if_followed heard t.traffic last) set
       ∙ ap (λ (channel : Option Traffic). if_followed heard channel (Some m)) followed in
-      subst (All IsNotDirected) is (there n few)
+      subst (All IsNotDirected) is (none_directs n few)
