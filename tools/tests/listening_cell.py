@@ -120,7 +120,7 @@ def write_cell(path: str, parts: NDArray[numpy.int8]) -> str:
 
 
 @dataclass(frozen=True)
-class Owed:
+class Required:
     """A line without its `at`: the chip at which it is known, the chip at which its content begins, and the mark."""
 
     at: int
@@ -140,7 +140,7 @@ class Sent:
         self.pages = [(row[1], bits_of(row[2])) for row in rows if row[0] == "page"]
         self.frames = [(int(row[1]), row[2], row[3]) for row in rows if row[0] == "frame"]
 
-    def sync_lines(self, end: int) -> Iterator[Owed]:
+    def sync_lines(self, end: int) -> Iterator[Required]:
         """The messages of the sync channel."""
         time, state = int(self.cell["time"]), int(self.cell["lc"], 16)
         bits = 8 * 26 + int(self.sync["rest"].split(":")[0])
@@ -151,9 +151,9 @@ class Sent:
             fields |= {"pn": str(PN), "lc": f"{state_after(state, SUPERFRAME * told):011x}", "time": str(time + told)}
             fields |= {name: self.sync[name] for name in ("lp", "ltm", "daylt", "prat", "freq", "rest")}
             text = "sync " + " ".join(f"{name}={value}" for name, value in fields.items())
-            yield Owed(begin + SYNC_FRAME * (frames + 1), begin, text, SUPERFRAME * told)
+            yield Required(begin + SYNC_FRAME * (frames + 1), begin, text, SUPERFRAME * told)
 
-    def paging_lines(self, end: int) -> Iterator[Owed]:
+    def paging_lines(self, end: int) -> Iterator[Required]:
         """Yields the pages, repeated without end."""
         size, place, run, pages = BODY_BITS[int(self.sync["prat"])], 0, 0, []
         for how, body in self.pages:
@@ -165,15 +165,15 @@ class Sent:
         halves = -(-place // size)
         for cycle in range(2 * end // FRAME // halves + 1):
             for half, first, text in pages:
-                yield Owed(FRAME * ((cycle * halves + half) // 2 + 2), FRAME // 2 * (cycle * halves + first), text)
+                yield Required(FRAME * ((cycle * halves + half) // 2 + 2), FRAME // 2 * (cycle * halves + first), text)
 
-    def traffic_lines(self, end: int) -> Iterator[Owed]:
+    def traffic_lines(self, end: int) -> Iterator[Required]:
         """Yields the frames of the traffic channel, repeated without end, and the messages in them."""
         held: str | None = None
         begun = 0
         for number, at in enumerate(range(FRAME + 1_536 * OFFSET, end + 1, FRAME)):
             rate, text, commands = self.frames[number % len(self.frames)]
-            yield Owed(at, at - FRAME, f"frame rate={rate} good=1 bits={text} commands={commands}")
+            yield Required(at, at - FRAME, f"frame rate={rate} good=1 bits={text} commands={commands}")
             bits = bits_of(text)
             if rate != 9600 or bits[:2] != "10":
                 continue
@@ -184,10 +184,10 @@ class Sent:
                 continue
             held += part[1:]
             if len(held) >= 8 * int(held[:8], 2):
-                yield Owed(at, begun, message_text(held))
+                yield Required(at, begun, message_text(held))
                 held = None
 
-    def lines(self, end: int) -> list[Owed]:
+    def lines(self, end: int) -> list[Required]:
         """Returns everything that is sent up to a chip."""
         return [*self.sync_lines(end), *self.paging_lines(end), *self.traffic_lines(end)]
 

@@ -33,7 +33,7 @@ from cdma_tools.radio.channel import PHASES, REACH, pulse_table
 from cdma_tools.radio.second_pass import ramps
 from tools.tests.helping import NO_PROGRAM, PROGRAM, PYTHON, ROOT
 from tools.tests.listening_cell import (
-    CHIP_RATE, FRAME, HANDSET, PIECE, Compared, Owed, Sent, compared, made_chips, script_of,
+    CHIP_RATE, FRAME, HANDSET, PIECE, Compared, Required, Sent, compared, made_chips, script_of,
 )  # fmt: skip
 
 SEED, PRAT = 1, 1
@@ -174,7 +174,7 @@ def is_spoilt(begin: float, end: float) -> bool:
     )
 
 
-def unexplained(result: Compared, lines: list[Owed]) -> int:
+def unexplained(result: Compared, lines: list[Required]) -> int:
     """Returns the number of missing or extra lines that no fade and no loss explains."""
     begins = {line.at: line.begin for line in lines}
     missing = {at for at, _ in result.missing}

@@ -43,7 +43,7 @@ ALLOWED: tuple[Allowed, ...] = ()
 STILL_TO_REWORD = {
     "cdma_replay": 18,  # these three crates are about to get one form of a request, which rewrites most of them
     "command_line": 4,
-    "owed_replies": 25,
+    "run_replies": 25,
 }
 # Sentences that read as if translated word by word, as pages and docstrings had them; none may come back.
 GONE = (

@@ -2,7 +2,7 @@
 use Rattle.cdma_replay.proofs.Common.{◌≡◌, ℕ, List, [], Option, None, Result, Err, inl, refl, sym, ◌∙◌, arith, Appends-nil, Status}
 use Rattle.cdma_replay.proofs.Common.{unread_most, IsEndOf, Job, Make, Trial}
 use Rattle.command_line.specs.declared.job.WordFault.{WordFault}
-use Rattle.owed_replies.specs.Runs.{RunsCommand}
+use Rattle.run_replies.specs.Runs.{RunsCommand}
 
 -- each job may end for want of memory
 job_starves : (job : Job) → IsEndOf job Status.NoMemory
@@ -53,7 +53,7 @@ module _ {forms : List ℕ} {named : Option Job} {rest : Option (List ℕ)} {mis
       λ none. let never : Err WordFault.OutOfMemory ≡ Err WordFault.Bad = sym starved ∙ bad none in absurd (cc),
     );
     untouched = λ is. absurd (cc);
-    exact = λ job bytes held reply also told was owed reads writes. inl refl;
+    exact = λ job bytes held reply also told was required reads writes. inl refl;
     clean = λ width script bytes held plan span workers fingers paging traffic limits header samples
         also told was file enough clean reads writes. inl refl;
     all_distinct = λ width script bytes held plan span workers fingers paging traffic limits header

@@ -11,8 +11,8 @@ use Rattle.pilot_search.specs.BestIn.{IsBestIn}
 use Rattle.pilot_search.specs.declared.sweeping.Best.{Best}
 use Rattle.tuned_listener.specs.TunedListening.{ListensTuned, tuned_room}
 use Rattle.cdma_replay.specs.declared.listener.Listener.{Listener}
-use Rattle.owed_replies.specs.Findings.{AreWritable, findings_text}
-use Rattle.owed_replies.specs.Hearing.{ByFrames, ByTaps, Listening, Unheard, GainsText, told}
+use Rattle.run_replies.specs.Findings.{AreWritable, findings_text}
+use Rattle.run_replies.specs.Hearing.{ByFrames, ByTaps, Listening, Unheard, GainsText, told}
 use Rattle.cdma_replay.specs.declared.listener.Listener.TheVariants as by
 
 -- the phase of greatest energy of all

@@ -2,7 +2,7 @@
 use Rattle.cdma_replay.specs.Common.{Tuning, Mobile, KeptTap}
 use Rattle.std.specs.Prelude.{ℕ, List, [], Option}
 use Rattle.std.specs.Io.KnownBytes.{Appends}
-use Rattle.owed_replies.specs.Hearing.{ByTaps, told}
+use Rattle.run_replies.specs.Hearing.{ByTaps, told}
 use Rattle.cdma_replay.specs.Listeners.{HandsetGave}
 
 -- a handset gave its pilot to taps, a sink got what is told before any sample, and these taps are

@@ -5,8 +5,8 @@ ghost use Rattle.std.specs.Prelude.{◌≡◌, ◌≤◌, List, [], IfOk};
 ghost use Rattle.mobile_core.specs.Standing.{StandsFor, has_room};
 ghost use Rattle.tuned_listener.specs.Marking.{IsUntold};
 ghost use Rattle.cdma_replay.specs.Listeners.{IsBest};
-ghost use Rattle.owed_replies.specs.Hearing.{AreNearTo, AreReady, IsLawfulHandset, settings_for};
-ghost use Rattle.owed_replies.specs.Hearing.{tuning_for};
+ghost use Rattle.run_replies.specs.Hearing.{AreNearTo, AreReady, IsLawfulHandset, settings_for};
+ghost use Rattle.run_replies.specs.Hearing.{tuning_for};
 
 use cdma_io::Header;
 use chip_core::OutOfMemory;

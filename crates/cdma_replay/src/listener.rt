@@ -4,7 +4,7 @@ ghost use Rattle.cdma_replay.specs.Common.{Sample as TheSample, AppendsPrefix, H
 ghost use Rattle.cdma_replay.specs.Common.{Tuning, IsKept, KeptTap, run_taps};
 ghost use Rattle.std.specs.Prelude.{◌≡◌, ◌≤◌, ◌+◌, ◌++◌, List, [], length, All, OnOk, OnErr};
 ghost use Rattle.mobile_core.specs.Standing.{StandsFor, has_room};
-ghost use Rattle.owed_replies.specs.Hearing.{ByTaps, GainsText, GainsPrefix, told};
+ghost use Rattle.run_replies.specs.Hearing.{ByTaps, GainsText, GainsPrefix, told};
 ghost use Rattle.cdma_replay.specs.Listeners.{HandsetGave};
 ghost use Rattle.cdma_replay.specs.Pilots.{TellsPilot};
 
@@ -12,7 +12,7 @@ use cdma_io::{Failed, Sink};
 use chip_core::Sample;
 use event_tap::KeepsTaps;
 use mobile_core::Mobile;
-use owed_replies::Findings;
+use run_replies::Findings;
 use tuned_listener::TunedListener;
 
 /// The listener that takes the samples of a file, with the results of its first samples.
@@ -33,9 +33,9 @@ impl Listener {
     ghost use Rattle.event_tap.specs.Taps.{IsKept, KeptTap};
     ghost use Rattle.cdma_replay.specs.Listeners.{BeginsAfter, HasRoom, HasRoomFor};
     ghost use Rattle.cdma_replay.specs.Listeners.{IsFreshListener, IsTellable};
-    ghost use Rattle.owed_replies.specs.Hearing.{Listening, GainsPrefix, is_told};
+    ghost use Rattle.run_replies.specs.Hearing.{Listening, GainsPrefix, is_told};
     ghost use Rattle.cdma_replay.specs.Listeners.{Listens, ListenerTells};
-    ghost use Rattle.owed_replies.specs.Hearing.{told};
+    ghost use Rattle.run_replies.specs.Hearing.{told};
 
     /// Writes the text that comes before any sample is taken: the pilot's line, or the lines of the
     /// ranks. The taps of a handset receive its pilot event.

@@ -24,9 +24,9 @@ mod workspace;
 
 use cdma_io::{ReaderSource, WriterSink};
 pub use command_line::{Job, WordFault, words_of};
-pub use owed_replies::Status;
 use program::{run, without_args};
 pub use replaying::replay;
+pub use run_replies::Status;
 use std::process::ExitCode;
 use std::rt::Env;
 use std::{env, io};

@@ -13,7 +13,7 @@ use crate::workspace::PIECE;
 use base_modulator::{Cell, ScriptFault};
 use cdma_io::{Failed, Sink, Source, Width, fill};
 use chip_core::{OutOfMemory, Sample};
-use owed_replies::Status;
+use run_replies::Status;
 use std::alloc::Global;
 use writing::write_cell;
 

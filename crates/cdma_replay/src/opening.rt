@@ -7,10 +7,10 @@ ghost use Rattle.command_line.specs.Args.{IsBase, IsTop, IsWidth};
 ghost use Rattle.tuned_listener.specs.TunedListening.{ListensTuned, tuned_room};
 ghost use Rattle.event_tap.specs.EventLines.{event_line};
 ghost use Rattle.event_tap.specs.TunedTexts.{IsLawfulTuned};
-ghost use Rattle.owed_replies.specs.Hearing.{AreNearTo, AreReady, ByFrames, ByTaps, Unheard};
-ghost use Rattle.owed_replies.specs.Hearing.{IsLawfulHandset, best_pilot, listening, settings_for};
-ghost use Rattle.owed_replies.specs.Hearing.{tuning_for, waiting};
-ghost use Rattle.owed_replies.specs.Ranks.{survey_text};
+ghost use Rattle.run_replies.specs.Hearing.{AreNearTo, AreReady, ByFrames, ByTaps, Unheard};
+ghost use Rattle.run_replies.specs.Hearing.{IsLawfulHandset, best_pilot, listening, settings_for};
+ghost use Rattle.run_replies.specs.Hearing.{tuning_for, waiting};
+ghost use Rattle.run_replies.specs.Ranks.{survey_text};
 ghost use Rattle.cdma_replay.specs.Listeners.{IsBest, IsListenerFor};
 
 use crate::handset::{boxed_handset, handset, settings_for};
@@ -20,9 +20,9 @@ use chip_core::{OutOfMemory, Phase, Sample, Traffic};
 use command_line::Job;
 use event_tap::TunedText;
 use mobile_core::{Channel, Settings};
-use owed_replies::Findings;
 use pilot_search::{Best, Gate, Near, near, search};
 use pilot_survey::survey;
+use run_replies::Findings;
 use short_code::Codes;
 use std::alloc::Global;
 use std::thread::Threads;
@@ -217,7 +217,10 @@ pub fn listener_for<R: Threads + Sync, G: Gate + Sync>(
             tuned_near(alloc, fingers, channel, text, header, codes, first, &best)
         }
         Job::Survey {
-            base, width, top, ..
+            base,
+            width,
+            top,
+            ..
         } => rank_pilots(rt, alloc, base, width, top, codes, first, workers, gate),
         Job::Find { .. } | Job::Make { .. } | Job::Trial { .. } => {
             find_pilot(rt, alloc, codes, first, workers, gate)

@@ -8,9 +8,9 @@ ghost use Rattle.std.specs.Prelude.{◌≡◌, ◌≢◌, ◌≤◌, ◌+◌, �
 ghost use Rattle.std.specs.Prelude.{IfOk, OnOk, IfErr, OnErr, IfSome};
 ghost use Rattle.std.specs.Io.KnownBytes.{IsAtEnd};
 ghost use Rattle.cdma_replay.specs.Listeners.{HasRoom, HearsRest, Listens};
-ghost use Rattle.owed_replies.specs.Hearing.{LosesSamples, Listening, end_when, span_of};
-ghost use Rattle.owed_replies.specs.Broken.{HearsFirst, IsCut, IsLong, IsUnopened, TakesFew};
-ghost use Rattle.owed_replies.specs.Status.{file_status};
+ghost use Rattle.run_replies.specs.Hearing.{LosesSamples, Listening, end_when, span_of};
+ghost use Rattle.run_replies.specs.Broken.{HearsFirst, IsCut, IsLong, IsUnopened, TakesFew};
+ghost use Rattle.run_replies.specs.Status.{file_status};
 
 use crate::listener::Listener;
 use crate::opening::listener_for;
@@ -19,8 +19,8 @@ use cdma_io::{Failed, FileFault, SampleReader, Sink, Source};
 use chip_core::Sample;
 use command_line::Job;
 use event_tap::KeepsTaps;
-use owed_replies::Status;
 use pilot_search::Gate;
+use run_replies::Status;
 use short_code::Codes;
 use std::alloc::Global;
 use std::thread::Threads;

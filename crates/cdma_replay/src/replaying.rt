@@ -2,7 +2,7 @@
 
 ghost use Rattle.cdma_replay.specs.Common.{IsLawfulJob, job_named, ended, RunsJob};
 ghost use Rattle.std.specs.Prelude.{◌≡◌, map};
-ghost use Rattle.owed_replies.specs.Runs.{RunsCommand};
+ghost use Rattle.run_replies.specs.Runs.{RunsCommand};
 
 use crate::making::make;
 use crate::receiving::receive;
@@ -10,8 +10,8 @@ use crate::trial::trial;
 use cdma_io::{Sink, Source};
 use command_line::{Job, WordFault, words_of};
 use event_tap::{Tap, Taps};
-use owed_replies::Status;
 use pilot_search::Gate;
+use run_replies::Status;
 use std::alloc::Global;
 use std::thread::Threads;
 

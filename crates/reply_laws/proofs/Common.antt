@@ -42,19 +42,19 @@ pub use Rattle.command_line.specs.declared.job.Job.TheVariants.{Idle}
 pub use Rattle.listed_frame.proofs.Choice.{decoded_by_one_codeword}
 pub use Rattle.listed_frame.proofs.SentFrames.{signs_frame_listed}
 pub use Rattle.listed_frame.specs.ListedFrames.{listed}
-pub use Rattle.owed_replies.proofs.BorneFiles.{BearsSync, IsBorneFile, cell_borne, end_is, long, none_on_paging, none_on_traffic, signs}
-pub use Rattle.owed_replies.proofs.CleanTexts.{clean_events-are}
-pub use Rattle.owed_replies.proofs.Common.{Contains, Err, HasBits, Header, IsCellFile, IsFileReply, IsLawfulHeader, IsOnPath, IsReply, Job}
-pub use Rattle.owed_replies.proofs.Common.{IsSampleFile, KeptTap, Ok, Reply, Tuning, append-nil, best_phase, best_phase-is, cell_energy}
-pub use Rattle.owed_replies.proofs.Common.{clean_end, clean_signs, end_when, events, flat_map, header_spelling, is_some, is_told, kept_by}
-pub use Rattle.owed_replies.proofs.Common.{lawful_traffic, length-made, length-near, listening, mark, named_receivable, one_delta, run_text}
-pub use Rattle.owed_replies.proofs.Common.{sample_spelling, sent_events, settings_for, take-append-drop, tuning_for, tuning_to, width_of}
-unfoldable pub use Rattle.owed_replies.proofs.Common.{file_end_of, file_text, made_file, plan_named, told}
-pub use Rattle.owed_replies.proofs.Files.{none_within}
-pub use Rattle.owed_replies.proofs.Replies.{one_file_reply, one_reply, whole_file}
-pub use Rattle.owed_replies.proofs.TuningLaw.{handsets_tuned, near_long, on_plans_path, own_delta}
-unfoldable pub use Rattle.owed_replies.specs.Hearing.{best_pilot}
-pub use Rattle.owed_replies.specs.Replies.{taps_for}
+pub use Rattle.run_replies.proofs.BorneFiles.{BearsSync, IsBorneFile, cell_borne, end_is, long, none_on_paging, none_on_traffic, signs}
+pub use Rattle.run_replies.proofs.CleanTexts.{clean_events-are}
+pub use Rattle.run_replies.proofs.Common.{Contains, Err, HasBits, Header, IsCellFile, IsFileReply, IsLawfulHeader, IsOnPath, IsReply, Job}
+pub use Rattle.run_replies.proofs.Common.{IsSampleFile, KeptTap, Ok, Reply, Tuning, append-nil, best_phase, best_phase-is, cell_energy}
+pub use Rattle.run_replies.proofs.Common.{clean_end, clean_signs, end_when, events, flat_map, header_spelling, is_some, is_told, kept_by}
+pub use Rattle.run_replies.proofs.Common.{lawful_traffic, length-made, length-near, listening, mark, named_receivable, one_delta, run_text}
+pub use Rattle.run_replies.proofs.Common.{sample_spelling, sent_events, settings_for, take-append-drop, tuning_for, tuning_to, width_of}
+unfoldable pub use Rattle.run_replies.proofs.Common.{file_end_of, file_text, made_file, plan_named, told}
+pub use Rattle.run_replies.proofs.Files.{none_within}
+pub use Rattle.run_replies.proofs.Replies.{one_file_reply, one_reply, whole_file}
+pub use Rattle.run_replies.proofs.TuningLaw.{handsets_tuned, near_long, on_plans_path, own_delta}
+unfoldable pub use Rattle.run_replies.specs.Hearing.{best_pilot}
+pub use Rattle.run_replies.specs.Replies.{taps_for}
 pub use Rattle.pilot_search.proofs.Common.{All-from_get_or, IsBestIn, length-drop, nat_tests, near_phase_at, near_place, near_value}
 unfoldable pub use Rattle.pilot_search.proofs.Common.{first_places, near_deltas}
 pub use Rattle.pilot_search.proofs.NearPlaces.{place_back}
@@ -75,7 +75,7 @@ pub use Rattle.reply_laws.specs.Common.{cell, cell_beside, file, header_of, refe
 pub use Rattle.reply_laws.specs.HeardThrough.{HeardThroughComesBack, HoldsOfNearReplies, IsFileNear}
 pub use Rattle.reply_laws.specs.MadeLinks.{HasLouderPilot}
 pub use Rattle.reply_laws.specs.NoisyReplies.{IsBearingTraffic, IsHeardThrough, IsNoisyFile, NoisyRepliesComeBack}
-pub use Rattle.reply_laws.specs.ReplyLaws.{OwesTheFrames, SleepChangesNoReply}
+pub use Rattle.reply_laws.specs.ReplyLaws.{WritesTheFrames, SleepChangesNoReply}
 pub use Rattle.reply_laws.specs.SentLines.{FileSlotsComeBack, IsLineOfSetOne, IsLineOfSetTwo, LinesComeBack}
 pub use Rattle.reply_laws.specs.SentReplies.{IdleRepliesComeBack, IsSentReply, ListRepliesComeBack, Rate2RepliesComeBack, RepliesComeBack}
 pub use Rattle.reply_laws.specs.SignedReplies.{IsFileOnPath, IsReplyFrom, SignedRepliesComeBack, list_job, rate2_job}

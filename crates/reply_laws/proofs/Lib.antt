@@ -1,7 +1,7 @@
 pub mod Common
 pub mod MadeLinks
 pub mod NoisyReplies
-pub mod Owed
+pub mod Required
 pub mod SentLines
 pub mod SignedReplies
 pub mod SleepLaw

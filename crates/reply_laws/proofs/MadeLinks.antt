@@ -10,7 +10,7 @@ use Rattle.reply_laws.proofs.Common.{made_file, named_receivable, length-made, l
 use Rattle.reply_laws.proofs.Common.{tuning_for, event_line, Status, TrafficPlan, SendsSetOne, SendsSetTwo, IsLineOfSetOne, IsLineOfSetTwo}
 use Rattle.reply_laws.proofs.Common.{RepliesComeBack, found_alone, Event, Pilot, cell_borne, end_is, one_reply, IsCellFile, Done, list_job}
 use Rattle.reply_laws.proofs.Common.{rate2_job, HasLouderPilot, IsSmall, sample_small, part_fits, clean_events-are, plan_named, Header}
-use Rattle.reply_laws.proofs.Owed.{find_owes, follow_owes}
+use Rattle.reply_laws.proofs.Required.{find_writes, follow_writes}
 use Rattle.reply_laws.proofs.NoisyReplies.{list_replies, rate2_replies, idle_replies}
 use Rattle.command_line.specs.declared.job.Job.TheVariants as jobs
 use Rattle.reply_laws.specs.MadeLinks as laws
@@ -161,24 +161,24 @@ clean_links width script plan span paging traffic loud follows none =
     made_clean_sent width script plan span paging traffic loud.named (found loud) follows none
 
 pub louder_find : laws.FindsLouderPilots
-louder_find workers forms script width plan span reply loud owed =
-    one_reply forms (jobs.Find span workers) (made_file width plan) reply _ owed
-    (find_owes forms span workers (made_file width plan) (header_of width plan) (made_samples plan)
+louder_find workers forms script width plan span reply loud required =
+    one_reply forms (jobs.Find span workers) (made_file width plan) reply _ required
+    (find_writes forms span workers (made_file width plan) (header_of width plan) (made_samples plan)
     (readable loud) (enough loud))
     ∙ ap (λ (phase : ℕ). Ok (event_line (Pilot phase (energy (take span (made_samples plan)) phase)), Done))
     (found loud)
 
--- The one reply that is owed is the text of the handset's events, and of a clean link these are what
+-- The one reply that is required is the text of the handset's events, and of a clean link these are what
 -- the cell sends: the handset is tuned to the cell, since the search finds its path.
 pub louder_follow : laws.LouderFollowRepliesComeBack
-louder_follow workers paging traffic limits one forms script width plan span reply loud owed free follows none =
+louder_follow workers paging traffic limits one forms script width plan span reply loud required free follows none =
     let samples = made_samples plan in
     let header = header_of width plan in
     let file = readable loud in
     let clean = clean_links width script plan span paging traffic loud follows none in
     let t = tuning_for (settings_for header 1 paging traffic) (take span samples) in
-    one_reply forms (jobs.Follow span workers 1 paging traffic limits) (made_file width plan) reply _ owed
-    (follow_owes forms span workers 1 paging traffic limits (made_file width plan) header samples file
+    one_reply forms (jobs.Follow span workers 1 paging traffic limits) (made_file width plan) reply _ required
+    (follow_writes forms span workers 1 paging traffic limits (made_file width plan) header samples file
     (enough loud))
     ∙ ap (λ (end : Status). Ok (run_text (kept_by limits forms) (events t samples), end))
     (end_is 1 paging traffic (cell_borne clean.file file.counted))
@@ -190,7 +190,7 @@ louder_follow workers paging traffic limits one forms script width plan span rep
 of_made : (job : ℕ → ℕ → ℕ → Traffic → Job) (Sends : TrafficPlan → Type 0)
     (Is : CellPlan → TrafficPlan → ℕ → List ℕ → Type 0) → RepliesComeBack job Sends Is →
     laws.LouderRepliesComeBack (λ span workers traffic. job span workers 1 traffic) Sends Is
-of_made job Sends Is back workers traffic forms script width plan span reply loud owed p has assigned
+of_made job Sends Is back workers traffic forms script width plan span reply loud required p has assigned
     sends =
     back forms script (made_file width plan) width plan p span workers 1 traffic (header_of width plan)
     (made_samples plan) reply (record {
@@ -199,7 +199,7 @@ of_made job Sends Is back workers traffic forms script width plan span reply lou
       cell = made_cell loud;
       sent = has;
       assigned = assigned;
-    }) sends owed
+    }) sends required
 
 pub louder_rate2 : laws.LouderRate2RepliesComeBack
 louder_rate2 = of_made rate2_job SendsSetTwo IsLineOfSetTwo rate2_replies
@@ -208,6 +208,6 @@ pub louder_list : laws.LouderListRepliesComeBack
 louder_list k least = of_made (list_job k) SendsSetOne IsLineOfSetOne (list_replies k least)
 
 pub louder_idle : laws.LouderIdleRepliesComeBack
-louder_idle workers key cycle p forms script width plan span reply loud owed has =
+louder_idle workers key cycle p forms script width plan span reply loud required has =
     idle_replies forms script (made_file width plan) width plan p span workers 1 key cycle
-    (header_of width plan) (made_samples plan) reply (readable loud) (enough loud) (made_cell loud) has owed
+    (header_of width plan) (made_samples plan) reply (readable loud) (enough loud) (made_cell loud) has required

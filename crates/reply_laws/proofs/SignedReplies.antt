@@ -1,15 +1,15 @@
--- What is owed of a file of any origin comes back by the signs of its soft values.
+-- What is required for a file of any origin comes back by the signs of its soft values.
 use Rattle.reply_laws.proofs.Common.{◌≤◌, ◌≡◌, ℕ, List, [], ◌∷◌, length, take, map, refl, sym, ap, ◌∙◌, subst, Option, None, Some, Ok, Err}
 use Rattle.reply_laws.proofs.Common.{Contains, Sample, Width, Header, CellPlan, TrafficPlan, Traffic, IsOnPath, Tuning, Mark, mark, Listed}
 use Rattle.reply_laws.proofs.Common.{SendsSetOne, SendsSetTwo, TunedText, RateSetTwo, traffic_channel, Job, IsSampleFile, Status, IsReply}
-use Rattle.reply_laws.proofs.Common.{Reply, IsLineOfSetOne, IsLineOfSetTwo, IsSentReply, OwesTheFrames, told_with_sync, MarkIsAt, kept_by}
+use Rattle.reply_laws.proofs.Common.{Reply, IsLineOfSetOne, IsLineOfSetTwo, IsSentReply, WritesTheFrames, told_with_sync, MarkIsAt, kept_by}
 use Rattle.reply_laws.proofs.Common.{MarksAreAt, TrafficFrameHasSigns, IsFileOnPath, IsReplyFrom, SignedRepliesComeBack, channels_by_signs}
 use Rattle.reply_laws.proofs.Common.{no_event_directed, all_by_signs, tells_the_mark, run_text, events, settings_for, tuning_for, end_when}
 use Rattle.reply_laws.proofs.Common.{clean_end, slot_texts_back, energy, best_phase, near_deltas, one_near, written_of_slots, arith, suc}
 use Rattle.reply_laws.proofs.Common.{Bears, FileSlotsComeBack, IsAssigned, is_some, nat_lt, lt-ltb, SyncPlan, told_by_first, whole_sendings}
 use Rattle.reply_laws.proofs.Common.{events_of_channel, sending_event, sync_sent, sent_events, IsBorneFile, signs, one_reply, near_long}
 use Rattle.reply_laws.proofs.Common.{own_delta, LinesComeBack, list_job, rate2_job, ap₂}
-use Rattle.reply_laws.proofs.Owed.{follow_owes, idle_owes, list_owes, rate2_owes}
+use Rattle.reply_laws.proofs.Required.{follow_writes, idle_writes, list_writes, rate2_writes}
 use Rattle.reply_laws.proofs.SentLines.{all_lines, borne_signs, listed_lines, set_two_lines}
 use Rattle.reply_laws.specs.SignedReplies as laws
 use Rattle.command_line.specs.declared.job.Job.TheVariants as jobs
@@ -85,16 +85,16 @@ module _ {bytes : List ℕ} {width : Width} {plan : CellPlan} {span fingers : �
 
 -- ---- all channels
 
--- The one reply that is owed is the text of the handset's events, with the end that the mark tells.
+-- The one reply that is required is the text of the handset's events, with the end that the mark tells.
 -- The handset is on the cell's path, so each channel comes back in these events by its signs.
 pub signed_follow : laws.SignedFollowRepliesComeBack
 signed_follow forms limits bytes width plan span workers fingers paging traffic header samples reply at file
-    marks undirected owed =
+    marks undirected required =
     let t = tuning_for (settings_for header fingers paging traffic) (take span samples) in
     let job : Job = jobs.Follow span workers fingers paging traffic limits in
     let there = on file paging traffic in (
-      one_reply forms job bytes reply _ owed
-          (follow_owes forms span workers fingers paging traffic limits bytes header samples file.file
+      one_reply forms job bytes reply _ required
+          (follow_writes forms span workers fingers paging traffic limits bytes header samples file.file
           file.enough)
           ∙ ap (λ (end : Status). Ok (run_text (kept_by limits forms) (events t samples), end))
           (end_at file paging traffic at marks),
@@ -113,11 +113,11 @@ whole text end = Ok (text, end)
 
 pub signed_whole : laws.SignedWholeRepliesComeBack
 signed_whole forms limits bytes width plan q span workers fingers header samples reply file is has signs
-    owed =
+    required =
     let t = tuning_for (settings_for header fingers q.number None) (take span samples) in
     let job : Job = jobs.Follow span workers fingers q.number None limits in
-    one_reply forms job bytes reply _ owed
-    (follow_owes forms span workers fingers q.number None limits bytes header samples file.file
+    one_reply forms job bytes reply _ required
+    (follow_writes forms span workers fingers q.number None limits bytes header samples file.file
     file.enough)
     ∙ ap₂ whole
     (ap (run_text (kept_by limits forms))
@@ -128,19 +128,19 @@ signed_whole forms limits bytes width plan q span workers fingers header samples
 
 -- ---- one channel
 
--- where a job owes the text of the channel's frames
+-- where a job must write the text of the channel's frames
 signed_replies : (job : ℕ → ℕ → ℕ → Traffic → Job) (form : TunedText) →
     ((span workers fingers : ℕ) (traffic : Traffic) →
-    OwesTheFrames (job span workers fingers traffic) span fingers (traffic_channel traffic) form) →
+    WritesTheFrames (job span workers fingers traffic) span fingers (traffic_channel traffic) form) →
     (Sends : TrafficPlan → Type 0) (Is : CellPlan → TrafficPlan → ℕ → List ℕ → Type 0) →
     LinesComeBack form Sends Is → SignedRepliesComeBack job Sends Is
-signed_replies job form owes Sends Is lines forms bytes width plan p span workers fingers traffic header
-    samples reply at file marks has assigned sends owed =
+signed_replies job form asks Sends Is lines forms bytes width plan p span workers fingers traffic header
+    samples reply at file marks has assigned sends required =
     subst
     (IsReplyFrom plan p at
     (λ frame line. TrafficFrameHasSigns plan p samples frame → Is plan p frame line))
     (one_reply forms (job span workers fingers traffic) bytes _ reply
-    (owes span workers fingers traffic forms bytes header samples file.file file.enough) owed) (
+    (asks span workers fingers traffic forms bytes header samples file.file file.enough) required) (
       lines width plan p (tuning file 1 None) traffic samples at file.receivable file.long
           (on file 1 None) (marked file 1 None at marks) has assigned sends,
       end_at file 1 None at marks,
@@ -150,14 +150,14 @@ pub signed_rate2 : laws.SignedRate2RepliesComeBack
 signed_rate2 =
     signed_replies rate2_job RateSetTwo
     (λ span workers fingers traffic.
-    rate2_owes span workers fingers traffic.offset traffic.esn traffic.row)
+    rate2_writes span workers fingers traffic.offset traffic.esn traffic.row)
     SendsSetTwo IsLineOfSetTwo set_two_lines
 
 pub signed_list : laws.SignedListRepliesComeBack
 signed_list k least =
     signed_replies (list_job k) (Listed k)
     (λ span workers fingers traffic.
-    list_owes span workers fingers traffic.offset traffic.esn traffic.row k)
+    list_writes span workers fingers traffic.offset traffic.esn traffic.row k)
     SendsSetOne IsLineOfSetOne (listed_lines k least)
 
 pub file_slots : FileSlotsComeBack
@@ -167,12 +167,12 @@ file_slots width plan p t key cycle at samples is long on has set signs =
 
 pub signed_idle : laws.SignedIdleRepliesComeBack
 signed_idle forms bytes width plan p span workers fingers key cycle header samples reply at file marks has
-    signs owed =
+    signs required =
     let job : Job = jobs.Idle span workers fingers p.number key cycle in
     let t = tuning_for (settings_for header fingers 1 None) (take span samples) in
     let there = on file 1 None in
-    one_reply forms job bytes reply _ owed
-    (idle_owes span workers fingers p.number key cycle forms bytes header samples file.file file.enough)
+    one_reply forms job bytes reply _ required
+    (idle_writes span workers fingers p.number key cycle forms bytes header samples file.file file.enough)
     ∙ ap₂ whole
     (file_slots width plan p t key cycle at samples file.receivable file.long there has (marks t there)
     signs)
@@ -199,9 +199,9 @@ pub told_replies : (job : ℕ → ℕ → ℕ → Traffic → Job) (Sends : Traf
     IsReply forms (job span workers fingers traffic) bytes reply →
     IsSentReply plan p (Is plan p) reply
 told_replies job Sends Is signed forms workers reply {bytes} {width = width} {plan} {p} {span} {fingers}
-    {traffic} {header} {samples} file enough borne has assigned bears sends owed =
+    {traffic} {header} {samples} file enough borne has assigned bears sends required =
     sent_reply plan p (TrafficFrameHasSigns plan p samples) (Is plan p) reply
     (borne_signs samples borne has bears)
     (signed forms bytes width plan p span workers fingers traffic header samples reply _
     (borne_on_path file enough borne)
-    (tells_the_mark width plan samples (signs fingers 1 None borne)) has assigned sends owed)
+    (tells_the_mark width plan samples (signs fingers 1 None borne)) has assigned sends required)

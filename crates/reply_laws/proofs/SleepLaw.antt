@@ -1,4 +1,4 @@
--- What is owed of a file whose slots a sleeping handset hears doesn't depend on what it sleeps through: the
+-- What is required for a file whose slots a sleeping handset hears doesn't depend on what it sleeps through: the
 -- paths that the search hands on are near enough for it to follow.
 use Rattle.reply_laws.proofs.Common.{◌≡◌, ℕ, ◌≤◌, ◌++◌, List, [], length, take, sym, ap, ◌∙◌, subst, arith, Option, Some, Ok, is_some, mark}
 use Rattle.reply_laws.proofs.Common.{Sample, Header, KeptTap, Tuning, Channel, Paging, Mark, timed_of, mark_set, tuned_text, TunedText, ◌≢◌}
@@ -161,7 +161,7 @@ fewer_agree : {A : Type 0} (one other : List A) (few many : ℕ) → few ≤ man
 fewer_agree one other few many less same =
     sym (take-take few many one less) ∙ ap (take few) same ∙ take-take few many other less
 
--- ---- what is owed
+-- ---- what is required
 
 -- the text of a file whose slots are heard
 text_heard : (taps : List KeptTap) (span workers fingers number key cycle : ℕ) (header : Header)
@@ -180,12 +180,12 @@ end_heard : (span workers fingers number key cycle : ℕ) (header : Header) (sam
 unfolding file_end_of
 end_heard span workers fingers number key cycle header samples = refl
 
--- two files that are owed one reply are owed no other
-owed_too : (taps : List KeptTap) (job : Job) (bytes changed : List ℕ) (both reply : Reply) →
+-- two files that require one reply require no other
+required_too : (taps : List KeptTap) (job : Job) (bytes changed : List ℕ) (both reply : Reply) →
     IsFileReply taps job bytes both → IsFileReply taps job changed both →
     IsFileReply taps job bytes reply → IsFileReply taps job changed reply
-owed_too taps job bytes changed both reply here there owed =
-    subst (IsFileReply taps job changed) (one_file_reply taps job bytes both reply here owed) there
+required_too taps job bytes changed both reply here there required =
+    subst (IsFileReply taps job changed) (one_file_reply taps job bytes both reply here required) there
 
 -- ---- the law
 
@@ -224,6 +224,6 @@ sleep_changes_no_reply forms span workers fingers number key cycle header one ot
     let there : IsFileReply taps job changed both =
     rw (texts, ends)
     (whole_file file' (omega (arith, enough, long))) in (
-      owed_too taps job bytes changed both reply here there,
-      owed_too taps job changed bytes both reply there here,
+      required_too taps job bytes changed both reply here there,
+      required_too taps job changed bytes both reply there here,
     )

@@ -15,7 +15,7 @@ use Rattle.cell_script.proofs.Common.{past, past_freq, past_numbers, pilot_in, s
 use Rattle.cell_script.proofs.Common.{stated_plan, statement_in, sync_after, sync_in, with_line, with_next}
 use Rattle.reply_laws.proofs.MadeLinks.{clean_links, enough, louder_follow, readable, lawful_readable}
 use Rattle.reply_laws.proofs.NoisyReplies.{noisy_whole, comes_back}
-use Rattle.reply_laws.proofs.Owed.{follow_owes}
+use Rattle.reply_laws.proofs.Required.{follow_writes}
 use Rattle.reply_laws.specs.WholeFiles.{ComesBackThroughAnyNoise, loud_cell, script_with_pilot, second_messages, second_paging, second_with}
 use Rattle.reply_laws.specs.WholeFiles.{MeetsEachPremise, MeetsEachNoisePremise, margin_bytes, second_cell, second_file, second_header}
 use Rattle.reply_laws.specs.WholeFiles.{second_script, second_text}
@@ -82,15 +82,15 @@ module _ (forms limits : List ℕ) (workers : ℕ) where
   abbrev whole : Reply
   whole = Ok (second_text forms limits, Done)
 
-  -- the one reply that is owed
+  -- the one reply that is required
   only : (reply : Reply) → IsReply forms job second_file reply → reply ≡ whole
-  only reply owed =
+  only reply required =
       louder_follow workers 1 None limits (omega arith, omega arith) forms second_script Sixteen
-      second_cell 2048 reply louder owed no_traffic tt (none_directed 100)
+      second_cell 2048 reply louder required no_traffic tt (none_directed 100)
       ∙ ap (λ (end : Status). Ok (second_text forms limits, end)) (second_ends_well 100)
 
-  owed : IsReply forms job second_file whole
-  owed =
+  required : IsReply forms job second_file whole
+  required =
       let xs = made_samples second_cell in
       let t = tuning_for (settings_for second_header 1 1 None) (take 2048 xs) in
       let found : Reply = Ok (
@@ -98,7 +98,7 @@ module _ (forms limits : List ℕ) (workers : ℕ) where
         end_when (is_some (mark t xs (length xs))),
       ) in
       let is : IsReply forms job second_file found =
-      follow_owes forms 2048 workers 1 1 None limits second_file second_header xs (readable louder)
+      follow_writes forms 2048 workers 1 1 None limits second_file second_header xs (readable louder)
       (enough louder) in
       subst (IsReply forms job second_file) (only found is) is
 
@@ -128,14 +128,14 @@ meets_each = record {
     bears = omega arith;
   };
   sync = second_sync 100;
-  owed = λ forms limits workers reply. (
+  required = λ forms limits workers reply. (
     only forms limits workers reply,
     λ same.
         subst (IsReply forms (job forms limits workers) second_file) (sym same)
-        (owed forms limits workers),
+        (required forms limits workers),
   );
   written = λ forms limits held workers status new answers.
-      answers (whole forms limits workers) (owed forms limits workers);
+      answers (whole forms limits workers) (required forms limits workers);
 }
 
 -- ---- with noise
@@ -166,10 +166,10 @@ meets_noise = record {
   noisy = noisy_file;
   sync = sync_told;
   pages = pages_told;
-  owed = λ forms limits workers span reply least long owed.
+  required = λ forms limits workers span reply least long required.
       noisy_whole forms limits margin_bytes 89 Sixteen cell noisy_paging_plan span workers 1
       (header_of Sixteen cell) file reply (noisy_file span least long) (0, omega arith, refl)
-      (less_borne cell 90 180 89 89 meets_premises.hears.bears (omega arith) (omega arith)) owed
+      (less_borne cell 90 180 89 89 meets_premises.hears.bears (omega arith) (omega arith)) required
       ∙ ap (λ (end : Status). Ok (
         run_text (kept_by limits forms)
             (sent_events cell (energy (take span file) (phase_at cell 0)) 1 None),
@@ -208,9 +208,9 @@ loud_comes_back = record {
   through = loud_through;
   back = comes_back 89 Sixteen loud_cell 2048 loud_through;
   sync = second_sync 2000;
-  whole = λ workers limits forms bytes header samples reply file owed.
+  whole = λ workers limits forms bytes header samples reply file required.
       (comes_back 89 Sixteen loud_cell 2048 loud_through).whole workers limits second_paging
-      (0, omega arith, refl) (omega arith) forms bytes header samples reply file owed
+      (0, omega arith, refl) (omega arith) forms bytes header samples reply file required
       ∙ ap (λ (end : Status). Ok (
         run_text (kept_by limits forms)
             (sent_events loud_cell (energy (take 2048 samples) (phase_at loud_cell 0)) 1 None),

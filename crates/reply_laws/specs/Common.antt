@@ -25,18 +25,18 @@ pub use Rattle.event_tap.specs.declared.tuned_text.TunedText.TheVariants.{Listed
 pub use Rattle.heard_events.specs.FramesAlone.{reference_alone}
 pub use Rattle.heard_events.specs.declared.channel.Channel.{Channel}
 pub use Rattle.heard_events.specs.declared.channel.Channel.TheVariants.{Paging}
-pub use Rattle.owed_replies.specs.CleanFiles.{IsCellFile, IsCleanLink, cell_energy}
-pub use Rattle.owed_replies.specs.Common.{IsNotDirected, IsSampleFile, made_samples, FollowsSent}
-pub use Rattle.owed_replies.specs.Common.{sent_events, plan_named, header_of, sync_sent, tuning_to}
-pub use Rattle.owed_replies.specs.Common.{IsOnPath, phase_at, run_text, kept_by, Tuning, events}
-pub use Rattle.owed_replies.specs.Hearing.{clean_end, clean_events, end_when, settings_for, waiting}
-pub use Rattle.owed_replies.specs.Hearing.{traffic_channel_with, tuning_for}
-pub use Rattle.owed_replies.specs.Make.{made_file}
-pub use Rattle.owed_replies.specs.Ranks.{survey_text}
-pub use Rattle.owed_replies.specs.Replies.{AnswersAfter, IsFileReply, IsReply, Reply}
-pub use Rattle.owed_replies.specs.Trials.{trial_line}
-pub use Rattle.owed_replies.specs.TuningLaw.{HandsetsAreTuned, HandsetsLieOnThePath}
-pub use Rattle.owed_replies.specs.declared.status.Status.{Status}
-pub use Rattle.owed_replies.specs.declared.status.Status.TheVariants.{Done, NoMemory}
+pub use Rattle.run_replies.specs.CleanFiles.{IsCellFile, IsCleanLink, cell_energy}
+pub use Rattle.run_replies.specs.Common.{IsNotDirected, IsSampleFile, made_samples, FollowsSent}
+pub use Rattle.run_replies.specs.Common.{sent_events, plan_named, header_of, sync_sent, tuning_to}
+pub use Rattle.run_replies.specs.Common.{IsOnPath, phase_at, run_text, kept_by, Tuning, events}
+pub use Rattle.run_replies.specs.Hearing.{clean_end, clean_events, end_when, settings_for, waiting}
+pub use Rattle.run_replies.specs.Hearing.{traffic_channel_with, tuning_for}
+pub use Rattle.run_replies.specs.Make.{made_file}
+pub use Rattle.run_replies.specs.Ranks.{survey_text}
+pub use Rattle.run_replies.specs.Replies.{AnswersAfter, IsFileReply, IsReply, Reply}
+pub use Rattle.run_replies.specs.Trials.{trial_line}
+pub use Rattle.run_replies.specs.TuningLaw.{HandsetsAreTuned, HandsetsLieOnThePath}
+pub use Rattle.run_replies.specs.declared.status.Status.{Status}
+pub use Rattle.run_replies.specs.declared.status.Status.TheVariants.{Done, NoMemory}
 pub use Rattle.slot_link.specs.Laws.{slots_after, slots_sent}
 pub use Rattle.tuned_listener.specs.SlotLaws.{AgreeWhereHeard}

@@ -33,9 +33,9 @@ pub record FollowsBearing (e : ℕ) (plan : CellPlan) (followed : Option Traffic
       Contains plan.traffic p → IsAssigned p traffic → Bears plan p.gain e
   pub undirected : All IsNotDirected (signaling_sent plan followed)
 
--- ---- what is owed
+-- ---- what is required
 
--- Each reply that a job owes of such a file has a property.
+-- Each reply that such a file requires of a job has a property.
 abbrev pub HoldsOfNearReplies : ℕ → CellPlan → Job → (List ℕ → List Sample → Reply → Type 0) →
     Type 0
 HoldsOfNearReplies e plan job Is = (forms bytes : List ℕ) (header : Header)

@@ -1,5 +1,5 @@
--- What `make` writes is a clean link, and what each command owes of it if the cell's pilot is louder
--- than all of its other channels together. Then no premise speaks of the search.
+-- What `make` writes is a clean link, and what each command must write for it if the cell's pilot
+-- is louder than all of its other channels together. Then no premise speaks of the search.
 use Rattle.std.specs.List.{Contains}
 use Rattle.std.specs.Prelude.{ℕ, ◌≡◌, List, take, All, Option, Ok, ◌<◌, ◌≤◌, ◌*◌}
 use Rattle.reply_laws.specs.Common.{IsSampleFile, Width, best_phase, made_samples, plan_named}
@@ -70,22 +70,22 @@ LouderPilotsMakeCleanLinks = (width : Width) (script : List ℕ) (plan : CellPla
     FollowsSent plan traffic → All IsNotDirected (signaling_sent plan traffic) →
     IsCleanLink width script plan span 1 paging traffic (header_of width plan) (made_samples plan)
 
--- ---- what each command owes of the file that `make` writes of it
+-- ---- what each command must write for the file that `make` writes of it
 
--- Each reply that a job of this span owes of that file has a property.
+-- Each reply that that file requires of a job of this span has a property.
 abbrev pub HoldsOfMadeReplies : (ℕ → Job) → (CellPlan → ℕ → List ℕ → Reply → Type 0) → Type 0
 HoldsOfMadeReplies job Is = (forms script : List ℕ) (width : Width) (plan : CellPlan) (span : ℕ)
     (reply : Reply) → HasLouderPilot width script plan span →
     IsReply forms (job span) (made_file width plan) reply → Is plan span forms reply
 
--- `find` owes the line of the pilot at the cell's phase.
+-- `find` must write the line of the pilot at the cell's phase.
 abbrev pub FindsLouderPilots : Type 0
 FindsLouderPilots = (workers : ℕ) → HoldsOfMadeReplies (λ span. jobs.Find span workers)
     (λ plan span forms reply.
     reply ≡ Ok (event_line (Pilot (phase_at plan plan.link.start) (cell_energy span plan)), Done))
 
--- `follow` owes the text of all that the cell sends, if it follows no traffic channel, or one of
--- the cell's whose frames are all distinct and on which no message directs a handoff.
+-- `follow` must write the text of all that the cell sends, if it follows no traffic channel, or one
+-- of the cell's whose frames are all distinct and on which no message directs a handoff.
 abbrev pub LouderFollowRepliesComeBack : Type 0
 LouderFollowRepliesComeBack = (workers paging : ℕ) (traffic : Option Traffic) (limits : List ℕ) →
     IsPaging paging →
@@ -97,7 +97,7 @@ LouderFollowRepliesComeBack = (workers paging : ℕ) (traffic : Option Traffic) 
       clean_end plan,
     ))
 
--- A job owes the lines of the frames that a traffic channel of the cell sends.
+-- A job must write the lines of the frames that a traffic channel of the cell sends.
 abbrev pub LouderRepliesComeBack : (ℕ → ℕ → Traffic → Job) → (TrafficPlan → Type 0) →
     (CellPlan → TrafficPlan → ℕ → List ℕ → Type 0) → Type 0
 LouderRepliesComeBack job Sends Is = (workers : ℕ) (traffic : Traffic) →
@@ -115,7 +115,7 @@ abbrev pub LouderListRepliesComeBack : Type 0
 LouderListRepliesComeBack = (k : ℕ) → 1 ≤ k → LouderRepliesComeBack
     (λ span workers traffic. list_job k span workers 1 traffic) SendsSetOne IsLineOfSetOne
 
--- `idle` owes the lines of the slots of a paging channel of the cell.
+-- `idle` must write the lines of the slots of a paging channel of the cell.
 abbrev pub LouderIdleRepliesComeBack : Type 0
 LouderIdleRepliesComeBack = (workers key cycle : ℕ) (p : PagingPlan) →
     HoldsOfMadeReplies (λ span. jobs.Idle span workers 1 p.number key cycle)

@@ -1,5 +1,5 @@
--- Laws of replies: each input is owed one, the number of workers changes none, what each command
--- owes of a good input, and that it doesn't depend on what a handset sleeps through.
+-- Laws of replies: each input has one, the number of workers changes none, what each command
+-- must write for a good input, and that it doesn't depend on what a handset sleeps through.
 use Rattle.std.specs.Prelude.{◌≡◌, ℕ, ◌<◌, ◌≤◌, List, length, take, All, Option, Ok, is_some, []}
 use Rattle.std.specs.Prelude.{◌↔◌, Some}
 use Rattle.reply_laws.specs.Common.{Traffic, Sample, Width, IsSampleFile, Header, best_phase, mark}
@@ -11,9 +11,9 @@ use Rattle.reply_laws.specs.Common.{trial_line, Tuning, Paging, Mark, AgreeWhere
 use Rattle.heard_events.specs.declared.channel.Channel.TheVariants as channels
 use Rattle.command_line.specs.declared.job.Job.TheVariants as jobs
 
--- for each job and each list of bytes there is a reply that is owed
-abbrev pub EachInputIsOwed : Type 0
-EachInputIsOwed =
+-- for each job and each list of bytes there is a reply that is required
+abbrev pub EachInputHasAReply : Type 0
+EachInputHasAReply =
     (forms : List ℕ) (job : Job) (bytes : List ℕ) → All (λ b. b < 256) bytes →
     (reply : Reply) × IsReply forms job bytes reply
 
@@ -37,11 +37,11 @@ WorkersChangeNoReply =
     (forms : List ℕ) (job : Job) (n : ℕ) (bytes : List ℕ) (reply : Reply) →
     IsReply forms job bytes reply → IsReply forms (with_workers n job) bytes reply
 
--- ---- what each command owes of a good input
+-- ---- what each command must write for a good input
 
 -- the pilot's line
-abbrev pub FindOwesThePilot : Type 0
-FindOwesThePilot =
+abbrev pub FindWritesThePilot : Type 0
+FindWritesThePilot =
     (forms : List ℕ) (span workers : ℕ) (bytes : List ℕ) (header : Header) (samples : List Sample) →
     IsSampleFile bytes header samples → span ≤ length samples →
     let phase = best_phase (take span samples) in
@@ -49,8 +49,8 @@ FindOwesThePilot =
     (Ok (event_line (Pilot phase (energy (take span samples) phase)), Done))
 
 -- what the taps make of all events of a handset, the pilot first
-abbrev pub FollowOwesTheEvents : Type 0
-FollowOwesTheEvents =
+abbrev pub FollowWritesTheEvents : Type 0
+FollowWritesTheEvents =
     (forms : List ℕ) (span workers fingers paging : ℕ) (traffic : Option Traffic)
     (limits bytes : List ℕ) (header : Header) (samples : List Sample) →
     IsSampleFile bytes header samples → span ≤ length samples →
@@ -62,8 +62,8 @@ FollowOwesTheEvents =
     ))
 
 -- the text of one channel's frames after the mark
-abbrev pub OwesTheFrames : Job → ℕ → ℕ → Channel → TunedText → Type 0
-OwesTheFrames job span fingers channel text =
+abbrev pub WritesTheFrames : Job → ℕ → ℕ → Channel → TunedText → Type 0
+WritesTheFrames job span fingers channel text =
     (forms bytes : List ℕ) (header : Header) (samples : List Sample) →
     IsSampleFile bytes header samples → span ≤ length samples →
     let t = tuning_for (waiting header fingers) (take span samples) in
@@ -71,27 +71,27 @@ OwesTheFrames job span fingers channel text =
     (Ok (tuned_text text t channel samples, end_when (is_some (mark t samples (length samples)))))
 
 -- for `rate2` of rate set 2, for `list` of rate set 1 by lists of codewords, for `idle` in slots
-abbrev pub Rate2OwesTheFrames : Type 0
-Rate2OwesTheFrames =
+abbrev pub Rate2WritesTheFrames : Type 0
+Rate2WritesTheFrames =
     (span workers fingers offset esn row : ℕ) →
-    OwesTheFrames (jobs.Rate2 span workers fingers offset esn row) span fingers
+    WritesTheFrames (jobs.Rate2 span workers fingers offset esn row) span fingers
     (traffic_channel_with esn row offset) RateSetTwo
 
-abbrev pub ListOwesTheFrames : Type 0
-ListOwesTheFrames =
+abbrev pub ListWritesTheFrames : Type 0
+ListWritesTheFrames =
     (span workers fingers offset esn row k : ℕ) →
-    OwesTheFrames (jobs.List span workers fingers offset esn row k) span fingers
+    WritesTheFrames (jobs.List span workers fingers offset esn row k) span fingers
     (traffic_channel_with esn row offset) (Listed k)
 
-abbrev pub IdleOwesTheSlots : Type 0
-IdleOwesTheSlots =
+abbrev pub IdleWritesTheSlots : Type 0
+IdleWritesTheSlots =
     (span workers fingers paging key cycle : ℕ) →
-    OwesTheFrames (jobs.Idle span workers fingers paging key cycle) span fingers
+    WritesTheFrames (jobs.Idle span workers fingers paging key cycle) span fingers
     (channels.Paging paging) (Slots key cycle)
 
 -- the lines of the first ranks of the pilots
-abbrev pub SurveyOwesTheRanks : Type 0
-SurveyOwesTheRanks =
+abbrev pub SurveyWritesTheRanks : Type 0
+SurveyWritesTheRanks =
     (forms : List ℕ) (span workers base width top : ℕ) (bytes : List ℕ) (header : Header)
     (samples : List Sample) →
     IsSampleFile bytes header samples → span ≤ length samples →
@@ -99,15 +99,15 @@ SurveyOwesTheRanks =
     (Ok (survey_text base width top (take span samples), Done))
 
 -- the file of the cell that a script names
-abbrev pub MakeOwesTheFile : Type 0
-MakeOwesTheFile =
+abbrev pub MakeWritesTheFile : Type 0
+MakeWritesTheFile =
     (forms : List ℕ) (width : Width) (bytes : List ℕ) (plan : CellPlan) →
     plan_named width bytes ≡ Ok plan →
     IsReply forms (jobs.Make width) bytes (Ok (made_file width plan, Done))
 
 -- its line, whatever the input
-abbrev pub TrialOwesItsLine : Type 0
-TrialOwesItsLine =
+abbrev pub TrialWritesItsLine : Type 0
+TrialWritesItsLine =
     (forms : List ℕ) (number workers : ℕ) (bytes : List ℕ) →
     IsReply forms (jobs.Trial number workers) bytes (Ok (trial_line number, Done))
 
@@ -123,7 +123,7 @@ pub record AgreeWhileAwake (key cycle : ℕ) (t : Tuning) (number : ℕ) (one ot
   pub slots : AgreeWhereHeard key cycle t number told one other (length one)
 
 -- Where the slots of a paging channel are wanted of two sample files of one header that agree so,
--- each reply that the one is owed the other is owed.
+-- each reply that the one requires the other requires.
 abbrev pub SleepChangesNoReply : Type 0
 SleepChangesNoReply =
     (forms : List ℕ) (span workers fingers number key cycle : ℕ) (header : Header)

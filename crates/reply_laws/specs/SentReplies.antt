@@ -1,5 +1,5 @@
--- What `rate2`, `list` and `idle` owe of a file that holds what a script's cell sends: frame by frame
--- what the traffic channel sends, and slot by slot what the paging channel sends.
+-- What `rate2`, `list` and `idle` must write for a file that holds what a script's cell sends:
+-- frame by frame what the traffic channel sends, and slot by slot what the paging channel sends.
 use Rattle.std.specs.List.{Contains}
 use Rattle.std.specs.Prelude.{◌≡◌, ◌≤◌, ℕ, List, length, Err, Ok}
 use Rattle.reply_laws.specs.Common.{Sample, Width, IsSampleFile, Header, CellPlan, TrafficPlan, Job}
@@ -28,7 +28,7 @@ pub record IsHeardFrom (script bytes : List ℕ) (width : Width) (plan : CellPla
   pub sent : Contains plan.traffic p
   pub assigned : IsAssigned p traffic
 
--- Of such a file a job owes just the lines of the channel's frames.
+-- For such a file a job must write just the lines of the channel's frames.
 abbrev pub RepliesComeBack : (ℕ → ℕ → ℕ → Traffic → Job) → (TrafficPlan → Type 0) →
     (CellPlan → TrafficPlan → ℕ → List ℕ → Type 0) → Type 0
 RepliesComeBack job Sends Is = (forms script bytes : List ℕ) (width : Width) (plan : CellPlan)
@@ -47,9 +47,9 @@ abbrev pub ListRepliesComeBack : Type 0
 ListRepliesComeBack = (k : ℕ) → 1 ≤ k → RepliesComeBack (list_job k) SendsSetOne
     IsLineOfSetOne
 
--- So each reply that `idle` is owed of a sample file with as many samples as the span is, or more,
--- which holds what a script's cell sends, where its arguments name a paging channel that the cell
--- sends, is a whole text of just these lines, with the end that the whole transmissions tell.
+-- So each reply that `idle` may write for a sample file with as many samples as the span is, or
+-- more, which holds what a script's cell sends, where its arguments name a paging channel that the
+-- cell sends, is a whole text of just these lines, with the end that the whole transmissions tell.
 abbrev pub IdleRepliesComeBack : Type 0
 IdleRepliesComeBack =
     (forms script bytes : List ℕ) (width : Width) (plan : CellPlan) (p : PagingPlan)

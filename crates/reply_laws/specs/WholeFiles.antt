@@ -87,12 +87,13 @@ pub record MeetsEachPremise : Type 0 where
   pub through : IsHeardThrough 0 Sixteen second_cell 2048
   -- Four transmissions of the sync channel are whole, and tell the time.
   pub sync : sync_sent second_cell ≡ second_messages
-  -- The one reply that `follow` owes is the text of all that the cell sends, and the run ends well.
-  pub owed : (forms limits : List ℕ) (workers : ℕ) (reply : Reply) →
+  -- The one reply that `follow` may write is the text of all that the cell sends, and the run ends
+  -- well.
+  pub required : (forms limits : List ℕ) (workers : ℕ) (reply : Reply) →
       IsReply forms (jobs.Follow 2048 workers 1 1 None limits) second_file reply ↔
       (reply ≡ Ok (second_text forms limits, Done))
-  -- So a run that returns what it owes, unless memory runs out, writes exactly that. By the clause
-  -- `exact` of `RunsCommand`, the program's run does, if no call on the outside fails.
+  -- So a run that returns what is required, unless memory runs out, writes exactly that. By the
+  -- clause `exact` of `RunsCommand`, the program's run does, if no call on the outside fails.
   pub written : (forms limits held : List ℕ) (workers : ℕ) (status : Status)
       (new : Option (List ℕ)) →
       ((reply : Reply) →
@@ -113,12 +114,12 @@ pub record MeetsEachNoisePremise : Type 0 where
   -- finger and any span from sixteen samples on.
   pub noisy : (span : ℕ) → 16 ≤ span → span ≤ 737280 →
       IsNoisyFile 89 margin_bytes Sixteen cell span 1 (header_of Sixteen cell) file
-  -- `follow` owes exactly the text of the pilot, with the energy that the file has at the cell's
-  -- phase, of the two whole transmissions, and of the pages of the four half-frames after the mark.
-  -- The run ends well.
+  -- `follow` must write exactly the text of the pilot, with the energy that the file has at the
+  -- cell's phase, of the two whole transmissions, and of the pages of the four half-frames after
+  -- the mark. The run ends well.
   pub sync : sync_sent cell ≡ sync_event 294848 0 ∷ sync_event 589760 1 ∷ []
   pub pages : paging_sent cell 1 ≡ replicate 4 last_page
-  pub owed : (forms limits : List ℕ) (workers span : ℕ) (reply : Reply) → 16 ≤ span →
+  pub required : (forms limits : List ℕ) (workers span : ℕ) (reply : Reply) → 16 ≤ span →
       span ≤ 737280 →
       IsReply forms (jobs.Follow span workers 1 1 None limits) margin_bytes reply →
       let own = energy (take span file) (phase_at cell 0) in
@@ -138,8 +139,9 @@ pub record ComesBackThroughAnyNoise : Type 0 where
   pub margin : IsMargin loud_cell (60 ∷ 30 ∷ []) 89
   pub through : IsHeardThrough 89 Sixteen loud_cell 2048
   pub back : ComesBackThrough 89 loud_cell 2048
-  -- `follow` owes exactly the text of the pilot, with the energy that the file has at the cell's
-  -- phase, of the four whole transmissions, and of all whole pages of channel 1. The run ends well.
+  -- `follow` must write exactly the text of the pilot, with the energy that the file has at the
+  -- cell's phase, of the four whole transmissions, and of all whole pages of channel 1. The run
+  -- ends well.
   pub sync : sync_sent loud_cell ≡ second_messages
   pub whole : (workers : ℕ) (limits : List ℕ) →
       HoldsOfNearReplies 89 loud_cell (jobs.Follow 2048 workers 1 1 None limits)

@@ -1,5 +1,5 @@
 use Rattle.cdma_replay.proofs.Common.{[], inl, inr, refl, arith, Appends-nil, IfSome_then, ended_by}
-use Rattle.owed_replies.proofs.Ends.{made_part, made_whole}
+use Rattle.run_replies.proofs.Ends.{made_part, made_whole}
 use Rattle.cdma_replay.proofs.MadeFiles.{writes_part, writes_whole}
 use Rattle.cdma_replay.proofs.making.make_file.Goals as goal
 

@@ -1,8 +1,9 @@
 use Rattle.cdma_replay.proofs.Common.{◌≡◌, ◌≤◌, ◌+◌, ℕ, List, [], IfSome, inr, length, ap, refl, ◌∙◌, subst, rules, arith, Sample, IsCut}
-use Rattle.cdma_replay.proofs.Common.{FileFault, IsLong, IsEnd, IsFaultIn, IsOfFiles, Listening, Listens, end_when, listening, span_of, file_status}
+use Rattle.cdma_replay.proofs.Common.{FileFault, IsLong, IsEnd, IsFaultIn, IsOfFiles, Listening, Listens, end_when, listening, span_of}
+use Rattle.cdma_replay.proofs.Common.{file_status}
 use Rattle.cdma_replay.proofs.Common.{Status, fault_of_rest, ended_by, stopped_file, unread_file, none_most, rest_most, rose_before}
 use Rattle.cdma_replay.proofs.Broken.{writes_all, writes_first}
-use Rattle.owed_replies.proofs.Ends.{begins_file, by_end, ends_well, lost_file, starved_file}
+use Rattle.run_replies.proofs.Ends.{begins_file, by_end, ends_well, lost_file, starved_file}
 use Rattle.cdma_replay.proofs.Lines.{HasBegun, has_begun, writes_first_part, writes_first_text, writes_rest_part, writes_text}
 use Rattle.cdma_replay.proofs.receiving.receive_file.Given.{Over}
 use Rattle.cdma_replay.proofs.receiving.receive_file.Goals.{In-Ok}

@@ -1,6 +1,6 @@
 use Rattle.cdma_replay.proofs.Common.{refl, rules}
 use Rattle.cdma_replay.proofs.Refused.{refused_run, starved_run}
-use Rattle.owed_replies.proofs.Commands.{command_run}
+use Rattle.run_replies.proofs.Commands.{command_run}
 use Rattle.cdma_replay.proofs.replaying.replay.Goals as goal
 
 pub returns-in-Ok : goal.returns-in-Ok

@@ -1,4 +1,4 @@
-use Rattle.reply_laws.proofs.Owed.{workers_change_nothing}
+use Rattle.reply_laws.proofs.Required.{workers_change_nothing}
 use Rattle.reply_laws.proofs.laws.workers_change_no_reply.Goals as goal
 
 pub returns : goal.returns

@@ -1,5 +1,0 @@
-use Rattle.reply_laws.proofs.Common.{one_reply}
-use Rattle.reply_laws.proofs.laws.inputs_are_owed_one_reply.Goals as goal
-
-pub returns : goal.returns
-returns c = one_reply

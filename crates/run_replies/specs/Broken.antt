@@ -1,0 +1,84 @@
+-- The text for a sample file that breaks off, whose reading fails, or that continues after its
+-- samples.
+use Rattle.run_replies.specs.Common.{Sample, Header, Width, HasBits, IsLawfulHeader, opening}
+use Rattle.run_replies.specs.Common.{header_spelling, sample_len, sample_spelling, width_of}
+use Rattle.run_replies.specs.Common.{KeptTap, Job, Status}
+use Rattle.std.specs.Prelude.{◌≡◌, ℕ, ◌+◌, ◌*◌, ◌<◌, ◌≤◌, ◌++◌, List, length, All, Option, IfSome}
+use Rattle.std.specs.Prelude.{Some, Ok}
+use Rattle.std.specs.List.{flat_map}
+use Rattle.std.specs.Io.{StartsWith}
+use Rattle.std.specs.Io.KnownBytes.{Appends, Consumes}
+use Rattle.cdma_io.specs.declared.file_fault.FileFault.TheVariants.{Short, Extra}
+use Rattle.run_replies.specs.Hearing.{Listening, GainsText, file_text, span_of}
+use Rattle.run_replies.specs.declared.status.Status.TheVariants.{BadFile, ReadFault}
+
+-- the file ended before its samples, or a read failed
+abbrev pub IsCut : Status → Type 0
+IsCut (BadFile (Short place)) = Unit {0}
+IsCut ReadFault = Unit {0}
+IsCut _ = ⊥
+
+-- the file went on after its samples
+abbrev pub IsLong : Status → Type 0
+IsLong (BadFile (Extra place)) = Unit {0}
+IsLong _ = ⊥
+
+-- The file of these bytes begins with samples, each within its width, of which there are such a
+-- number, the span's or more and no more than its lawful header counts; and just their text was
+-- written.
+pub record HasWritten (taps : List KeptTap) (job : Job) (header : Header) (bytes : List ℕ)
+    (counted : ℕ → Type 0) (old new : Option (List ℕ)) : Type 0 where
+  pub samples : List Sample
+  pub lawful : IsLawfulHeader header
+  pub enough : span_of job ≤ length samples
+  pub most : length samples ≤ header.count
+  pub number : counted (length samples)
+  pub in_range : All (HasBits (width_of header)) samples
+  pub first : StartsWith bytes
+      (header_spelling header ++ flat_map (sample_spelling (width_of header)) samples)
+  pub written : Appends old new (file_text taps job header samples)
+
+-- Known bytes lost fewer at their front than a header and so many whole samples or more.
+abbrev pub TakesFew : ℕ → Option (List ℕ) → Option (List ℕ) → Type 0
+TakesFew count rest left =
+    IfSome rest
+    (λ bytes. (header : Header) (taken : List ℕ) (n : ℕ) → opening bytes ≡ Ok header →
+    Consumes (Some bytes) left taken → count ≤ n → 0 < n →
+    length taken < 16 + sample_len (width_of header) * n)
+
+-- known bytes open no sample file
+abbrev pub IsUnopened : Option (List ℕ) → Type 0
+IsUnopened rest = IfSome rest (λ bytes. (header : Header) → ¬ (opening bytes ≡ Ok header))
+
+-- Where so many whole samples of known bytes were taken, the span's or more, the text of the first
+-- of them was written, and of these at most 4,096 are missing, which are read at once; all whose
+-- text was written were taken.
+abbrev pub WritesFirst : List KeptTap → Job → Option (List ℕ) → Option (List ℕ) →
+    Option (List ℕ) → Option (List ℕ) → Type 0
+WritesFirst taps job rest left old new =
+    IfSome rest
+    (λ bytes. (header : Header) (taken : List ℕ) (n : ℕ) → opening bytes ≡ Ok header →
+    Consumes (Some bytes) left taken →
+    16 + sample_len (width_of header) * n ≤ length taken → span_of job ≤ n → 0 < n →
+    HasWritten taps job header bytes
+    (λ k. (n ≤ k + 4096) × (16 + sample_len (width_of header) * k ≤ length taken)) old new)
+
+-- the text of all samples that the header counts was written
+abbrev pub WritesAll : List KeptTap → Job → Option (List ℕ) → Option (List ℕ) →
+    Option (List ℕ) → Type 0
+WritesAll taps job rest old new =
+    IfSome rest
+    (λ bytes. (header : Header) → opening bytes ≡ Ok header →
+    HasWritten taps job header bytes (λ k. k ≡ header.count) old new)
+
+-- A source lost the spellings of samples, such a number of them, each within its width, and at most
+-- so many bytes after them; and a sink got what is told of these samples.
+pub record HearsFirst (l : Listening) (width : Width) (counted : ℕ → Type 0) (most : ℕ)
+    (heard : List Sample) (rest left old new : Option (List ℕ)) : Type 0 where
+  pub samples : List Sample
+  pub more : List ℕ
+  pub number : counted (length samples)
+  pub in_range : All (HasBits width) samples
+  pub few : length more ≤ most
+  pub consumed : Consumes rest left (flat_map (sample_spelling width) samples ++ more)
+  pub tells : GainsText l heard (heard ++ samples) old new

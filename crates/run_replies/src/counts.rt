@@ -1,0 +1,68 @@
+//! How many events a trial's handset reported.
+
+ghost use Rattle.std.specs.Prelude.{◌≡◌, ◌^◌, []};
+ghost use Rattle.run_replies.specs.Trials.{LeavesRoom, counts_of, counts_with, summary};
+
+use event_tap::Text;
+use heard_events::Event;
+
+/// How many events of each kind a handset reported.
+#[derive(Clone, Copy)]
+pub struct Counts {
+    /// Messages of the sync channel.
+    pub syncs: u64,
+    /// Messages of the paging channel.
+    pub pagings: u64,
+    /// Frames of the traffic channel.
+    pub frames: u64,
+    /// Those of them that are good.
+    pub good: u64,
+}
+
+impl Counts {
+    /// None yet.
+    #[tactic(auto, unfolding(crate::specs::Trials::counts_of))]
+    pub fn none() -> Counts
+        ensures value { result ≡ counts_of [] }
+        ensures room { LeavesRoom result (2 ^ 63) }
+    {
+        Counts {
+            syncs: 0,
+            pagings: 0,
+            frames: 0,
+            good: 0,
+        }
+    }
+
+    /// One event more.
+    pub fn add(&mut self, event: &Event)
+        requires { LeavesRoom self.old 1 }
+        ensures { self.new ≡ counts_with self.old event.now }
+    {
+        match event {
+            Event::Sync { .. } => self.syncs += 1,
+            Event::Paging { .. } => self.pagings += 1,
+            Event::Frame { good, .. } => {
+                self.frames += 1;
+                self.good += u64::from(*good);
+            }
+            _ => {}
+        }
+    }
+    /// Returns the line of a trial that counted these events in a link of `samples` samples.
+    #[tactic(auto, unfolding(crate::specs::Trials::summary))]
+    pub fn summary(&self, number: u64, samples: u64, phase: u16) -> Text
+        ensures { result ≡ summary number samples phase self.now }
+    {
+        let mut line = Text::empty();
+        line.append_named("trial number=", number);
+        line.append_named(" samples=", samples);
+        line.append_named(" phase=", phase);
+        line.append_named(" syncs=", self.syncs);
+        line.append_named(" pagings=", self.pagings);
+        line.append_named(" frames=", self.frames);
+        line.append_named(" good=", self.good);
+        line.append_str("\n");
+        line
+    }
+}
