@@ -134,7 +134,7 @@ RECIPES: Mapping[str, Recipe] = {
     "a command": Recipe(
         "the command `survey`",
         (
-            *(Variant(enum, "Survey") for enum in ("Command", "Job", "Purpose")),
+            *(Variant(enum, "Survey") for enum in ("Command", "Job")),
             *words("SURVEY_OPTIONS", "survey_entry", "survey_text"),
         ),
     ),

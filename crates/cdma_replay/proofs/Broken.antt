@@ -10,8 +10,7 @@ use Rattle.cdma_replay.proofs.Lines.{HasBegun, writes_whole}
 -- the first samples were read and told of, and those after them so far as they were heard
 pub has_written : {taps : List KeptTap} {job : Job} {header : Header} {samples : List Sample}
     {one other : Listener} {kept following : List KeptTap} {counted : ℕ → Type 0} {most : ℕ}
-    (bytes more : List ℕ) (left : Option (List ℕ)) {old between later new : Option (List ℕ)}
-    (number : ℕ → Type 0) →
+    (bytes more : List ℕ) (left : Option (List ℕ)) {old between later new : Option (List ℕ)} (number : ℕ → Type 0) →
     HasBegun taps job header samples one kept (Some bytes) (Some more) old between →
     ((l : Listening) (heard : List Sample) → Listens l one kept heard →
     ListenerTells l other following heard (heard ++ samples) between later) →
@@ -19,8 +18,7 @@ pub has_written : {taps : List KeptTap} {job : Job} {header : Header} {samples :
     samples (Some more) left later new) →
     number (length (samples ++ heard.samples)) → length (samples ++ heard.samples) ≤ header.count →
     HasWritten taps job header bytes number old new
-has_written {taps} {job} {header} {samples} bytes more None number begun tells heard fits most =
-    absurd heard.consumed
+has_written {taps} {job} {header} {samples} bytes more None number begun tells heard fits most = absurd heard.consumed
 has_written {taps} {job} {header} {samples} bytes more (Some after) number begun tells heard fits most =
     let first = tells (listening taps job header samples) [] begun.listens in
     let front = header_spelling header in
@@ -68,8 +66,7 @@ writes_first {taps} {job} {header} {samples} (Some bytes) (Some more) None old n
     absurd (hears l samples (tells l [] begun.listens).listens).consumed
 writes_first {taps} {job} {header} {samples} {count} (Some bytes) (Some more) (Some after) old {between}
     {later} new lawful counts begun tells hears =
-    λ (also : Header) (taken : List ℕ) (n : ℕ) (opened : opening bytes ≡ Ok also)
-    (consumed : bytes ≡ taken ++ after)
+    λ (also : Header) (taken : List ℕ) (n : ℕ) (opened : opening bytes ≡ Ok also) (consumed : bytes ≡ taken ++ after)
     (long : 16 + sample_len (width_of also) * n ≤ length taken) (enough : span_of job ≤ n) (some : 0 < n).
     let l = listening taps job header samples in
     let heard = hears l samples (tells l [] begun.listens).listens in
@@ -98,19 +95,14 @@ writes_first {taps} {job} {header} {samples} {count} (Some bytes) (Some more) (S
     sample_len width * (length samples + length others) =
     ap (λ (k : ℕ). sample_len width * k) (length-append samples others) in
     let bytes_of : sample_len width * n ≤
-    sample_len width * (length samples + length others + 4096) =
-    omega (arith, long, taken_is, heard.few) in
+    sample_len width * (length samples + length others + 4096) = omega (arith, long, taken_is, heard.few) in
     subst
     (λ (h : Header). HasWritten taps job h bytes
     (λ k. (n ≤ k + 4096) × (16 + sample_len (width_of h) * k ≤ length taken)) old new)
     same
     (has_written bytes more (Some after)
     (λ (k : ℕ). (n ≤ k + 4096) × (16 + sample_len width * k ≤ length taken)) begun tells heard (
-      omega (
-        arith,
-        length-append samples others,
-        no_fewer width n (length samples + length others + 4096) bytes_of,
-      ),
+      omega (arith, length-append samples others, no_fewer width n (length samples + length others + 4096) bytes_of),
       omega (arith, both, taken_is),
     )
     (omega (arith, length-append samples others, begun.counted, fewer, counts)))
@@ -137,5 +129,4 @@ writes_all {taps} {job} {header} {samples} (Some bytes) (Some more) left old {be
     let all : length (samples ++ heard.samples) ≡ header.count =
     omega (arith, length-append samples heard.samples, heard.number, begun.counted, counted) in
     subst (λ (h : Header). HasWritten taps job h bytes (λ k. k ≡ h.count) old new) same
-    (has_written bytes more left (λ (k : ℕ). k ≡ header.count) begun tells heard all
-    (omega (arith, all)))
+    (has_written bytes more left (λ (k : ℕ). k ≡ header.count) begun tells heard all (omega (arith, all)))

@@ -36,8 +36,7 @@ one_most true = omega arith
 one_most false = omega arith
 
 -- there is room for one more where there was for more than that
-pub room_for_one : (counts : Counts) (left : ℕ) → LeavesRoom counts left → 1 ≤ left →
-    LeavesRoom counts 1
+pub room_for_one : (counts : Counts) (left : ℕ) → LeavesRoom counts left → 1 ≤ left → LeavesRoom counts 1
 room_for_one counts left room some = record {
   syncs = omega (arith, room.syncs, some);
   pagings = omega (arith, room.pagings, some);
@@ -54,8 +53,7 @@ room_after_event counts event left before room fewer = record {
   good = omega (arith, room.good, fewer, one_most (is_good event));
 }
 
-pub room_left : (counts : Counts) (left before : ℕ) → LeavesRoom counts before → left ≤ before →
-    LeavesRoom counts left
+pub room_left : (counts : Counts) (left before : ℕ) → LeavesRoom counts before → left ≤ before → LeavesRoom counts left
 room_left counts left before room fewer = record {
   syncs = omega (arith, room.syncs, fewer);
   pagings = omega (arith, room.pagings, fewer);
@@ -83,22 +81,18 @@ counted_next t one other counts next plan same given later n is told more was =
 
 -- it stands for some events, and the counts are theirs
 abbrev pub IsCounted : Tuning → Mobile → Counts → List Sample → Type 0
-IsCounted t mobile counts heard =
-    (given : List Event) × StandsFor t mobile heard given × (counts ≡ counts_of given)
+IsCounted t mobile counts heard = (given : List Event) × StandsFor t mobile heard given × (counts ≡ counts_of given)
 
 -- one event more
 pub counted_more : (t : Tuning) (one other : Mobile) (counts next : Counts)
-    (heard samples : List Sample) (taken n : ℕ) (event : Event) →
-    IsCounted t one counts (heard ++ take taken samples) →
+    (heard samples : List Sample) (taken n : ℕ) (event : Event) → IsCounted t one counts (heard ++ take taken samples) →
     ((before : List Event) → StandsFor t one (heard ++ take taken samples) before →
     StandsFor t other ((heard ++ take taken samples) ++ take n (drop taken samples))
     (before ++ event ∷ [])) →
-    next ≡ counts_with counts event →
-    IsCounted t other next (heard ++ take (taken + n) samples)
+    next ≡ counts_with counts event → IsCounted t other next (heard ++ take (taken + n) samples)
 counted_more t one other counts next heard samples taken n event so_far stepped next_is = (
   so_far.0 ++ event ∷ [],
-  subst (λ (xs : List Sample). StandsFor t other xs (so_far.0 ++ event ∷ []))
-      (taken_more heard samples taken n)
+  subst (λ (xs : List Sample). StandsFor t other xs (so_far.0 ++ event ∷ [])) (taken_more heard samples taken n)
       (stepped so_far.0 so_far.1),
   next_is
       ∙ ap (λ (c : Counts). counts_with c event) so_far.2
@@ -107,8 +101,7 @@ counted_more t one other counts next heard samples taken n event so_far stepped 
 
 -- no event is left
 pub counted_all : (t : Tuning) (one other : Mobile) (counts : Counts) (heard samples : List Sample)
-    (taken n : ℕ) → IsCounted t one counts (heard ++ take taken samples) →
-    n ≡ length (drop taken samples) →
+    (taken n : ℕ) → IsCounted t one counts (heard ++ take taken samples) → n ≡ length (drop taken samples) →
     ((before : List Event) → StandsFor t one (heard ++ take taken samples) before →
     StandsFor t other ((heard ++ take taken samples) ++ take n (drop taken samples))
     (before ++ [])) →
@@ -129,8 +122,7 @@ samples_back (s ∷ samples) = ap (λ (ss : List Sample). s ∷ ss) (samples_bac
 
 -- the next so many samples, as they are given
 pub next_made : (plan : CellPlan) (given n : ℕ) (out : List Sample) →
-    map of_sample out ≡ take n (drop given (samples_of plan)) →
-    out ≡ take n (drop given (made_samples plan))
+    map of_sample out ≡ take n (drop given (samples_of plan)) → out ≡ take n (drop given (made_samples plan))
 unfolding made_samples
 next_made plan given n out is =
     sym (samples_back out)
@@ -139,8 +131,7 @@ next_made plan given n out is =
     ∙ ap (take n) (sym (drop-map sample_with given (samples_of plan)))
 
 -- after those before
-pub made_more : (plan : CellPlan) (given n : ℕ) (out : List Sample) →
-    out ≡ take n (drop given (made_samples plan)) →
+pub made_more : (plan : CellPlan) (given n : ℕ) (out : List Sample) → out ≡ take n (drop given (made_samples plan)) →
     take given (made_samples plan) ++ out ≡ take (given + n) (made_samples plan)
 made_more plan given n out is =
     ap (λ (ss : List Sample). take given (made_samples plan) ++ ss) is
@@ -149,8 +140,7 @@ made_more plan given n out is =
 -- all of them
 pub made_all : (plan : CellPlan) (given : ℕ) → plan.link.samples ≤ given →
     take given (made_samples plan) ≡ made_samples plan
-made_all plan given all =
-    take_all given (made_samples plan) (omega (arith, length-made plan, all))
+made_all plan given all = take_all given (made_samples plan) (omega (arith, length-made plan, all))
 
 -- ---- the line
 
@@ -172,10 +162,8 @@ span_fits cell number n is long = rw (is, long) (omega (arith, trial_counted num
 
 -- its first samples
 pub span_is : (cell : CellState) (number n : ℕ) (out : List Sample) → cell ≡ fresh_cell number →
-    n ≡ 2048 → map of_sample out ≡ take n (drop cell.given (samples_of cell.plan)) →
-    out ≡ trial_span number
-span_is cell number n out is long from =
-    next_made (trial_plan number) 0 2048 out (rw (is, long) at from)
+    n ≡ 2048 → map of_sample out ≡ take n (drop cell.given (samples_of cell.plan)) → out ≡ trial_span number
+span_is cell number n out is long from = next_made (trial_plan number) 0 2048 out (rw (is, long) at from)
 
 -- after them
 pub after_span : (cell now : CellState) (number n : ℕ) → cell ≡ fresh_cell number → n ≡ 2048 →
@@ -184,10 +172,8 @@ pub after_span : (cell now : CellState) (number n : ℕ) → cell ≡ fresh_cell
 after_span cell now number n is long later = rw (later, is, long) (refl, refl)
 
 pub line_is : (number : ℕ) (line : List ℕ) (samples phase : ℕ) (counts : Counts) →
-    line ≡ summary number samples phase counts →
-    samples ≡ (trial_plan number).link.samples →
-    phase ≡ best_phase (trial_span number) →
-    counts ≡ counts_of (events (trial_tuning number) (trial_samples number)) →
+    line ≡ summary number samples phase counts → samples ≡ (trial_plan number).link.samples →
+    phase ≡ best_phase (trial_span number) → counts ≡ counts_of (events (trial_tuning number) (trial_samples number)) →
     line ≡ trial_line number
 unfolding trial_line
 line_is number line samples phase counts is samples_is phase_is counts_is =

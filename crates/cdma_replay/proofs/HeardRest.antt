@@ -15,8 +15,7 @@ pub record Hears (width : Width) (count : ℕ) (one other : Listener)
   pub tells : (l : Listening) (heard : List Sample) → Listens l one kept heard →
       ListenerTells l other following heard (heard ++ passed.samples) old new
 
-pub hears_nothing : {width : Width} {listener : Listener} {kept : List KeptTap}
-    {rest old : Option (List ℕ)} (n : ℕ) →
+pub hears_nothing : {width : Width} {listener : Listener} {kept : List KeptTap} {rest old : Option (List ℕ)} (n : ℕ) →
     Hears width (n - n) listener listener kept kept rest rest old old
 hears_nothing {width} {listener} {kept} {rest} {old} n = record {
   passed = record {
@@ -30,8 +29,7 @@ hears_nothing {width} {listener} {kept} {rest} {old} n = record {
 }
 
 -- spellings after others
-consumes_more : (width same : Width) (rest mid left : Option (List ℕ))
-    (samples more : List Sample) → same ≡ width →
+consumes_more : (width same : Width) (rest mid left : Option (List ℕ)) (samples more : List Sample) → same ≡ width →
     Consumes rest mid (flat_map (sample_spelling width) samples) →
     Consumes mid left (flat_map (sample_spelling same) more) →
     Consumes rest left (flat_map (sample_spelling width) (samples ++ more))
@@ -43,8 +41,7 @@ consumes_more width same rest mid left samples more is consumed next =
 -- the next samples, of those that are left now
 pub hears_more : {width same : Width} {first one other : Listener}
     {begun kept following : List KeptTap} {rest mid left old between new : Option (List ℕ)}
-    (all now n later : ℕ) (out : List Sample) →
-    same ≡ width → later ≡ now - n →
+    (all now n later : ℕ) (out : List Sample) → same ≡ width → later ≡ now - n →
     Hears width (all - now) first one begun kept rest mid old between → now ≤ all → n ≤ now →
     n ≤ length out → All (HasBits same) (take n out) →
     Consumes mid left (flat_map (sample_spelling same) (take n out)) →
@@ -102,10 +99,8 @@ hears_all {width} {one} {other} {kept} {following} {rest} {mid} {left} all now h
 -- what was told so far is a part of it, whatever few bytes were taken after it
 pub hears_part : {width : Width} {count limit : ℕ} {one other : Listener}
     {kept following : List KeptTap} {rest mid left old new : Option (List ℕ)} (most : ℕ) →
-    Hears width count one other kept following rest mid old new → count ≤ most →
-    ConsumesAtMost limit mid left →
-    (l : Listening) (heard : List Sample) → Listens l one kept heard →
-    LosesSamples l width most heard rest left old new
+    Hears width count one other kept following rest mid old new → count ≤ most → ConsumesAtMost limit mid left →
+    (l : Listening) (heard : List Sample) → Listens l one kept heard → LosesSamples l width most heard rest left old new
 hears_part {width} {count} {limit} {one} {other} {kept} {following} {rest} {mid} {left} most h few part l
     heard is = record {
       samples = h.passed.samples;
@@ -126,8 +121,7 @@ pub hears_stopped : {width same : Width} {count : ℕ} {one other : Listener}
     All (HasBits same) more → Consumes mid left (flat_map (sample_spelling same) more) →
     ((l : Listening) (heard : List Sample) → Listens l other following heard →
     GainsPrefix l heard (heard ++ more) between new) →
-    (l : Listening) (heard : List Sample) → Listens l one kept heard →
-    LosesSamples l width most heard rest left old new
+    (l : Listening) (heard : List Sample) → Listens l one kept heard → LosesSamples l width most heard rest left old new
 hears_stopped {width} {same} {count} {one} {other} {kept} {following} {rest} {mid} {old} {between}
     {new} left more most same_is h fits range consumed part l heard is =
     let samples = h.passed.samples in
@@ -139,21 +133,17 @@ hears_stopped {width} {same} {count} {one} {other} {kept} {following} {rest} {mi
       in_range =
           All-append (HasBits width) samples more h.passed.in_range
           (subst (λ (w : Width). All (HasBits w) more) same_is range);
-      consumed = subst (Consumes rest left)
-          (sym (append-nil (flat_map (sample_spelling width) (samples ++ more))))
+      consumed = subst (Consumes rest left) (sym (append-nil (flat_map (sample_spelling width) (samples ++ more))))
           (consumes_more width same rest mid left samples more same_is h.passed.consumed consumed);
-      tells = subst (λ (xs : List Sample). GainsPrefix l heard xs old new)
-          (append_assoc heard samples more)
+      tells = subst (λ (xs : List Sample). GainsPrefix l heard xs old new) (append_assoc heard samples more)
           (part_after first.more (part l (heard ++ samples) first.listens));
     }
 
 -- a read failed, or what it read wasn't wanted: what was told is of the samples before
 pub hears_first : {width : Width} {count limit : ℕ} {one other : Listener}
-    {kept following : List KeptTap} {rest mid left old new : Option (List ℕ)}
-    (counted : ℕ → Type 0) (most : ℕ) →
+    {kept following : List KeptTap} {rest mid left old new : Option (List ℕ)} (counted : ℕ → Type 0) (most : ℕ) →
     Hears width count one other kept following rest mid old new → counted count →
-    ConsumesAtMost limit mid left → limit ≤ most →
-    (l : Listening) (heard : List Sample) → Listens l one kept heard →
+    ConsumesAtMost limit mid left → limit ≤ most → (l : Listening) (heard : List Sample) → Listens l one kept heard →
     HearsFirst l width counted most heard rest left old new
 hears_first {width} {count} {limit} {one} {other} {kept} {following} {rest} {mid} {left} counted most h
     number part few l heard is = record {

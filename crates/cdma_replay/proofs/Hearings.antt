@@ -36,8 +36,7 @@ places_parted a (suc b) =
 
 pub told_none : (t : Tuning) (taps : List KeptTap) (mobile : Mobile) (kept : List KeptTap)
     (given : List Event) (heard : List Sample) (old : Option (List ℕ)) →
-    StandsFor t mobile heard given → kept ≡ run_taps taps given →
-    HasTold t taps mobile kept given heard old old
+    StandsFor t mobile heard given → kept ≡ run_taps taps given → HasTold t taps mobile kept given heard old old
 told_none t taps mobile kept given heard old stands following = record {
   more = [];
   written = subst (Appends old old) (sym (run_text-none (run_taps taps given))) (Appends-nil old);
@@ -107,8 +106,7 @@ pub all_given : (t : Tuning) (other : Mobile) (heard samples : List Sample) (tak
     (es : List Event) → n ≡ length (drop taken samples) →
     StandsFor t other ((heard ++ take taken samples) ++ take n (drop taken samples)) (es ++ []) →
     es ≡ events t ((heard ++ take taken samples) ++ drop taken samples) →
-    StandsFor t other (heard ++ samples) (events t (heard ++ samples))
-    × (es ≡ events t (heard ++ samples))
+    StandsFor t other (heard ++ samples) (events t (heard ++ samples)) × (es ≡ events t (heard ++ samples))
 all_given t other heard samples taken n es all stands is =
     let joined : (heard ++ take taken samples) ++ drop taken samples ≡ heard ++ samples =
     append_assoc heard (take taken samples) (drop taken samples) ∙
@@ -124,15 +122,13 @@ all_given t other heard samples taken n es all stands is =
 
 pub told_all : (t : Tuning) (taps : List KeptTap) (one other : Mobile) (kept : List KeptTap)
     (heard samples : List Sample) (taken n : ℕ) (old new : Option (List ℕ)) →
-    HasTold t taps one kept (events t heard) (heard ++ take taken samples) old new →
-    n ≡ length (drop taken samples) →
+    HasTold t taps one kept (events t heard) (heard ++ take taken samples) old new → n ≡ length (drop taken samples) →
     ((before : List Event) → StandsFor t one (heard ++ take taken samples) before →
     StandsFor t other ((heard ++ take taken samples) ++ take n (drop taken samples))
     (before ++ [])) →
     ((before : List Event) → StandsFor t one (heard ++ take taken samples) before →
     before ≡ events t ((heard ++ take taken samples) ++ drop taken samples)) →
-    GainsText (ByTaps t taps) heard (heard ++ samples) old new
-    × HandsetGave t taps other kept (heard ++ samples)
+    GainsText (ByTaps t taps) heard (heard ++ samples) old new × HandsetGave t taps other kept (heard ++ samples)
 unfolding told
 told_all t taps one other kept heard samples taken n old new so_far all stepped last =
     let given = events t heard in
@@ -151,8 +147,7 @@ told_all t taps one other kept heard samples taken n old new so_far all stepped 
 
 -- What is heard in `xs` begins what is heard in `xs` and then `ys`, since the events known at no
 -- more samples than `xs` has depend on these alone, and all others come after them.
-first_events : (t : Tuning) (low : ℕ) → IsTimed t.count (sync_stream t) low →
-    AreNear (sync_stream t).fingers →
+first_events : (t : Tuning) (low : ℕ) → IsTimed t.count (sync_stream t) low → AreNear (sync_stream t).fingers →
     (xs ys : List Sample) → (more : List Event) × (events t (xs ++ ys) ≡ events t xs ++ more)
 unfolding heard_within
 first_events t low timed near xs ys =
@@ -175,8 +170,7 @@ first_events t low timed near xs ys =
 
 -- the text of events after others begins with that of the next ones, and so far as it goes of one
 -- more
-text_begins : (taps : List KeptTap) (given more : List Event) (event : Event)
-    (others : List Event) →
+text_begins : (taps : List KeptTap) (given more : List Event) (event : Event) (others : List Event) →
     run_text taps (((given ++ more) ++ event ∷ []) ++ others) ≡
     run_text taps given ++ (run_text (run_taps taps given) more ++
     (heard_text (run_taps taps (given ++ more)) event ++
@@ -201,8 +195,7 @@ pub told_part : (t : Tuning) (taps : List KeptTap) (one other : Mobile) (kept : 
     ((before : List Event) → StandsFor t one (heard ++ take taken samples) before →
     StandsFor t other ((heard ++ take taken samples) ++ take n (drop taken samples))
     (before ++ event ∷ [])) →
-    AppendsPrefix mid new (heard_text kept event) →
-    GainsPrefix (ByTaps t taps) heard (heard ++ samples) old new
+    AppendsPrefix mid new (heard_text kept event) → GainsPrefix (ByTaps t taps) heard (heard ++ samples) old new
 unfolding told
 told_part t taps one other kept heard samples taken n event old mid new so_far stepped part =
     let given = events t heard in
@@ -214,8 +207,7 @@ told_part t taps one other kept heard samples taken n event old mid new so_far s
     (taken_more heard samples taken n) (stepped (given ++ more) so_far.stands) in
     let later =
     first_events t other.sync.received.clock.low stands.sync.receives.clocked.timed
-    (subst AreNear stands.sync.receives.fingers_are other.sound.hears.channel.near) now
-    (drop (taken + n) samples) in
+    (subst AreNear stands.sync.receives.fingers_are other.sound.hears.channel.near) now (drop (taken + n) samples) in
     let joined : now ++ drop (taken + n) samples ≡ heard ++ samples =
     append_assoc heard (take (taken + n) samples) (drop (taken + n) samples) ∙
     ap (λ (xs : List Sample). heard ++ xs) (take-append-drop (taken + n) samples) in
@@ -230,24 +222,20 @@ told_part t taps one other kept heard samples taken n event old mid new so_far s
     let all = first ++ (line ++ ends) in
     let text : run_text taps (events t (heard ++ samples)) ≡ run_text taps given ++ all =
     ap (run_text taps) whole ∙ text_begins taps given more event others ∙
-    ap (λ (k : List KeptTap). run_text taps given ++ (first ++ (heard_text k event ++ ends)))
-    (sym so_far.following) in
+    ap (λ (k : List KeptTap). run_text taps given ++ (first ++ (heard_text k event ++ ends))) (sym so_far.following) in
     let cut : AppendsPrefix old new all =
-    prefix_after old mid new first (line ++ ends) so_far.written
-    (prefix_before mid new line ends part) in
+    prefix_after old mid new first (line ++ ends) so_far.written (prefix_before mid new line ends part) in
     record {
       text = take cut.count all;
       written = cut.appended;
       begins =
-          subst (λ (xs : List ℕ). StartsWith xs (run_text taps given ++ take cut.count all))
-          (sym text)
+          subst (λ (xs : List ℕ). StartsWith xs (run_text taps given ++ take cut.count all)) (sym text)
           (begins_more (run_text taps given) all (take cut.count all)
           (taken_begins all cut.count cut.fits));
     }
 
 -- before any sample is taken the pilot is told, and nothing is heard
-events_none : (t : Tuning) → AreNear (sync_stream t).fingers →
-    events t [] ≡ Pilot t.phase t.energy ∷ []
+events_none : (t : Tuning) → AreNear (sync_stream t).fingers → events t [] ≡ Pilot t.phase t.energy ∷ []
 events_none t near =
     ap (λ (es : List Event). Pilot t.phase t.energy ∷ es) (heard_none t (low_of t) (timed_of t near) near)
 
@@ -266,8 +254,7 @@ module _ (t : Tuning) (one other : Mobile) (step : Step) (event : Event)
 
   event_is : event ≡ Pilot t.phase t.energy
   event_is =
-      same_head event (Pilot t.phase t.energy) (events_left t other [])
-      (heard_within t [] 0) stands_after.told
+      same_head event (Pilot t.phase t.energy) (events_left t other []) (heard_within t [] 0) stands_after.told
 
   none_more : events t [] ≡ event ∷ []
   none_more =
@@ -282,16 +269,12 @@ module _ (t : Tuning) (one other : Mobile) (step : Step) (event : Event)
   pilot_begins kept following old new written next = (
     subst (Appends old new)
         (sym (ap (run_text kept) none_more ∙ append-nil (heard_text kept event))) written,
-    (
-      subst (StandsFor t other []) (sym none_more) stands_after,
-      next ∙ ap (run_taps kept) (sym none_more),
-    ),
+    (subst (StandsFor t other []) (sym none_more) stands_after, next ∙ ap (run_taps kept) (sym none_more)),
   )
 
   -- and a beginning of its text is one of what is told of any samples
   pub pilot_part : (kept : List KeptTap) (samples : List Sample) (old new : Option (List ℕ)) →
-      AppendsPrefix old new (heard_text kept event) →
-      AppendsPrefix old new (told (ByTaps t kept) samples)
+      AppendsPrefix old new (heard_text kept event) → AppendsPrefix old new (told (ByTaps t kept) samples)
   unfolding told run_text
   pilot_part kept samples old new part =
       let pilot = Pilot t.phase t.energy in
@@ -310,10 +293,8 @@ pilot_there t one other step does stands none =
 
 -- ---- what is told of more samples
 
-pub more_none : (l : Listening) (heard : List Sample) (old : Option (List ℕ)) →
-    GainsText l heard heard old old
-more_none l heard old =
-    record { text = []; written = Appends-nil old; all = append-nil (told l heard) }
+pub more_none : (l : Listening) (heard : List Sample) (old : Option (List ℕ)) → GainsText l heard heard old old
+more_none l heard old = record { text = []; written = Appends-nil old; all = append-nil (told l heard) }
 
 pub more_after : {l : Listening} {before between heard : List Sample}
     {old mid new : Option (List ℕ)} → GainsText l before between old mid →
@@ -400,10 +381,8 @@ tuned_part part = record { text = part.text; written = part.written; begins = pa
 
 -- what holds where nobody hears, and the text of what was found is all
 pub on_fresh_unheard : (P : Listening → Type 0) (l : Listening) (findings : Findings)
-    (kept : List KeptTap) → IsFreshListener l (by.Unheard findings) kept →
-    P (Unheard (findings_text findings)) → P l
-on_fresh_unheard P (Unheard text) findings kept fresh holds =
-    subst (λ (xs : List ℕ). P (Unheard xs)) (sym fresh) holds
+    (kept : List KeptTap) → IsFreshListener l (by.Unheard findings) kept → P (Unheard (findings_text findings)) → P l
+on_fresh_unheard P (Unheard text) findings kept fresh holds = subst (λ (xs : List ℕ). P (Unheard xs)) (sym fresh) holds
 on_fresh_unheard P l findings kept fresh holds = absurd fresh
 
 pub findings_begin : (findings : Findings) (kept : List KeptTap) (old new : Option (List ℕ)) →
@@ -428,8 +407,7 @@ on_fresh P l mobile kept fresh holds = absurd fresh
 
 -- who hears the frames of one channel tells nothing
 pub tuned_begins : (l : Listening) (tuned : Box TunedListener Global) (kept : List KeptTap)
-    (old : Option (List ℕ)) → IsFreshListener l (by.Tuned tuned) kept →
-    BeginsAfter l (by.Tuned tuned) kept old old
+    (old : Option (List ℕ)) → IsFreshListener l (by.Tuned tuned) kept → BeginsAfter l (by.Tuned tuned) kept old old
 unfolding told
 tuned_begins (ByFrames t channel form) tuned kept old fresh = record {
   written =
@@ -456,8 +434,7 @@ first_near deltas found count long most is =
     ap (take count) is ∙ take_at found (replicate (3 - count) (pos 0)) count few
 
 pub near_taken : (first : List Sample) (fingers : ℕ) (best : Best) (near : Near) →
-    IsBestIn first 0 32768 best.phase best.energy → near.count ≡ fingers → fingers ≤ 3 →
-    length near.deltas ≡ 3 →
+    IsBestIn first 0 32768 best.phase best.energy → near.count ≡ fingers → fingers ≤ 3 → length near.deltas ≡ 3 →
     near.deltas ≡ near_deltas first best.phase fingers ++ replicate (3 - fingers) (pos 0) →
     take near.count near.deltas ≡ near_deltas first (best_phase first) fingers
 near_taken first fingers best near found counted most long deltas =
@@ -467,13 +444,11 @@ near_taken first fingers best near found counted most long deltas =
 
 tuned_alike : (settings : Settings) (first : List Sample) (best : Best) (near : Near) →
     IsBestIn first 0 32768 best.phase best.energy → near.count ≡ settings.fingers →
-    settings.fingers ≤ 3 → length near.deltas ≡ 3 →
-    near.deltas
+    settings.fingers ≤ 3 → length near.deltas ≡ 3 → near.deltas
     ≡ near_deltas first best.phase settings.fingers ++ replicate (3 - settings.fingers) (pos 0) →
     tuning_by settings best near ≡ tuning_for settings first
 tuned_alike settings first best near found counted most long deltas =
-    let phase : best.phase ≡ best_phase first =
-    best_phase-only first best.phase best.energy found in
+    let phase : best.phase ≡ best_phase first = best_phase-only first best.phase best.energy found in
     let energy : best.energy ≡ energy_at first (best_phase first) =
     best_energy-only first best.phase best.energy found in
     let near_is = near_taken first settings.fingers best near found counted most long deltas in
@@ -482,8 +457,7 @@ tuned_alike settings first best near found counted most long deltas =
 pub fresh_given : (settings : Settings) (first : List Sample) (best : Best) (near : Near)
     (mobile : Mobile) → IsBestIn first 0 32768 best.phase best.energy → length near.deltas ≡ 3 →
     AreNearTo first best.phase settings.fingers near → AreReady near →
-    StandsFor (tuning_by settings best near) mobile [] [] →
-    StandsFor (tuning_for settings first) mobile [] []
+    StandsFor (tuning_by settings best near) mobile [] [] → StandsFor (tuning_for settings first) mobile [] []
 fresh_given settings first best near mobile found long near_is ready stands =
     let most : settings.fingers ≤ 3 = omega (arith, near_is.0, ready.1) in
     subst (λ (t : Tuning). StandsFor t mobile [] [])
@@ -496,18 +470,15 @@ sound_assignment paging None lawful = λ (t : Traffic) (is : None ≡ Some t). a
 sound_assignment paging (Some channel) lawful =
     λ (t : Traffic) (is : Some channel ≡ Some t).
     let same : channel ≡ t = cc in
-    subst IsSoundAssignment same
-    (record { row = omega (arith, lawful.0.most); offset = lawful.0.offset })
+    subst IsSoundAssignment same (record { row = omega (arith, lawful.0.most); offset = lawful.0.offset })
 
 -- ---- what follows where a call went well, or failed
 
-pub if_ok : {T E : Type 0} (r : Result T E) (P Q : T → Type 0) → ((x : T) → P x → Q x) → IfOk r P →
-    IfOk r Q
+pub if_ok : {T E : Type 0} (r : Result T E) (P Q : T → Type 0) → ((x : T) → P x → Q x) → IfOk r P → IfOk r Q
 if_ok (Ok x) P Q f holds = f x holds
 if_ok (Err e) P Q f holds = tt
 
-pub on_ok_both : {T E : Type 0} (r : Result T E) (P Q S : Type 0) → (P → Q → S) → OnOk r P →
-    OnOk r Q → OnOk r S
+pub on_ok_both : {T E : Type 0} (r : Result T E) (P Q S : Type 0) → (P → Q → S) → OnOk r P → OnOk r Q → OnOk r S
 on_ok_both (Ok x) P Q S f one other = f one other
 on_ok_both (Err e) P Q S f one other = one
 
@@ -519,7 +490,6 @@ pub room_tuned : (listener : Listener) (tuned : Box TunedListener Global) (n : �
     listener ≡ by.Tuned tuned → HasRoomFor listener n → n ≤ tuned_room tuned.value
 room_tuned listener tuned n is room = subst (λ (h : Listener). HasRoomFor h n) is room
 
-pub room_for : (listener : Listener) (left n : ℕ) → HasRoom listener left → n ≤ left →
-    HasRoomFor listener n
+pub room_for : (listener : Listener) (left n : ℕ) → HasRoom listener left → n ≤ left → HasRoomFor listener n
 room_for (by.Unheard findings) left n room fits = tt
 room_for listener left n room fits = omega (arith, room, fits)

@@ -26,8 +26,7 @@ pub pilot_text : (first : List Sample) (best : Best) → IsBest first best →
 pilot_text first best is = sym (ap event_line (pilot-best first best.phase best.energy is))
 
 -- and those of the ranks
-pub survey_is : (first : List Sample) (ranks : List Rank) (base width top : ℕ) →
-    ranks ≡ ranking first base width →
+pub survey_is : (first : List Sample) (ranks : List Rank) (base width top : ℕ) → ranks ≡ ranking first base width →
     survey_text base width top first ≡ ranks_text (take top ranks)
 unfolding survey_text
 survey_is first ranks base width top is = sym (ap (λ (rs : List Rank). ranks_text (take top rs)) is)
@@ -36,8 +35,7 @@ survey_is first ranks base width top is = sym (ap (λ (rs : List Rank). ranks_te
 
 -- the text of a file, whose first samples these are
 text_of_first : (taps : List KeptTap) (job : Job) (header : Header)
-    (samples others : List Sample) → length samples ≡ span_of job →
-    file_text taps job header (samples ++ others)
+    (samples others : List Sample) → length samples ≡ span_of job → file_text taps job header (samples ++ others)
     ≡ told (listening taps job header samples) (samples ++ others)
 unfolding file_text
 text_of_first taps job header samples others counted =
@@ -45,8 +43,7 @@ text_of_first taps job header samples others counted =
     (take_at samples others (span_of job) counted)
 
 end_after : (taps : List KeptTap) (job : Job) (header : Header)
-    (samples others : List Sample) → length samples ≡ span_of job →
-    file_end_of job header (samples ++ others)
+    (samples others : List Sample) → length samples ≡ span_of job → file_end_of job header (samples ++ others)
     ≡ end_when (is_told (listening taps job header samples) (samples ++ others))
 unfolding file_end_of
 end_after taps job header samples others counted =
@@ -57,8 +54,7 @@ end_after taps job header samples others counted =
 -- ---- beginnings
 
 -- a header and samples, and then others, and then more bytes
-parted : (front one other more : List ℕ) →
-    (front ++ one) ++ (other ++ more) ≡ (front ++ (one ++ other)) ++ more
+parted : (front one other more : List ℕ) → (front ++ one) ++ (other ++ more) ≡ (front ++ (one ++ other)) ++ more
 parted front one other more =
     append_assoc front one (other ++ more)
     ∙ ap (λ (xs : List ℕ). front ++ xs) (sym (append_assoc one other more))
@@ -68,14 +64,11 @@ parted front one other more =
 begins_text : {taps : List KeptTap} {job : Job} {rest left old new : Option (List ℕ)}
     (mid : Option (List ℕ)) (header : Header) (samples others : List Sample) (more : List ℕ) →
     length samples ≡ span_of job → IsLawfulHeader header → All (HasBits (width_of header)) samples →
-    length samples + length others ≤ header.count →
-    Consumes rest mid
+    length samples + length others ≤ header.count → Consumes rest mid
     (header_spelling header ++ flat_map (sample_spelling (width_of header)) samples) →
     All (HasBits (width_of header)) others →
-    Consumes mid left (flat_map (sample_spelling (width_of header)) others ++ more) →
-    AppendsPrefix old new
-    (told (listening taps job header samples) (samples ++ others)) →
-    WritesNoMore taps job rest left old new
+    Consumes mid left (flat_map (sample_spelling (width_of header)) others ++ more) → AppendsPrefix old new
+    (told (listening taps job header samples) (samples ++ others)) → WritesNoMore taps job rest left old new
 begins_text {taps} {job} {rest} {left} mid header samples others more counted lawful range fits consumed
     also following part =
     let spelled = flat_map (sample_spelling (width_of header)) in
@@ -106,8 +99,7 @@ begins_text {taps} {job} {rest} {left} mid header samples others more counted la
 
 -- the new listener of a file of this header hears it
 fresh_there : (taps : List KeptTap) (job : Job) (samples : List Sample) (listener : Listener)
-    {header same : Header} → same ≡ header →
-    IsFreshListener (listening taps job same samples) listener taps →
+    {header same : Header} → same ≡ header → IsFreshListener (listening taps job same samples) listener taps →
     IsFreshListener (listening taps job header samples) listener taps
 fresh_there taps job samples listener is fresh =
     subst (λ (h : Header).
@@ -116,8 +108,7 @@ fresh_there taps job samples listener is fresh =
 -- a beginning of the text of the first samples, and of what is told of them
 pub writes_first_text : {taps : List KeptTap} {job : Job} {header same : Header}
     {samples : List Sample} {count left : ℕ} {rest mid old new : Option (List ℕ)}
-    (listener : Listener) → count ≡ span_of job → TakesSpan count header samples left rest mid →
-    same ≡ header →
+    (listener : Listener) → count ≡ span_of job → TakesSpan count header samples left rest mid → same ≡ header →
     ((taps : List KeptTap) →
     IsFreshListener (listening taps job same samples) listener taps) →
     ((l : Listening) (samples : List Sample) → IsFreshListener l listener taps →
@@ -126,8 +117,7 @@ writes_first_text {taps} {job} {header} {same} {samples} {count} {left} {rest} {
     fresh part =
     begins_text mid header samples [] [] (t.counted ∙ alike) t.lawful t.in_range
     (omega (arith, t.counted, t.left)) t.consumed (none_within (width_of header)) (Consumes-nil mid)
-    (part (listening taps job header samples) (samples ++ [])
-    (fresh_there taps job samples listener is (fresh taps)))
+    (part (listening taps job header samples) (samples ++ []) (fresh_there taps job samples listener is (fresh taps)))
 
 -- ---- the first samples, and those after them
 
@@ -140,8 +130,7 @@ pub record HasBegun (taps : List KeptTap) (job : Job) (header : Header) (samples
   pub lawful : IsLawfulHeader header
   pub in_range : All (HasBits (width_of header)) samples
   pub enough : span_of job ≤ header.count
-  pub consumed : Consumes rest mid
-      (header_spelling header ++ flat_map (sample_spelling (width_of header)) samples)
+  pub consumed : Consumes rest mid (header_spelling header ++ flat_map (sample_spelling (width_of header)) samples)
   pub line : Appends old new (told (listening taps job header samples) [])
   pub listens : Listens (listening taps job header samples) listener kept []
 
@@ -156,8 +145,7 @@ pub has_begun : (taps : List KeptTap) (job : Job) {header same : Header}
     HasBegun taps job header samples other kept rest mid old new
 has_begun taps job {header} {same} {samples} one alike t is fresh begins =
     let begun =
-    begins (listening taps job header samples)
-    (fresh_there taps job samples one is (fresh taps)) in
+    begins (listening taps job header samples) (fresh_there taps job samples one is (fresh taps)) in
     record {
       counted = t.counted ∙ alike;
       lawful = t.lawful;
@@ -173,8 +161,7 @@ more_text : (l : Listening) {heard : List Sample} (old : Option (List ℕ))
     {between new : Option (List ℕ)} → Appends old between (told l []) →
     GainsText l [] heard between new → Appends old new (told l heard)
 more_text l old {between} {new} line more =
-    subst (Appends old new) more.all
-    (Appends-trans old between new (told l []) more.text line more.written)
+    subst (Appends old new) more.all (Appends-trans old between new (told l []) more.text line more.written)
 
 part_text : (l : Listening) {heard : List Sample} (old : Option (List ℕ))
     {between new : Option (List ℕ)} → Appends old between (told l []) →
@@ -185,8 +172,7 @@ part_text l {heard} old {between} {new} line part =
 
 -- the text of the first samples, and a beginning of what is told of them
 pub writes_first_part : {taps : List KeptTap} {job : Job} {header : Header}
-    {samples : List Sample} {listener : Listener} {kept : List KeptTap}
-    {rest mid old between new : Option (List ℕ)} →
+    {samples : List Sample} {listener : Listener} {kept : List KeptTap} {rest mid old between new : Option (List ℕ)} →
     HasBegun taps job header samples listener kept rest mid old between →
     ((l : Listening) (heard : List Sample) → Listens l listener kept heard →
     GainsPrefix l heard (heard ++ samples) between new) →
@@ -195,10 +181,8 @@ writes_first_part {taps} {job} {header} {samples} {listener} {kept} {rest} {mid}
     begun tells =
     let l = listening taps job header samples in
     begins_text mid header samples [] [] begun.counted begun.lawful begun.in_range
-    (omega (arith, begun.counted, begun.enough)) begun.consumed (none_within (width_of header))
-    (Consumes-nil mid)
-    (subst (λ (xs : List Sample). AppendsPrefix old new (told l xs))
-    (sym (append-nil samples))
+    (omega (arith, begun.counted, begun.enough)) begun.consumed (none_within (width_of header)) (Consumes-nil mid)
+    (subst (λ (xs : List Sample). AppendsPrefix old new (told l xs)) (sym (append-nil samples))
     (part_text l old begun.line (tells l [] begun.listens)))
 
 -- that text and what is told of the first samples, and a beginning of what is told after them
@@ -250,8 +234,7 @@ pub writes_text : {taps : List KeptTap} {job : Job} {status : Status} {header : 
     status ≡ end_when (is_told l heard)) →
     IfSome rest (λ bytes. WritesText taps job status bytes old new)
 writes_text None mid end lawful count range begun tells hears ends told = tt
-writes_text (Some bytes) None end lawful count range begun tells hears ends told =
-    absurd begun.consumed
+writes_text (Some bytes) None end lawful count range begun tells hears ends told = absurd begun.consumed
 writes_text {taps} {job} {status} {header} {samples} (Some bytes) (Some more) None lawful count range
     begun tells hears ends told =
     let l = listening taps job header samples in
@@ -270,8 +253,7 @@ writes_text {taps} {job} {status} {header} {samples} (Some bytes) (Some more) (S
     begun.consumed
     ∙ ap (λ (bs : List ℕ). (front ++ spelled samples) ++ bs) rest_is
     ∙ append_assoc front (spelled samples) (spelled others)
-    ∙ ap (λ (bs : List ℕ). front ++ bs)
-    (sym (flat_map-append (sample_spelling (width_of header)) samples others)) in
+    ∙ ap (λ (bs : List ℕ). front ++ bs) (sym (flat_map-append (sample_spelling (width_of header)) samples others)) in
     let long : length (samples ++ others) ≡ header.count =
     omega (arith, length-append samples others, begun.counted, heard.counted, count) in
     record {

@@ -35,8 +35,7 @@ named_by_front width script =
 
 -- bytes that were read up to that many, or to the end
 read_front : (bytes rest buf : List ℕ) (n : ℕ) → length buf ≡ 1048577 → n ≤ length buf →
-    bytes ≡ take n buf ++ rest → (n < length buf → rest ≡ []) →
-    take n buf ≡ take 1048577 bytes
+    bytes ≡ take n buf ++ rest → (n < length buf → rest ≡ []) → take n buf ≡ take 1048577 bytes
 read_front bytes rest buf n room fits consumed ends =
     let long : length (take n buf) ≡ n = length-take-le n buf fits in
     elim (cases_lt n (length buf)) [
@@ -48,15 +47,13 @@ read_front bytes rest buf n room fits consumed ends =
       | inr past ↦
           let same : 1048577 ≡ length (take n buf) = omega (arith, long, past, fits, room) in
           sym (ap (take 1048577) consumed ∙ ap (λ (k : ℕ). take k (take n buf ++ rest)) same ∙
-          take-append-le (length (take n buf)) (take n buf) rest
-          (le_refl (length (take n buf))) ∙
+          take-append-le (length (take n buf)) (take n buf) rest (le_refl (length (take n buf))) ∙
           take_all (length (take n buf)) (take n buf) (le_refl (length (take n buf))))
     ]
 
 -- they name what the whole script does
 pub read_names : (width : Width) (old new : Option (List ℕ)) (buf : List ℕ) (n : ℕ) →
-    length buf ≡ 1048577 → n ≤ length buf → Consumes old new (take n buf) →
-    (n < length buf → IsAtEnd new) →
+    length buf ≡ 1048577 → n ≤ length buf → Consumes old new (take n buf) → (n < length buf → IsAtEnd new) →
     IfSome old (λ bytes. plan_named width (take n buf) ≡ plan_named width bytes)
 read_names width None new buf n room fits consumed ends = tt
 read_names width (Some bytes) None buf n room fits consumed ends = absurd consumed
@@ -65,8 +62,7 @@ read_names width (Some bytes) (Some rest) buf n room fits consumed ends =
     named_by_front width bytes
 
 -- so they name a cell where it does, and have a fault where it has it
-pub read_named : (width : Width) (old : Option (List ℕ)) (script : List ℕ)
-    (named : Result CellPlan ScriptFault) →
+pub read_named : (width : Width) (old : Option (List ℕ)) (script : List ℕ) (named : Result CellPlan ScriptFault) →
     IfSome old (λ bytes. plan_named width script ≡ plan_named width bytes) →
     plan_named width script ≡ named → IfSome old (λ bytes. plan_named width bytes ≡ named)
 read_named width None script named same is = tt
@@ -102,15 +98,13 @@ memory_is e h = absurd (cc)
 pub piece_spelled : (width : Width) (plan : CellPlan) (given n : ℕ) (out : List Sample) →
     map of_sample out ≡ take n (drop given (samples_of plan)) →
     flat_map (sample_spelling width) out ≡ piece_bytes width plan given n
-piece_spelled width plan given n out is =
-    ap (flat_map (sample_spelling width)) (next_made plan given n out is)
+piece_spelled width plan given n out is = ap (flat_map (sample_spelling width)) (next_made plan given n out is)
 
 -- the bytes of the first samples of a cell
 abbrev pub first_bytes : Width → CellPlan → ℕ → List ℕ
 first_bytes width plan given = flat_map (sample_spelling width) (take given (made_samples plan))
 
-first_more : (width : Width) (plan : CellPlan) (given n : ℕ) →
-    first_bytes width plan (given + n) ≡
+first_more : (width : Width) (plan : CellPlan) (given n : ℕ) → first_bytes width plan (given + n) ≡
     first_bytes width plan given ++ piece_bytes width plan given n
 first_more width plan given n =
     let all = made_samples plan in
@@ -129,23 +123,20 @@ front_more width plan given n =
     ∙ sym (append_assoc header (first_bytes width plan given) (piece_bytes width plan given n))
 
 -- all of them, and those after them
-front_all : (width : Width) (plan : CellPlan) →
-    file_front width plan plan.link.samples ≡ made_file width plan
+front_all : (width : Width) (plan : CellPlan) → file_front width plan plan.link.samples ≡ made_file width plan
 unfolding made_file
 front_all width plan =
     ap (λ (samples : List Sample).
     header_spelling (header_of width plan) ++ flat_map (sample_spelling width) samples)
     (take_all plan.link.samples (made_samples plan) (omega (arith, length-made plan)))
 
-front_and_rest : (width : Width) (plan : CellPlan) (given : ℕ) →
-    file_front width plan given
+front_and_rest : (width : Width) (plan : CellPlan) (given : ℕ) → file_front width plan given
     ++ flat_map (sample_spelling width) (drop given (made_samples plan)) ≡ made_file width plan
 unfolding made_file
 front_and_rest width plan given =
     let all = made_samples plan in
     let header = header_spelling (header_of width plan) in
-    append_assoc header (first_bytes width plan given)
-    (flat_map (sample_spelling width) (drop given all))
+    append_assoc header (first_bytes width plan given) (flat_map (sample_spelling width) (drop given all))
     ∙ ap (λ (bytes : List ℕ). header ++ bytes)
     (sym (flat_map-append (sample_spelling width) (take given all) (drop given all))
     ∙ ap (flat_map (sample_spelling width)) (take-append-drop given all))
@@ -155,8 +146,7 @@ front_and_rest width plan given =
 -- the header was written
 pub header_whole : (width now : Width) (plan : CellPlan) (given : ℕ) (header : Header)
     (bytes : List ℕ) (old new : Option (List ℕ)) → header ≡ header_of now plan → now ≡ width →
-    bytes ≡ header_spelling header → given ≡ 0 → Appends old new bytes →
-    Appends old new (file_front width plan given)
+    bytes ≡ header_spelling header → given ≡ 0 → Appends old new bytes → Appends old new (file_front width plan given)
 header_whole width now plan given header bytes old new is same spelled none written =
     subst (Appends old new)
     (spelled ∙ ap header_spelling (is ∙ ap (λ (w : Width). header_of w plan) same)
@@ -166,13 +156,11 @@ header_whole width now plan given header bytes old new is same spelled none writ
 -- or cut short
 pub header_cut : (width now : Width) (plan : CellPlan) (header : Header) (bytes : List ℕ)
     (old new : Option (List ℕ)) → header ≡ header_of now plan → now ≡ width →
-    bytes ≡ header_spelling header → AppendsPrefix old new bytes →
-    AppendsPrefix old new (made_file width plan)
+    bytes ≡ header_spelling header → AppendsPrefix old new bytes → AppendsPrefix old new (made_file width plan)
 unfolding made_file
 header_cut width now plan header bytes old new is same spelled part =
     prefix_before old new (header_spelling (header_of width plan)) (sample_bytes width plan)
-    (subst (AppendsPrefix old new)
-    (spelled ∙ ap header_spelling (is ∙ ap (λ (w : Width). header_of w plan) same)) part)
+    (subst (AppendsPrefix old new) (spelled ∙ ap header_spelling (is ∙ ap (λ (w : Width). header_of w plan) same)) part)
 
 -- a piece more was written
 pub piece_more : (width : Width) (plan now : CellPlan) (given n later : ℕ) (bytes : List ℕ)
@@ -181,8 +169,7 @@ pub piece_more : (width : Width) (plan now : CellPlan) (given n later : ℕ) (by
     Appends mid new bytes → Appends old new (file_front width plan later)
 piece_more width plan now given n later bytes old mid new same is spelled before more =
     let next : Appends mid new (piece_bytes width plan given n) =
-    subst (Appends mid new)
-    (spelled ∙ ap (λ (p : CellPlan). piece_bytes width p given n) same) more in
+    subst (Appends mid new) (spelled ∙ ap (λ (p : CellPlan). piece_bytes width p given n) same) more in
     subst (Appends old new) (sym (ap (file_front width plan) is ∙ front_more width plan given n))
     (Appends-trans old mid new (file_front width plan given) (piece_bytes width plan given n)
     before next)
@@ -194,8 +181,7 @@ pub piece_cut : (width : Width) (plan now : CellPlan) (given n : ℕ) (bytes : L
     AppendsPrefix old new (made_file width plan)
 piece_cut width plan now given n bytes old mid new same spelled before cut =
     let part : AppendsPrefix mid new (piece_bytes width plan given n) =
-    subst (AppendsPrefix mid new)
-    (spelled ∙ ap (λ (p : CellPlan). piece_bytes width p given n) same) cut in
+    subst (AppendsPrefix mid new) (spelled ∙ ap (λ (p : CellPlan). piece_bytes width p given n) same) cut in
     let written : AppendsPrefix old new (file_front width plan (given + n)) =
     subst (AppendsPrefix old new) (sym (front_more width plan given n))
     (prefix_after old mid new (file_front width plan given) (piece_bytes width plan given n)
@@ -206,8 +192,7 @@ piece_cut width plan now given n bytes old mid new same spelled before cut =
 
 -- all samples were written
 pub pieces_all : (width : Width) (plan : CellPlan) (given : ℕ) (old new : Option (List ℕ)) →
-    given ≡ plan.link.samples → Appends old new (file_front width plan given) →
-    Appends old new (made_file width plan)
+    given ≡ plan.link.samples → Appends old new (file_front width plan given) → Appends old new (made_file width plan)
 pieces_all width plan given old new done written =
     subst (Appends old new) (ap (file_front width plan) done ∙ front_all width plan) written
 
@@ -219,11 +204,7 @@ pub writes_part : (width : Width) (plan : CellPlan) (rest old new : Option (List
 writes_part width plan rest old new is part = record {
   text = take part.count (made_file width plan);
   written = part.appended;
-  part = inr (record {
-    plan = plan;
-    named = is;
-    begins = taken_begins (made_file width plan) part.count part.fits;
-  });
+  part = inr (record { plan = plan; named = is; begins = taken_begins (made_file width plan) part.count part.fits });
 }
 
 pub writes_whole : (width : Width) (plan : CellPlan) (rest old new : Option (List ℕ)) →
@@ -231,5 +212,4 @@ pub writes_whole : (width : Width) (plan : CellPlan) (rest old new : Option (Lis
     Appends old new (made_file width plan) → WritesNoMoreMade width rest old new
 writes_whole width plan rest old new is all =
     let file = made_file width plan in
-    writes_part width plan rest old new is
-    (prefix_of old new file file all (take_all (length file) file (omega arith)))
+    writes_part width plan rest old new is (prefix_of old new file file all (take_all (length file) file (omega arith)))

@@ -143,8 +143,7 @@ encoded_within (byte ∷ bytes) are =
     let low = digit_within (byte % 16) (omega arith) in
     let second = slice_index lower_digits (byte % 16) in
     within-cons 48 102 (slice_index lower_digits (byte / 16)) (second ∷ encode_lower bytes)
-    high.0 high.1
-    (within-cons 48 102 second (encode_lower bytes) low.0 low.1 (encoded_within bytes (λ i. are (suc i))))
+    high.0 high.1 (within-cons 48 102 second (encode_lower bytes) low.0 low.1 (encoded_within bytes (λ i. are (suc i))))
 
 byte_small : (k n : ℕ) → byte_at k n < 256
 byte_small zero n = omega arith

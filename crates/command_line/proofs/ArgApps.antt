@@ -28,8 +28,7 @@ app_all name rules (entry ∷ entries) =
     app_all name (rules ++ rule_by entry ∷ []) entries
     ∙ ap (app_with name) (append_assoc rules (rule_by entry ∷ []) (map rule_by entries))
 
-filled_all : (i : ℕ) (entries : List OptionEntry) →
-    filled_from i (map rule_by entries) ≡ opts (names_in entries)
+filled_all : (i : ℕ) (entries : List OptionEntry) → filled_from i (map rule_by entries) ≡ opts (names_in entries)
 filled_all i [] = refl
 filled_all i (entry ∷ entries) = ap (λ rules. opt entry.name ∷ rules) (filled_all i entries)
 
@@ -48,8 +47,7 @@ no_multiple n (name ∷ names) = no_multiple n names
 abbrev pub arg_app : Text → List OptionEntry → App
 arg_app name entries = app_from (bare_app name) entries
 
-arg_app_is : (name : Text) (entries : List OptionEntry) →
-    arg_app name entries ≡ app_with name (map rule_by entries)
+arg_app_is : (name : Text) (entries : List OptionEntry) → arg_app name entries ≡ app_with name (map rule_by entries)
 arg_app_is name entries = app_all name [] entries
 
 abbrev leaf : Shape → App
@@ -59,11 +57,9 @@ pub app_built : (name : Text) (entries : List OptionEntry) →
     built (arg_app name entries) ≡ record { top = shape name (names_in entries); subs = [] }
 app_built name entries =
     ap built (arg_app_is name entries)
-    ∙ ap (λ (rules : List Rule). leaf (record (shape name []) { rules = rules }))
-    (filled_all 1 entries)
+    ∙ ap (λ (rules : List Rule). leaf (record (shape name []) { rules = rules })) (filled_all 1 entries)
 
-pub app_bare : (name : Text) (entries : List OptionEntry) →
-    (arg_app name entries).top.no_binary_name ≡ true
+pub app_bare : (name : Text) (entries : List OptionEntry) → (arg_app name entries).top.no_binary_name ≡ true
 app_bare name entries = ap (λ (a : App). a.top.no_binary_name) (arg_app_is name entries)
 
 pub app_simple : (name : Text) (entries : List OptionEntry) → is_simple (arg_app name entries) ≡ true

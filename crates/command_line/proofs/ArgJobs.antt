@@ -22,8 +22,7 @@ numbers_same (entry ∷ entries) one other same =
     ap₂ (λ n ns. n ∷ ns) (ap (number_by entry) (same entry.name)) (numbers_same entries one other same)
 
 -- texts that are those that the arguments give make the job of the arguments
-pub job_found : (entry : CommandEntry) (args : List Text) (found : Text → Option Text) →
-    AreLawful entry args →
+pub job_found : (entry : CommandEntry) (args : List Text) (found : Text → Option Text) → AreLawful entry args →
     ((given : Given) → given_after entry.options (Some []) args ≡ Some given →
     (name : Text) → found name ≡ option_text name given) → job_with entry found ≡ job_by entry args
 unfolding job_by

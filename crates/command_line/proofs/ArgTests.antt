@@ -13,15 +13,13 @@ use Rattle.std.proofs.Math.Bool.{or-false}
 
 -- ---- an item of a list after the first k of them
 
-get_or-of-map : {X Y : Type 0} (g : X → Y) (xs : List X) (k : ℕ) (d : X) →
-    get_or (map g xs) k (g d) ≡ g (get_or xs k d)
+get_or-of-map : {X Y : Type 0} (g : X → Y) (xs : List X) (k : ℕ) (d : X) → get_or (map g xs) k (g d) ≡ g (get_or xs k d)
 get_or-of-map g [] zero d = refl
 get_or-of-map g [] (suc k) d = refl
 get_or-of-map g (x ∷ xs) zero d = refl
 get_or-of-map g (x ∷ xs) (suc k) d = get_or-of-map g xs k d
 
-pub item_first : {X Y Z : Type 0} (f : List Y → Z) (g : X → Y) (xs : List X) (k : ℕ) (d : X) →
-    k < length xs →
+pub item_first : {X Y Z : Type 0} (f : List Y → Z) (g : X → Y) (xs : List X) (k : ℕ) (d : X) → k < length xs →
     f (drop k (map g xs)) ≡ f (g (get_or xs k d) ∷ drop (k + 1) (map g xs))
 item_first f g xs k d inside =
     at_drop_more f (map g xs) k (g d) (rw (length-map xs g) inside)
@@ -29,15 +27,10 @@ item_first f g xs k d inside =
 
 -- what an index past the end would give
 abbrev pub no_rule : OptionRule
-no_rule = record {
-  name = record { ref_ptr = (0, 0); now = [] };
-  form = Between 0 0;
-  default = None;
-}
+no_rule = record { name = record { ref_ptr = (0, 0); now = [] }; form = Between 0 0; default = None }
 
 pub rule_here : (entry : OptionEntry) (entries : List OptionEntry) (name value : Text) →
-    bytes_eq entry.name name ≡ true →
-    is_allowed (entry ∷ entries) name value ≡ is_some (value_in entry.form value)
+    bytes_eq entry.name name ≡ true → is_allowed (entry ∷ entries) name value ≡ is_some (value_in entry.form value)
 rule_here entry entries name value e =
     ap (λ (b : Bool). option_map_or (λ r. is_some (value_in r.form value))
     (if b then Some entry else find (λ r. bytes_eq r.name name) entries) false) e
@@ -71,8 +64,7 @@ first_digit : (digit : ℕ) (text : Text) (number : ℕ) →
     argument_number_in (digit ∷ text) ≡ Some number → is_ascii_digit digit ≡ true
 unfolding digits_from
 first_digit digit text number e =
-    go (nat_le 1 (length (digit ∷ text))) (nat_le (length (digit ∷ text)) 20)
-    (is_ascii_digit digit) refl e
+    go (nat_le 1 (length (digit ∷ text))) (nat_le (length (digit ∷ text)) 20) (is_ascii_digit digit) refl e
   where
     go : (a b is : Bool) → is_ascii_digit digit ≡ is →
         (if a then (if b then (if is then digits_from (10 * 0 + (digit - 48)) text else None)
@@ -85,8 +77,7 @@ first_digit digit text number e =
 
 number_plain : (text : Text) (number : ℕ) → argument_number_in text ≡ Some number → IsPlain text
 number_plain [] number e = search rules
-number_plain (digit ∷ text) number e =
-    plain_from digit text (no_dash digit (first_digit digit text number e))
+number_plain (digit ∷ text) number e = plain_from digit text (no_dash digit (first_digit digit text number e))
 
 -- no hex digit is a hyphen
 no_dash-hex : (digit : ℕ) → is_hex_digit digit ≡ true → nat_eq digit 45 ≡ false
@@ -105,8 +96,7 @@ eight_plain text number e = go (decode_sized text 4) refl e
   where
     digits : (text : Text) → length text ≡ 8 → AllPass is_hex_digit text → IsPlain text
     digits [] eight all = absurd (omega (arith, eight))
-    digits (digit ∷ text) eight all =
-        plain_from digit text (no_dash-hex digit (all 0 digit (omega (arith, eight))))
+    digits (digit ∷ text) eight all = plain_from digit text (no_dash-hex digit (all 0 digit (omega (arith, eight))))
 
     go : (r : Result (List ℕ) FromHexError) → decode_sized text 4 ≡ r →
         option_map (λ octets. from_be_bytes w32 octets) (result_ok r) ≡ Some number → IsPlain text
@@ -115,8 +105,7 @@ eight_plain text number e = go (decode_sized text 4) refl e
         digits text both.0 both.1
     go (Err fault) is found = search rules
 
-spelled_plain : (form : ValueForm) (text : Text) (number : ℕ) → value_spelled_in form text ≡ Some number →
-    IsPlain text
+spelled_plain : (form : ValueForm) (text : Text) (number : ℕ) → value_spelled_in form text ≡ Some number → IsPlain text
 spelled_plain EightDigits text number e = eight_plain text number e
 spelled_plain form text number e = number_plain text number e
 
@@ -126,8 +115,7 @@ unfolding value_in
 value_plain-form form text e = go (value_spelled_in form text) refl e
   where
     go : (o : Option ℕ) → value_spelled_in form text ≡ o →
-        is_some (option_and_then (λ n. if form_admits form n then Some n else None) o) ≡ true →
-        IsPlain text
+        is_some (option_and_then (λ n. if form_admits form n then Some n else None) o) ≡ true → IsPlain text
     go None is test = search rules
     go (Some number) is test = spelled_plain form text number is
 
@@ -173,8 +161,7 @@ unfolding given_after
 none_stays entries (arg ∷ text ∷ args) =
     go (is_joined (long_of arg)) (none_stays entries (text ∷ args)) (none_stays entries args)
   where
-    go : (b : Bool) → given_after entries None (text ∷ args) ≡ None →
-        given_after entries None args ≡ None →
+    go : (b : Bool) → given_after entries None (text ∷ args) ≡ None → given_after entries None args ≡ None →
         (if b then given_after entries None (text ∷ args) else given_after entries None args) ≡ None
     go true first second = first
     go false first second = second
@@ -188,20 +175,17 @@ same_part one other e = ap (λ (o : Option Part). unwrap_or o one) e
 
 -- the arguments after one option
 past_one : (entries : List OptionEntry) (given : Given) (arg name text : Text) (args : List Text) →
-    long_of arg ≡ Some (name, Some text) →
-    given_after entries (Some given) (arg ∷ args)
+    long_of arg ≡ Some (name, Some text) → given_after entries (Some given) (arg ∷ args)
     ≡ given_after entries (added entries name text given) args
 unfolding given_after
-past_one entries given arg name text [] is =
-    ap (λ (p : Option (Text × Option Text)). option_joined entries p given) is
+past_one entries given arg name text [] is = ap (λ (p : Option (Text × Option Text)). option_joined entries p given) is
 past_one entries given arg name text (next ∷ args) is =
     ap (λ (p : Option (Text × Option Text)). if is_joined p
     then given_after entries (option_joined entries p given) (next ∷ args)
     else given_after entries (parted entries p next given) args) is
 
 past_two : (entries : List OptionEntry) (given : Given) (arg name text : Text) (args : List Text) →
-    long_of arg ≡ Some (name, None) →
-    given_after entries (Some given) (arg ∷ text ∷ args) ≡
+    long_of arg ≡ Some (name, None) → given_after entries (Some given) (arg ∷ text ∷ args) ≡
     given_after entries (added entries name text given) args
 unfolding given_after
 past_two entries given arg name text args is =
@@ -244,14 +228,12 @@ part_missing entries given (arg ∷ args) inside e = go (long_of arg) args refl 
         then given_after entries (option_joined entries p given) (text ∷ ws)
         else given_after entries (parted entries p text given) ws) is ∙ none_stays entries ws
     go (Some (name, Some text)) ws is none = search rules
-    go (Some (name, None)) [] is none =
-        ap (λ (p : Option (Text × Option Text)). option_joined entries p given) is
+    go (Some (name, None)) [] is none = ap (λ (p : Option (Text × Option Text)). option_joined entries p given) is
     go (Some (name, None)) (text ∷ ws) is none = search rules
 
 -- ---- names before a place
 
-any-append : {X : Type 0} (p : X → Bool) (xs ys : List X) →
-    list_any p (xs ++ ys) ≡ list_any p xs || list_any p ys
+any-append : {X : Type 0} (p : X → Bool) (xs ys : List X) → list_any p (xs ++ ys) ≡ list_any p xs || list_any p ys
 any-append p [] ys = refl
 any-append p (x ∷ xs) ys = go (p x) (any-append p xs ys)
   where
@@ -285,8 +267,7 @@ part_named other (arg ∷ args) part e plain = go (long_of arg) args refl e
     go (Some (name, None)) [] is found = search rules
     go (Some (name, None)) (text ∷ ws) is found =
         let same = same_part (name, text, 2) part found in
-        let quiet : IsPlain text = subst (λ (t : Text). IsPlain t)
-        (sym (ap (λ (q : Part). q.1) same)) plain in
+        let quiet : IsPlain text = subst (λ (t : Text). IsPlain t) (sym (ap (λ (q : Part). q.1) same)) plain in
         let unnamed : names other text ≡ false =
         ap (λ (p : Option (Text × Option Text)). option_map_or (λ q. bytes_eq q.0 other) p false)
         quiet.long in
@@ -296,14 +277,12 @@ part_named other (arg ∷ args) part e plain = go (long_of arg) args refl e
 
 -- ---- the test of all arguments
 
-take-plus : {X : Type 0} (k m n : ℕ) (xs : List X) → k ≡ m + n →
-    take k xs ≡ take m xs ++ take n (drop m xs)
+take-plus : {X : Type 0} (k m n : ℕ) (xs : List X) → k ≡ m + n → take k xs ≡ take m xs ++ take n (drop m xs)
 take-plus k zero n xs e = let same : k ≡ n = omega (arith, e) in ap (λ (i : ℕ). take i xs) same
 take-plus zero (suc m) n xs e = absurd (omega (arith, e))
 take-plus (suc k) (suc m) zero [] e = refl
 take-plus (suc k) (suc m) (suc n) [] e = refl
-take-plus (suc k) (suc m) n (x ∷ xs) e =
-    ap (λ ys. x ∷ ys) (take-plus k m n xs (omega (arith, e)))
+take-plus (suc k) (suc m) n (x ∷ xs) e = ap (λ ys. x ∷ ys) (take-plus k m n xs (omega (arith, e)))
 
 drop-plus : {X : Type 0} (k m n : ℕ) (xs : List X) → k ≡ m + n → drop k xs ≡ drop n (drop m xs)
 drop-plus k zero n xs e = let same : k ≡ n = omega (arith, e) in ap (λ (i : ℕ). drop i xs) same
@@ -320,8 +299,7 @@ Stands entries texts place =
     × ((name : Text) → has_name name given ≡ is_named_in name (take place texts))
 
 is_added : (entries : List OptionEntry) (name text : Text) (given : Given) (allowed has : Bool) →
-    is_allowed entries name text ≡ allowed → has_name name given ≡ has →
-    added entries name text given ≡
+    is_allowed entries name text ≡ allowed → has_name name given ≡ has → added entries name text given ≡
     (if allowed && not has then Some (given ++ (name, text) ∷ []) else None)
 is_added entries name text given allowed has a h =
     ap₂ (λ (x y : Bool). if x && not y then Some (given ++ (name, text) ∷ []) else None) a h
@@ -344,8 +322,7 @@ stands_next entries texts place next part next_is is unnamed allowed s =
       λ name. any-append (λ (p : Text × Text). bytes_eq p.0 name) given ((part.0, part.1) ∷ [])
           ∙ ap (λ (b : Bool). has_name name given || b) (or-false (bytes_eq part.0 name))
           ∙ ap₂ (λ (a b : Bool). a || b) (s.2 name)
-          (sym (part_named name (drop place texts) part is
-          (value_plain entries part.0 part.1 allowed)))
+          (sym (part_named name (drop place texts) part is (value_plain entries part.0 part.1 allowed)))
           ∙ sym (any-append (names name) (take place texts) (take part.2 (drop place texts)))
           ∙ ap (is_named_in name) (sym (take-plus next place part.2 texts next_is)),
     )
@@ -374,8 +351,7 @@ stands_twice entries texts place part is named s =
     (is_allowed entries part.0 part.1) true refl (s.2 part.0 ∙ named)))
   where
     go : (b : Bool) → added entries part.0 part.1 s.0 ≡
-        (if b && not true then Some (s.0 ++ (part.0, part.1) ∷ []) else None) →
-        added entries part.0 part.1 s.0 ≡ None
+        (if b && not true then Some (s.0 ++ (part.0, part.1) ∷ []) else None) → added entries part.0 part.1 s.0 ≡ None
     go true e = e
     go false e = e
 

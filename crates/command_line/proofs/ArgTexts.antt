@@ -16,8 +16,7 @@ first_text-none None = refl
 first_text-none (Some text) = refl
 
 first_text-if : (o : Option Text) (b : Bool) (text : Text) (other : Option Text) →
-    first_text o (if b then Some text else other) ≡
-    first_text (first_text o (if b then Some text else None)) other
+    first_text o (if b then Some text else other) ≡ first_text (first_text o (if b then Some text else None)) other
 first_text-if None true text other = refl
 first_text-if None false text other = refl
 first_text-if (Some first) true text other = refl
@@ -25,8 +24,7 @@ first_text-if (Some first) false text other = refl
 
 -- ---- one option more
 
-text_of-more : (name : Text) (given : Given) (p : Text × Text) →
-    option_text name (given ++ p ∷ []) ≡
+text_of-more : (name : Text) (given : Given) (p : Text × Text) → option_text name (given ++ p ∷ []) ≡
     first_text (option_text name given) (if bytes_eq p.0 name then Some p.1 else None)
 text_of-more name [] p = go (bytes_eq p.0 name)
   where
@@ -38,8 +36,7 @@ text_of-more name (q ∷ given) p = go (bytes_eq q.0 name) (text_of-more name gi
   where
     go : (b : Bool) → option_text name (given ++ p ∷ []) ≡
         first_text (option_text name given) (if bytes_eq p.0 name then Some p.1 else None) →
-        option_map (λ (r : Text × Text). r.1)
-        (if b then Some q else find (λ r. bytes_eq r.0 name) (given ++ p ∷ [])) ≡
+        option_map (λ (r : Text × Text). r.1) (if b then Some q else find (λ r. bytes_eq r.0 name) (given ++ p ∷ [])) ≡
         first_text (option_map (λ (r : Text × Text). r.1)
         (if b then Some q else find (λ r. bytes_eq r.0 name) given))
         (if bytes_eq p.0 name then Some p.1 else None)
@@ -47,8 +44,7 @@ text_of-more name (q ∷ given) p = go (bytes_eq q.0 name) (text_of-more name gi
     go false more = more
 
 text_of-added : (entries : List OptionEntry) (option text : Text) (before after : Given)
-    (name : Text) → added entries option text before ≡ Some after →
-    option_text name after ≡
+    (name : Text) → added entries option text before ≡ Some after → option_text name after ≡
     first_text (option_text name before) (if bytes_eq option name then Some text else None)
 text_of-added entries option text before after name e =
     ap (option_text name) (sym (is_added entries option text before after e).after_is)
@@ -58,8 +54,7 @@ text_of-added entries option text before after name e =
 
 -- the texts of the arguments stand after those that were given before
 abbrev Adds : Text → Given → List Text → Given → Type 0
-Adds name before args given =
-    first_text (option_text name before) (text_in name args) ≡ option_text name given
+Adds name before args given = first_text (option_text name before) (text_in name args) ≡ option_text name given
 
 -- an option and its text, and the arguments after them
 adds_one : (entries : List OptionEntry) (name option text : Text) (before onward given : Given)
@@ -91,8 +86,7 @@ text_in-two name arg option text args is plain =
 
 adds_joined : (entries : List OptionEntry) (name arg option text : Text) (args : List Text)
     (before onward given : Given) → long_of arg ≡ Some (option, Some text) →
-    added entries option text before ≡ Some onward → Adds name onward args given →
-    Adds name before (arg ∷ args) given
+    added entries option text before ≡ Some onward → Adds name onward args given → Adds name before (arg ∷ args) given
 adds_joined entries name arg option text args before onward given long is more =
     adds_one entries name option text before onward given (arg ∷ args) args is
     (text_in-arg name arg args (Some (option, Some text)) long) more
@@ -103,8 +97,7 @@ adds_parted : (entries : List OptionEntry) (name arg option text : Text) (args :
     Adds name before (arg ∷ text ∷ args) given
 adds_parted entries name arg option text args before onward given long is more =
     adds_one entries name option text before onward given (arg ∷ text ∷ args) args is
-    (text_in-two name arg option text args long
-    (is_added entries option text before onward is).plain) more
+    (text_in-two name arg option text args long (is_added entries option text before onward is).plain) more
 
 args_add : (entries : List OptionEntry) (name : Text) (args : List Text) (before given : Given) →
     given_after entries (Some before) args ≡ Some given → Adds name before args given
@@ -133,8 +126,7 @@ args_add entries name (arg ∷ text ∷ args) before given e =
     on_joined option value long None is rest more =
         let bad : None ≡ Some given = sym (none_stays entries (text ∷ args)) ∙ rest in search rules
     on_joined option value long (Some onward) is rest more =
-        adds_joined entries name arg option value (text ∷ args) before onward given long is
-        (more onward rest)
+        adds_joined entries name arg option value (text ∷ args) before onward given long is (more onward rest)
 
     on_parted : (option : Text) → long_of arg ≡ Some (option, None) →
         (onward : Option Given) → added entries option text before ≡ onward →
@@ -144,8 +136,7 @@ args_add entries name (arg ∷ text ∷ args) before given e =
     on_parted option long None is rest more =
         let bad : None ≡ Some given = sym (none_stays entries args) ∙ rest in search rules
     on_parted option long (Some onward) is rest more =
-        adds_parted entries name arg option text args before onward given long is
-        (more onward rest)
+        adds_parted entries name arg option text args before onward given long is (more onward rest)
 
     go : (p : Option (Text × Option Text)) → long_of arg ≡ p →
         (if is_joined p then given_after entries (option_and_then (option_joined entries p) (Some before))

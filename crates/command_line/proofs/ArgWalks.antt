@@ -35,13 +35,7 @@ opts names = map opt names
 
 -- what is found of an option that was given
 abbrev pub row : Text × Text → Row
-row p = record {
-  id = p.0;
-  values = p.1 ∷ [];
-  count = None;
-  source = Some CommandLine;
-  reading = reading.AsWritten;
-}
+row p = record { id = p.0; values = p.1 ∷ []; count = None; source = Some CommandLine; reading = reading.AsWritten }
 
 abbrev pub found_rows : Given → List Row
 found_rows given = map row given
@@ -61,14 +55,12 @@ by_look : {A : Type 0} (made : Text → A) (look : List Text → Text → Option
     look (n ∷ names) name ≡ Some (made n)) →
     ((n : Text) (names : List Text) (name : Text) → bytes_eq n name ≡ false →
     look (n ∷ names) name ≡ look names name) →
-    (names : List Text) (name : Text) → is_among names name ≡ true →
-    look names name ≡ Some (made name)
+    (names : List Text) (name : Text) → is_among names name ≡ true → look names name ≡ Some (made name)
 by_look made look hit miss [] name e = absurd (cc e)
 by_look made look hit miss (n ∷ names) name e =
     go (bytes_eq n name) refl (by_look made look hit miss names name)
   where
-    go : (b : Bool) → bytes_eq n name ≡ b →
-        (is_among names name ≡ true → look names name ≡ Some (made name)) →
+    go : (b : Bool) → bytes_eq n name ≡ b → (is_among names name ≡ true → look names name ≡ Some (made name)) →
         look (n ∷ names) name ≡ Some (made name)
     go true same more =
         hit n names name same
@@ -81,8 +73,7 @@ by_long =
     by_look opt (λ names name. arg_by_long (opts names) name) (λ n names name same. rw same refl)
     (λ n names name other. rw other refl)
 
-by_id : (names : List Text) (name : Text) → is_among names name ≡ true →
-    arg_by_id (opts names) name ≡ Some (opt name)
+by_id : (names : List Text) (name : Text) → is_among names name ≡ true → arg_by_id (opts names) name ≡ Some (opt name)
 by_id =
     by_look opt (λ names name. arg_by_id (opts names) name) (λ n names name same. rw same refl)
     (λ n names name other. rw other refl)
@@ -95,8 +86,7 @@ entry_has name (p ∷ given) = ap (λ (b : Bool). bytes_eq p.0 name || b) (entry
 
 -- a use of an option that wasn't given before puts its row after the others
 at_missing : (name : Text) (change : Row → List Row) (missing : List Row) (given : Given) →
-    has_name name given ≡ false → at_row name change missing (found_rows given)
-    ≡ found_rows given ++ missing
+    has_name name given ≡ false → at_row name change missing (found_rows given) ≡ found_rows given ++ missing
 at_missing name change missing [] e = refl
 at_missing name change missing (p ∷ given) e =
     go (bytes_eq p.0 name) refl (at_missing name change missing given)
@@ -107,8 +97,7 @@ at_missing name change missing (p ∷ given) e =
     go true same more = let bad : true ≡ false = rw same at e in search rules
     go false other more = rw other (ap (λ (rs : List Row). row p ∷ rs) (more (rw other at e)))
 
-rows_more : (given : Given) (p : Text × Text) →
-    found_rows given ++ row p ∷ [] ≡ found_rows (given ++ p ∷ [])
+rows_more : (given : Given) (p : Text × Text) → found_rows given ++ row p ∷ [] ≡ found_rows (given ++ p ∷ [])
 rows_more given p = sym (map-append row given (p ∷ []))
 
 -- the rows after one use of an option that wasn't given before
@@ -124,8 +113,7 @@ used_new name text given fresh =
 -- such a use passes
 use_new : (name text : Text) (given : Given) → has_name name given ≡ false →
     use_passes false (opt name) (text ∷ []) (found_rows given) ≡ true
-use_new name text given fresh = ap (λ (b : Bool). (not b || false) && true)
-    (entry_has name given ∙ fresh)
+use_new name text given fresh = ap (λ (b : Bool). (not b || false) && true) (entry_has name given ∙ fresh)
 
 -- ---- between two options
 
@@ -154,8 +142,7 @@ pub record Walks (name : Text) (names : List Text) (h after : Held)
       ≡ walk_passes (shape name names) [] (walk_from after) more
   pub walked : fold (walked (opts names) []) (walk_from h) args ≡ walk_from after
 
-not_dashes : (arg : Text) (p : Text × Option Text) → long_of arg ≡ Some p →
-    bytes_eq arg (45 ∷ 45 ∷ []) ≡ false
+not_dashes : (arg : Text) (p : Text × Option Text) → long_of arg ≡ Some p → bytes_eq arg (45 ∷ 45 ∷ []) ≡ false
 not_dashes arg p e = go (bytes_eq arg (45 ∷ 45 ∷ [])) refl
   where
     go : (b : Bool) → bytes_eq arg (45 ∷ 45 ∷ []) ≡ b → bytes_eq arg (45 ∷ 45 ∷ []) ≡ false
@@ -167,8 +154,7 @@ not_dashes arg p e = go (bytes_eq arg (45 ∷ 45 ∷ [])) refl
 
 -- an argument `--name=TEXT` in the walk
 joined_met : (names : List Text) (h : Held) (arg name text : Text) →
-    long_of arg ≡ Some (name, Some text) → is_among names name ≡ true →
-    word_met (opts names) [] false idle 1 arg h
+    long_of arg ≡ Some (name, Some text) → is_among names name ≡ true → word_met (opts names) [] false idle 1 arg h
     ≡ (reacted (opts names) (opt name) (text ∷ []) h, next idle)
 joined_met names h arg name text long among =
     ap (λ (b : Bool). if b then (h, trailing 1)
@@ -181,14 +167,12 @@ joined_met names h arg name text long among =
 
 joined_passes : (command : Text) (names : List Text) (h : Held) (given : Given)
     (arg name text : Text) → long_of arg ≡ Some (name, Some text) → is_among names name ≡ true →
-    IsHeld names h given → has_name name given ≡ false →
-    word_passes (shape command names) [] false idle arg h ≡ true
+    IsHeld names h given → has_name name given ≡ false → word_passes (shape command names) [] false idle arg h ≡ true
 joined_passes command names h given arg name text long among held fresh =
     ap (λ (b : Bool). b || flag_word_passes (opts names) false (long_of arg) arg h)
     (not_dashes arg (name, Some text) long)
     ∙ ap (λ (p : Option (Text × Option Text)). flag_word_passes (opts names) false p arg h) long
-    ∙ ap (λ (a : Option Rule). long_passes (opts names) false a (Some text) h)
-    (by_long names name among)
+    ∙ ap (λ (a : Option Rule). long_passes (opts names) false a (Some text) h) (by_long names name among)
     ∙ ap (λ (b : Bool). b && use_passes false (opt name) (text ∷ []) (settled (opts names) h).rows)
     held.passes
     ∙ ap (λ (rs : List Row). use_passes false (opt name) (text ∷ []) rs) held.rows
@@ -242,14 +226,12 @@ parted_passes : (command : Text) (names : List Text) (h : Held) (given : Given) 
     long_of arg ≡ Some (name, None) → is_among names name ≡ true →
     IsHeld names h given → word_passes (shape command names) [] false idle arg h ≡ true
 parted_passes command names h given arg name long among held =
-    ap (λ (b : Bool). b || flag_word_passes (opts names) false (long_of arg) arg h)
-    (not_dashes arg (name, None) long)
+    ap (λ (b : Bool). b || flag_word_passes (opts names) false (long_of arg) arg h) (not_dashes arg (name, None) long)
     ∙ ap (λ (p : Option (Text × Option Text)). flag_word_passes (opts names) false p arg h) long
     ∙ ap (λ (a : Option Rule). long_passes (opts names) false a None h) (by_long names name among)
     ∙ held.passes
 
-text_met : (names : List Text) (h : Held) (name text : Text) → IsPlain text →
-    is_among names name ≡ true →
+text_met : (names : List Text) (h : Held) (name text : Text) → IsPlain text → is_among names name ≡ true →
     word_met (opts names) [] false (option name) 1 text (waiting_for names name h)
     ≡ (pushed name text (waiting_for names name h), next idle)
 text_met names h name text plain among =
@@ -279,10 +261,8 @@ text_passes command names h name text plain =
 
 -- one option `--name TEXT`
 pub parted_walks : (command : Text) (names : List Text) (h : Held) (given : Given)
-    (arg name text : Text) → long_of arg ≡ Some (name, None) → is_among names name ≡ true →
-    IsPlain text →
-    IsHeld names h given → Walks command names h (pushed name text (waiting_for names name h))
-    (arg ∷ text ∷ [])
+    (arg name text : Text) → long_of arg ≡ Some (name, None) → is_among names name ≡ true → IsPlain text →
+    IsHeld names h given → Walks command names h (pushed name text (waiting_for names name h)) (arg ∷ text ∷ [])
 unfolding walked walk_passes
 parted_walks command names h given arg name text long among plain held =
     let mid : Walk = record (walk_from (waiting_for names name h)) { waiting = option name } in
@@ -311,8 +291,7 @@ pub parted_held : (names : List Text) (h : Held) (given : Given) (name text : Te
     is_among names name ≡ true → IsHeld names h given → has_name name given ≡ false →
     IsHeld names (pushed name text (waiting_for names name h)) (given ++ (name, text) ∷ [])
 parted_held names h given name text among held fresh = record {
-  rows = ap (λ (a : Option Rule). used_by_id a (text ∷ []) (settled (opts names) h).rows)
-      (by_id names name among)
+  rows = ap (λ (a : Option Rule). used_by_id a (text ∷ []) (settled (opts names) h).rows) (by_id names name among)
       ∙ ap (λ (rs : List Row). used (opt name) (text ∷ []) rs) held.rows
       ∙ used_new name text given fresh;
   passes = ap (λ (a : Option Rule). option_map_or
@@ -334,8 +313,7 @@ pub record IsAdded (rows : List OptionEntry) (name text : Text) (before after : 
 allowed_among : (rows : List OptionEntry) (name text : Text) → is_allowed rows name text ≡ true →
     is_among (names_in rows) name ≡ true
 allowed_among [] name text e = search rules
-allowed_among (row ∷ rows) name text e = go (bytes_eq row.name name) e
-    (allowed_among rows name text)
+allowed_among (row ∷ rows) name text e = go (bytes_eq row.name name) e (allowed_among rows name text)
   where
     go : (b : Bool) → option_map_or (λ r. is_some (value_in r.form text))
         (if b then Some row else find (λ r. bytes_eq r.name name) rows) false ≡ true →
@@ -346,8 +324,7 @@ allowed_among (row ∷ rows) name text e = go (bytes_eq row.name name) e
 
 pub is_added : (rows : List OptionEntry) (name text : Text) (before after : Given) →
     added rows name text before ≡ Some after → IsAdded rows name text before after
-is_added rows name text before after e = go (is_allowed rows name text)
-    (has_name name before) refl refl e
+is_added rows name text before after e = go (is_allowed rows name text) (has_name name before) refl refl e
   where
     go : (a b : Bool) → is_allowed rows name text ≡ a → has_name name before ≡ b →
         (if a && not b then Some (before ++ (name, text) ∷ []) else None) ≡ Some after →
@@ -367,8 +344,7 @@ Leads command names h args given = (after : Held) × Walks command names h after
     × IsHeld names after given
 
 lead_joined : (command : Text) (rows : List OptionEntry) (h : Held) (before onward : Given)
-    (arg name text : Text) → long_of arg ≡ Some (name, Some text) →
-    added rows name text before ≡ Some onward →
+    (arg name text : Text) → long_of arg ≡ Some (name, Some text) → added rows name text before ≡ Some onward →
     IsHeld (names_in rows) h before → Leads command (names_in rows) h (arg ∷ []) onward
 lead_joined command rows h before onward arg name text long e held =
     let a = is_added rows name text before onward e in (
@@ -379,8 +355,7 @@ lead_joined command rows h before onward arg name text long e held =
     )
 
 lead_parted : (command : Text) (rows : List OptionEntry) (h : Held) (before onward : Given)
-    (arg name text : Text) → long_of arg ≡ Some (name, None) →
-    added rows name text before ≡ Some onward →
+    (arg name text : Text) → long_of arg ≡ Some (name, None) → added rows name text before ≡ Some onward →
     IsHeld (names_in rows) h before → Leads command (names_in rows) h (arg ∷ text ∷ []) onward
 lead_parted command rows h before onward arg name text long e held =
     let a = is_added rows name text before onward e in (
@@ -408,8 +383,7 @@ after_one command rows h arg args onward given first more =
     )
 
 after_two : (command : Text) (rows : List OptionEntry) (h : Held) (arg text : Text)
-    (args : List Text) (onward given : Given) →
-    Leads command (names_in rows) h (arg ∷ text ∷ []) onward →
+    (args : List Text) (onward given : Given) → Leads command (names_in rows) h (arg ∷ text ∷ []) onward →
     ((mid : Held) → IsHeld (names_in rows) mid onward →
     Leads command (names_in rows) mid args given) →
     Leads command (names_in rows) h (arg ∷ text ∷ args) given
@@ -440,8 +414,7 @@ args_lead command rows (arg ∷ []) h before given held e = go (long_of arg) ref
     go (Some (name, Some text)) long is = lead_joined command rows h before given arg name text
         long is held
 args_lead command rows (arg ∷ text ∷ args) h before given held e =
-    go (long_of arg) refl e (λ onward mid held2 e2. args_lead command rows
-    (text ∷ args) mid onward given held2 e2)
+    go (long_of arg) refl e (λ onward mid held2 e2. args_lead command rows (text ∷ args) mid onward given held2 e2)
     (λ onward mid held2 e2. args_lead command rows args mid onward given held2 e2)
   where
     on_joined : (name value : Text) → long_of arg ≡ Some (name, Some value) →
@@ -455,8 +428,7 @@ args_lead command rows (arg ∷ text ∷ args) h before given held e =
         sym (none_stays rows (text ∷ args)) ∙ rest in search rules
     on_joined name value long (Some onward) is rest more =
         after_one command rows h arg (text ∷ args) onward given
-        (lead_joined command rows h before onward arg name value long is held)
-        (λ mid held2. more onward mid held2 rest)
+        (lead_joined command rows h before onward arg name value long is held) (λ mid held2. more onward mid held2 rest)
 
     on_parted : (name : Text) → long_of arg ≡ Some (name, None) → (onward : Option Given) →
         added rows name text before ≡ onward → given_after rows onward args ≡ Some given →
@@ -468,8 +440,7 @@ args_lead command rows (arg ∷ text ∷ args) h before given held e =
         sym (none_stays rows args) ∙ rest in search rules
     on_parted name long (Some onward) is rest more =
         after_two command rows h arg text args onward given
-        (lead_parted command rows h before onward arg name text long is held)
-        (λ mid held2. more onward mid held2 rest)
+        (lead_parted command rows h before onward arg name text long is held) (λ mid held2. more onward mid held2 rest)
 
     go : (p : Option (Text × Option Text)) → long_of arg ≡ p →
         (if is_joined p then given_after rows (option_and_then (option_joined rows p) (Some before))
@@ -486,8 +457,7 @@ args_lead command rows (arg ∷ text ∷ args) h before given held e =
         search rules
     go (Some (name, Some value)) long is first second =
         on_joined name value long (added rows name value before) refl is first
-    go (Some (name, None)) long is first second =
-        on_parted name long (added rows name text before) refl is second
+    go (Some (name, None)) long is first second = on_parted name long (added rows name text before) refl is second
 
 -- ---- the parse
 
@@ -504,10 +474,8 @@ none_required : (names : List Text) (found : List Row) →
 none_required [] found = refl
 none_required (n ∷ names) found = none_required names found
 
-valid : (command : Text) (names : List Text) (found : List Row) →
-    is_valid (shape command names) found false ≡ true
-valid command names found = ap₂ (λ (a b : Bool). a && b) (all_free names)
-    (none_required names found)
+valid : (command : Text) (names : List Text) (found : List Row) → is_valid (shape command names) found false ≡ true
+valid command names found = ap₂ (λ (a b : Bool). a && b) (all_free names) (none_required names found)
 
 default_same : (n : Text) (found : List Row) → with_default found (opt n) ≡ found
 default_same n found = go (has_row n found)
@@ -516,8 +484,7 @@ default_same n found = go (has_row n found)
     go true = refl
     go false = refl
 
-defaults_same : (names : List Text) (found : List Row) →
-    fold with_default found (opts names) ≡ found
+defaults_same : (names : List Text) (found : List Row) → fold with_default found (opts names) ≡ found
 defaults_same [] found = refl
 defaults_same (n ∷ names) found = ap (λ (rs : List Row). fold with_default rs (opts names))
     (default_same n found) ∙ defaults_same names found
@@ -536,11 +503,9 @@ pub args_read : (command : Text) (rows : List OptionEntry) (args : List Text) (g
     given_after rows (Some []) args ≡ Some given → Reads command rows args given
 unfolding walk_passes
 args_read command rows args given e =
-    let led = args_lead command rows args nothing_held [] given
-    (held_nothing (names_in rows)) e in
+    let led = args_lead command rows args nothing_held [] given (held_nothing (names_in rows)) e in
     let after = led.0 in
-    let walked_is : walk (opts (names_in rows)) [] nothing_held args ≡ walk_from after =
-    led.1.walked in
+    let walked_is : walk (opts (names_in rows)) [] nothing_held args ≡ walk_from after = led.1.walked in
     let pass : walk_passes (shape command (names_in rows)) [] (walk_from nothing_held) args
     ≡ true =
     ap (λ (ws : List Text). walk_passes (shape command (names_in rows)) []
@@ -552,15 +517,12 @@ args_read command rows args given e =
           (walk (opts (names_in rows)) [] nothing_held args).held
           && (list_all default_passes (opts (names_in rows))
           && is_valid (shape command (names_in rows))
-          (finished (opts (names_in rows))
-          (walk (opts (names_in rows)) [] nothing_held args).held) false))) pass
+          (finished (opts (names_in rows)) (walk (opts (names_in rows)) [] nothing_held args).held) false))) pass
           ∙ ap (λ (w : Walk). settle_passes (opts (names_in rows)) false w.held
           && (list_all default_passes (opts (names_in rows))
-          && is_valid (shape command (names_in rows))
-          (finished (opts (names_in rows)) w.held) false)) walked_is
+          && is_valid (shape command (names_in rows)) (finished (opts (names_in rows)) w.held) false)) walked_is
           ∙ ap (λ (b : Bool). b && (list_all default_passes (opts (names_in rows))
-          && is_valid (shape command (names_in rows))
-          (finished (opts (names_in rows)) after) false)) led.2.passes
+          && is_valid (shape command (names_in rows)) (finished (opts (names_in rows)) after) false)) led.2.passes
           ∙ ap₂ (λ (a b : Bool). a && b) (defaults_pass (names_in rows))
           (valid command (names_in rows) (finished (opts (names_in rows)) after));
       found = ap (λ (w : Walk). finished (opts (names_in rows)) w.held) walked_is
@@ -573,8 +535,7 @@ pub takes_args : (a : App) (command : Text) (rows : List OptionEntry) (args : Li
     given_after rows (Some []) args ≡ Some given → takes a args ≡ true
 takes_args a command rows args given simple bare build e =
     let r = args_read command rows args given e in
-    ap₂ (λ (b c : Bool). b && built_takes (built a) nothing_held
-    (if c then args else drop 1 args)) simple bare
+    ap₂ (λ (b c : Bool). b && built_takes (built a) nothing_held (if c then args else drop 1 args)) simple bare
     ∙ ap (λ (x : App). built_takes x nothing_held args) build
     ∙ ap (λ (stop : Option (Text × List Text)). entered_passes
     (record { top = shape command (names_in rows); subs = [] }) stop
@@ -589,19 +550,16 @@ pub finds_args : (a : App) (command : Text) (rows : List OptionEntry) (args : Li
     given_after rows (Some []) args ≡ Some given → matches_of a args ≡ found_rows given
 finds_args a command rows args given bare build e =
     let r = args_read command rows args given e in
-    ap (λ (c : Bool). rows_after (built a).top.rules (names_of (built a))
-    (if c then args else drop 1 args)) bare
+    ap (λ (c : Bool). rows_after (built a).top.rules (names_of (built a)) (if c then args else drop 1 args)) bare
     ∙ ap (λ (x : App). rows_after x.top.rules (names_of x) args) build ∙ r.found
 
 -- ---- values
 
-now_of : (xs : List (Bor Text)) → option_map (λ s. s.now) (slice_get xs 0)
-    ≡ slice_get (map (λ s. s.now) xs) 0
+now_of : (xs : List (Bor Text)) → option_map (λ s. s.now) (slice_get xs 0) ≡ slice_get (map (λ s. s.now) xs) 0
 now_of [] = refl
 now_of (x ∷ xs) = refl
 
-first_in : (es : List Entry) (id : Text) → option_and_then
-    (λ a. option_map (λ s. s.now) (slice_get a.vals.items 0))
+first_in : (es : List Entry) (id : Text) → option_and_then (λ a. option_map (λ s. s.now) (slice_get a.vals.items 0))
     (option_map (λ e. e.1) (find (λ e. bytes_eq e.0.now id) es))
     ≡ option_and_then (λ r. slice_get r.values 0) (find (λ r. bytes_eq r.id id) (map row_of es))
 first_in [] id = refl
@@ -609,8 +567,7 @@ first_in (e ∷ es) id = go (bytes_eq e.0.now id) (first_in es id)
   where
     go : (b : Bool) → option_and_then (λ a. option_map (λ s. s.now) (slice_get a.vals.items 0))
         (option_map (λ e. e.1) (find (λ e. bytes_eq e.0.now id) es))
-        ≡ option_and_then (λ r. slice_get r.values 0)
-        (find (λ r. bytes_eq r.id id) (map row_of es)) →
+        ≡ option_and_then (λ r. slice_get r.values 0) (find (λ r. bytes_eq r.id id) (map row_of es)) →
         option_and_then (λ a. option_map (λ s. s.now) (slice_get a.vals.items 0))
         (option_map (λ e. e.1) (if b then Some e else find (λ e. bytes_eq e.0.now id) es))
         ≡ option_and_then (λ r. slice_get r.values 0)

@@ -78,8 +78,7 @@ frames_agree kind bits repeats (suc n) softs symbols e room room' =
     ∙ correlation-append front here sent_front (sent s repeats here') (front_long ∙ sym sent_long)
     ∙ ap (λ (z : ℤ). z +ℤ correlation here (sent s repeats here')) rest
     ∙ ap (λ (z : ℤ). correlation gathered_front front' +ℤ z) (agreement-gathered kind repeats here here' long long')
-    ∙ sym
-    (correlation-append gathered_front (gathered s repeats here) front' here' (gathered_long ∙ sym front_long'))
+    ∙ sym (correlation-append gathered_front (gathered s repeats here) front' here' (gathered_long ∙ sym front_long'))
     ∙ ap (λ (xs : List ℤ). correlation xs (front' ++ here')) (sym (flat_map-next gathered_frame n))
     ∙ ap (correlation (gathered_span c (suc n) softs)) (sym (take-frames symbols (2 * bits) n))
 

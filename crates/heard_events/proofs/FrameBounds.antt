@@ -16,12 +16,10 @@ module _ (t : Tuning) (traffic : Traffic) (m : Mark) (legs : ℕ → List Leg) w
 
   module _ (close : AreCloseAll t legs) where
     pub known_low : (k : ℕ) → traffic_start traffic m k + 24576 ≤ frame_known t traffic m legs k + 226
-    known_low k =
-        (close_ends (traffic_start traffic m k) (all_fingers t.phase t.deltas (legs k)) (close k)).0
+    known_low k = (close_ends (traffic_start traffic m k) (all_fingers t.phase t.deltas (legs k)) (close k)).0
 
     pub known_high : (k : ℕ) → frame_known t traffic m legs k ≤ traffic_start traffic m k + 24576 + 226
-    known_high k =
-        (close_ends (traffic_start traffic m k) (all_fingers t.phase t.deltas (legs k)) (close k)).1
+    known_high k = (close_ends (traffic_start traffic m k) (all_fingers t.phase t.deltas (legs k)) (close k)).1
 
     -- a later frame ends later
     pub known_later : (j k : ℕ) → j < k → frame_known t traffic m legs j < frame_known t traffic m legs k

@@ -74,8 +74,7 @@ module _ (t : Tuning) (low : ℕ) (timed : IsSyncTimed t low) where
       AreKnown (sync_frames t) next (length heard) → AreLater (sync_frames t) next end →
       GoesOn (sync_events_at t) (λ xs. sync_events_left t xs next) heard end
   unfolding sync_events_at sync_events_left
-  sync_goes next =
-      things_go (sync_frames t) next (λ xs n. flat_map (λ k. events_of n (heard_at t xs k))) (λ xs n. refl)
+  sync_goes next = things_go (sync_frames t) next (λ xs n. flat_map (λ k. events_of n (heard_at t xs k))) (λ xs n. refl)
 
   -- before any sample is taken no frame is known
   pub none_known : AreLater (sync_frames t) 0 1

@@ -88,8 +88,7 @@ module _ (t : Tuning) (channel : ℕ) (m : Mark) where
   -- where no frame is known just now, there is no message
   pub pages_none : (xs : List Sample) (n : ℕ) → NoneNow (page_frames t channel m) n → pages_at t channel m xs n ≡ []
   unfolding pages_at
-  pages_none xs n none =
-      ap (flat_map (λ k. pages_from t channel m xs k 0)) (none_now frames n none)
+  pages_none xs n none = ap (flat_map (λ k. pages_from t channel m xs k 0)) (none_now frames n none)
 
   module _ (low : ℕ) (timed : IsTimed t.count (paging_stream t channel m) low) where
     ordered : AreOrdered (page_frames t channel m)
@@ -123,8 +122,7 @@ module _ (t : Tuning) (channel : ℕ) (m : Mark) where
 
     pub pages_sooner : StaysWithin (pages_at t channel m)
     unfolding pages_at
-    pages_sooner =
-        stays_now frames (λ xs n k. pages_from t channel m xs k 0) (λ n. pages_from_sooner 0)
+    pages_sooner = stays_now frames (λ xs n k. pages_from t channel m xs k 0) (λ n. pages_from_sooner 0)
 
     -- The messages of a frame that is known just now are the first of those left: it is the first
     -- frame left, they begin at the place asked for, and each later frame gives all of its own.

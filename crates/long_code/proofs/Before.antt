@@ -110,8 +110,7 @@ binary-before s n =
     rw (before_is s n) (rw (long_before s n) at (binary-number_from 0 (reverse (times_x n above (lowest_first s)))))
 
 pub before_lt : (s n : ℕ) → before s n < 2 ^ 42
-before_lt s n =
-    rw (before_is s n) (rw (long_before s n) at (number_lt (reverse (times_x n above (lowest_first s)))))
+before_lt s n = rw (before_is s n) (rw (long_before s n) at (number_lt (reverse (times_x n above (lowest_first s)))))
 
 -- n chips earlier, and then n chips later
 pub after-before : (s n : ℕ) → s < 2 ^ 42 → after (before s n) n ≡ s

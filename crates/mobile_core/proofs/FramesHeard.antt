@@ -192,8 +192,7 @@ module _ {t : Tuning} {traffic : Traffic} {m : Mark} {r : SoftHandoff} {heard : 
     long = length-append heard more
 
     goes : GoesOn (λ xs n. told_at t traffic m legs (take n xs) n) left_of heard (length heard + length more)
-    goes =
-        told_go (none_come r sound none) (none_kept r none) (length heard + length more) ends (omega (arith, early))
+    goes = told_go (none_come r sound none) (none_kept r none) (length heard + length more) ends (omega (arith, early))
 
     -- what is heard with the last sample is what is left
     last_told : told_by t traffic m legs samples taken ≡ later ++ left_of samples

@@ -184,10 +184,7 @@ bit_first size l bits sci b large laid =
     spelled_so : (sci : Bool) (n : ℕ) → length l.body ≡ size * n →
         flat_map (laying.half_frame size l.starts l.body) (places n) ++ (sci ∷ b ∷ [])
         ≡ laying.framed size
-        (record {
-          body = l.body ++ b ∷ [];
-          starts = if sci then l.starts ++ length l.body / size ∷ [] else l.starts;
-        })
+        (record { body = l.body ++ b ∷ []; starts = if sci then l.starts ++ length l.body / size ∷ [] else l.starts })
     spelled_so true n long =
         let own : length l.body / size ≡ n = ap (λ (k : ℕ). k / size) (omega (arith, long))
         ∙ div-mul-add n size 0 (omega (arith, large)) in

@@ -28,8 +28,7 @@ not_fresh views id v at held is =
 lie_set : (word new ceiling id : ℕ) (views : List View) (w : View) → word ≤ new → new ≤ ceiling →
     AllLie word ceiling views → w.fresh ≡ false → Lies new ceiling w → AllLie new ceiling (set views id w)
 lie_set word new ceiling id views w up low all old mine j u e =
-    ⊎_elim
-    (λ (t : (j ≡ id) × (w ≡ u)). subst (λ (v : View). (v.fresh ≡ false) × Lies new ceiling v) t.1 (old, mine))
+    ⊎_elim (λ (t : (j ≡ id) × (w ≡ u)). subst (λ (v : View). (v.fresh ≡ false) × Lies new ceiling v) t.1 (old, mine))
     (λ (t : (j ≢ id) × (get_elem? views j ≡ some u)). let o = all j u t.1 in
     (o.0, λ held. let l = o.1 held in (omega arith, omega arith, l.2)))
     (at_set views id j w u e)

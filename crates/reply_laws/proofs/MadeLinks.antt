@@ -58,8 +58,7 @@ all_made_fit width plan loud =
 
 -- ---- the file
 
-made_spelled : (width : Width) (plan : CellPlan) →
-    made_file width plan ≡
+made_spelled : (width : Width) (plan : CellPlan) → made_file width plan ≡
     header_spelling (header_of width plan) ++ flat_map (sample_spelling width) (made_samples plan)
 unfolding made_file
 made_spelled width plan = refl
@@ -85,8 +84,7 @@ lawful_readable width plan lawful =
 
 -- the file that is made of a script is a sample file of the cell's samples
 pub made_readable : laws.IsReadableWhenMade
-made_readable width script plan named =
-    lawful_readable width plan (named_plan width script plan named).0
+made_readable width script plan named = lawful_readable width plan (named_plan width script plan named).0
 
 -- samples and flags of a cell whose path the search finds are a file of the cell, with one finger
 cell_file : {width : Width} {script : List ℕ} {plan : CellPlan} {span : ℕ} {header : Header}
@@ -150,8 +148,7 @@ cell_files width script plan span header samples loud sent long short =
     cell_file loud.named (found loud) sent long short
 
 -- what `make` writes of the script
-made_cell : {width : Width} {script : List ℕ} {plan : CellPlan} {span : ℕ} →
-    HasLouderPilot width script plan span →
+made_cell : {width : Width} {script : List ℕ} {plan : CellPlan} {span : ℕ} → HasLouderPilot width script plan span →
     IsCellFile width script plan span 1 (header_of width plan) (made_samples plan)
 made_cell {width} {script} {plan} {span} loud =
     cell_files width script plan span (header_of width plan) (made_samples plan) loud refl refl refl
@@ -178,8 +175,7 @@ louder_follow workers paging traffic limits one forms script width plan span rep
     let clean = clean_links width script plan span paging traffic loud follows none in
     let t = tuning_for (settings_for header 1 paging traffic) (take span samples) in
     one_reply forms (jobs.Follow span workers 1 paging traffic limits) (made_file width plan) reply _ required
-    (follow_writes forms span workers 1 paging traffic limits (made_file width plan) header samples file
-    (enough loud))
+    (follow_writes forms span workers 1 paging traffic limits (made_file width plan) header samples file (enough loud))
     ∙ ap (λ (end : Status). Ok (run_text (kept_by limits forms) (events t samples), end))
     (end_is 1 paging traffic (cell_borne clean.file file.counted))
     ∙ ap (λ (es : List Event). Ok (run_text (kept_by limits forms) es, clean_end plan))

@@ -68,11 +68,9 @@ spells width (suc n) bytes small long =
 
 -- ---- each input has a reply
 
-faulty : {taps : List KeptTap} {job : Job} {bytes : List ℕ} (fault : FileFault) →
-    IsFaultIn (span_of job) bytes fault →
+faulty : {taps : List KeptTap} {job : Job} {bytes : List ℕ} (fault : FileFault) → IsFaultIn (span_of job) bytes fault →
     (reply : Reply) × IsFileReply taps job bytes reply
-faulty fault is =
-    (Err (Status.BadFile fault), record { fault = fault; is = is; end_is = refl })
+faulty fault is = (Err (Status.BadFile fault), record { fault = fault; is = is; end_is = refl })
 
 opened_required : (taps : List KeptTap) (job : Job) (bytes : List ℕ) (header : Header) →
     AreBytes bytes → opening bytes ≡ Ok header → (reply : Reply) × IsFileReply taps job bytes reply
@@ -120,8 +118,7 @@ script_required width bytes (Err fault) is =
 
 pub each_required : EachInputHasAReply
 each_required forms (jobs.Make width) bytes small = script_required width bytes (plan_named width bytes) refl
-each_required forms (jobs.Trial number workers) bytes small =
-    (Ok (trial_line number, Status.Done), refl)
+each_required forms (jobs.Trial number workers) bytes small = (Ok (trial_line number, Status.Done), refl)
 each_required forms job bytes small =
     file_required (taps_for job forms) job bytes (opening bytes) (AreBytes-from_all bytes small) refl
 
@@ -150,8 +147,7 @@ workers_change_nothing forms job n bytes reply required = shared _ job n bytes r
 
 pub find_writes : FindWritesThePilot
 unfolding file_text file_end_of told best_pilot
-find_writes forms span workers bytes header samples file enough =
-    whole_file file enough
+find_writes forms span workers bytes header samples file enough = whole_file file enough
 
 pub follow_writes : FollowWritesTheEvents
 unfolding file_text file_end_of told
@@ -171,8 +167,7 @@ idle_writes span workers fingers paging key cycle forms bytes header samples fil
 
 pub survey_writes : SurveyWritesTheRanks
 unfolding file_text file_end_of told
-survey_writes forms span workers base width top bytes header samples file enough =
-    whole_file file enough
+survey_writes forms span workers base width top bytes header samples file enough = whole_file file enough
 
 pub make_writes : MakeWritesTheFile
 make_writes forms width bytes plan is = record { plan = plan; named = is; text_is = refl; end_is = refl }

@@ -86,8 +86,7 @@ all_lines plan p Has Is have (Some superframes) text sent = record {
 -- and those of a channel that bears the noise of a file
 pub borne_signs : {e : ℕ} {width : Width} {plan : CellPlan} {p : TrafficPlan} {span fingers : ℕ}
     {header : Header} (samples : List Sample) → IsBorneFile e width plan span fingers header samples →
-    Contains plan.traffic p → Bears plan p.gain e →
-    (frame : ℕ) → TrafficFrameHasSigns plan p samples frame
+    Contains plan.traffic p → Bears plan p.gain e → (frame : ℕ) → TrafficFrameHasSigns plan p samples frame
 borne_signs {e} {plan = plan} {p} samples file has bears =
     near_frame (traffic_carrier plan p) Data e samples file.near.receivable (traffic_sent plan p has)
     file.near.near bears
@@ -125,8 +124,7 @@ listed_of k soft = listed_text k soft.end soft.descrambled soft.power
 
 -- the line of one that comes back
 listed_back : (k : ℕ) → 1 ≤ k → (plan : CellPlan) (p : TrafficPlan) (frame : ℕ) (f : SetOneFrame)
-    (soft : SoftFrame) → IsSetOneFrame f →
-    IsReceivedBySigns plan p frame (codeword_symbols f) f.power_bits soft →
+    (soft : SoftFrame) → IsSetOneFrame f → IsReceivedBySigns plan p frame (codeword_symbols f) f.power_bits soft →
     IsSentLine plan p frame f (listed_of k soft)
 listed_back k most plan p frame f soft sized received =
     let few = (power_pairs (sent_frame_state (frames_of plan p) frame) (traffic_mask p.esn)).long in
@@ -169,8 +167,7 @@ of_any_score place f score other power_bits = refl
 
 -- the line of one that comes back
 line_back : (plan : CellPlan) (p : TrafficPlan) (frame : ℕ) (f : SetTwoFrame)
-    (soft : SoftFrame) → IsSentFrame2BySigns plan p frame f soft →
-    IsSentLine2 plan p frame f (rate2_of soft)
+    (soft : SoftFrame) → IsSentFrame2BySigns plan p frame f soft → IsSentLine2 plan p frame f (rate2_of soft)
 line_back plan p frame f soft sent =
     let decoded = decoded2 (replaced_of plan p frame) soft.descrambled in
     let ends = frame_ends plan p frame in
@@ -207,8 +204,7 @@ pub set_two_lines : SetTwoLinesComeBack
 set_two_lines =
     signed_lines RateSetTwo rate2_of (λ check m frames. rate2_texts check m [] frames) SendsSetTwo
     IsLineOfSetTwo IsSent2 set_two_after_mark
-    (λ width plan p frame soft is has some sent.
-    (sent.0, sent.1, line_back plan p frame sent.0 soft sent.2))
+    (λ width plan p frame soft is has some sent. (sent.0, sent.1, line_back plan p frame sent.0 soft sent.2))
 
 -- ---- one codeword of each rate
 
@@ -226,8 +222,7 @@ one_frame t traffic m samples slot k =
 
 -- of those that end within these samples
 each_frame : (t : Tuning) (traffic : Traffic) (m : Mark) (samples : List Sample) →
-    text_from (Listed 1) t (traffic_channel traffic) m samples ≡
-    flat_map (followed_frame_line t traffic m samples)
+    text_from (Listed 1) t (traffic_channel traffic) m samples ≡ flat_map (followed_frame_line t traffic m samples)
     (soft_frames t (traffic_channel traffic) m samples)
 unfolding frames_within
 each_frame t traffic m samples =
@@ -237,8 +232,7 @@ each_frame t traffic m samples =
     let within : List ℕ = known_by t.count stream n (paging_bound n) in
     listed_texts t.check30 m [] (soft_frames t (traffic_channel traffic) m samples) 1
     ∙ flat_map-map (listed_of 1) soft within
-    ∙ flat_map_ext_filter
-    (λ k. is_in_file t.count stream k && nat_le (known_at t.count stream k) n)
+    ∙ flat_map_ext_filter (λ k. is_in_file t.count stream k && nat_le (known_at t.count stream k) n)
     (λ k. listed_of 1 (soft k)) (λ k. followed_frame_line t traffic m samples (soft k))
     (places (paging_bound n)) (λ k kept. one_frame t traffic m samples [] k)
     ∙ sym (flat_map-map (followed_frame_line t traffic m samples) soft within)
@@ -246,6 +240,5 @@ each_frame t traffic m samples =
 pub one_codeword_follows : OneCodewordFollows
 unfolding tuned_text
 one_codeword_follows t traffic m samples set =
-    ap
-    (λ (last : Option Mark). text_if_marked (Listed 1) t (traffic_channel traffic) samples last) set
+    ap (λ (last : Option Mark). text_if_marked (Listed 1) t (traffic_channel traffic) samples last) set
     ∙ each_frame t traffic m samples

@@ -17,8 +17,7 @@ use Rattle.command_line.specs.declared.job.Job.TheVariants as jobs
 -- ---- how a run ends
 
 -- a mark is set just where it is told
-set_at : (plan : CellPlan) (set : Option Mark) (at : Option ℕ) → MarkIsAt plan set at →
-    is_some set ≡ is_some at
+set_at : (plan : CellPlan) (set : Option Mark) (at : Option ℕ) → MarkIsAt plan set at → is_some set ≡ is_some at
 set_at plan None at none = ap (λ (o : Option ℕ). is_some o) (sym none)
 set_at plan (Some m) at (superframes, told, cell) = ap (λ (o : Option ℕ). is_some o) (sym told)
 
@@ -74,10 +73,8 @@ module _ {bytes : List ℕ} {width : Width} {plan : CellPlan} {span fingers : �
       }
 
   -- the mark of all samples
-  marked : (at : Option ℕ) → MarksAreAt plan samples at →
-      MarkIsAt plan (mark tuning samples (length samples)) at
-  marked at marks =
-      subst (λ (n : ℕ). MarkIsAt plan (mark tuning samples n) at) (sym file.long) (marks tuning on)
+  marked : (at : Option ℕ) → MarksAreAt plan samples at → MarkIsAt plan (mark tuning samples (length samples)) at
+  marked at marks = subst (λ (n : ℕ). MarkIsAt plan (mark tuning samples n) at) (sym file.long) (marks tuning on)
 
   end_at : (at : Option ℕ) → MarksAreAt plan samples at →
       end_when (is_some (mark tuning samples (length samples))) ≡ end_when (is_some at)
@@ -137,8 +134,7 @@ signed_replies : (job : ℕ → ℕ → ℕ → Traffic → Job) (form : TunedTe
 signed_replies job form asks Sends Is lines forms bytes width plan p span workers fingers traffic header
     samples reply at file marks has assigned sends required =
     subst
-    (IsReplyFrom plan p at
-    (λ frame line. TrafficFrameHasSigns plan p samples frame → Is plan p frame line))
+    (IsReplyFrom plan p at (λ frame line. TrafficFrameHasSigns plan p samples frame → Is plan p frame line))
     (one_reply forms (job span workers fingers traffic) bytes _ reply
     (asks span workers fingers traffic forms bytes header samples file.file file.enough) required) (
       lines width plan p (tuning file 1 None) traffic samples at file.receivable file.long
@@ -196,12 +192,10 @@ pub told_replies : (job : ℕ → ℕ → ℕ → Traffic → Job) (Sends : Traf
     {samples : List Sample} → IsSampleFile bytes header samples → span ≤ length samples →
     IsBorneFile e width plan span fingers header samples → Contains plan.traffic p →
     IsAssigned p traffic → Bears plan p.gain e → Sends p →
-    IsReply forms (job span workers fingers traffic) bytes reply →
-    IsSentReply plan p (Is plan p) reply
+    IsReply forms (job span workers fingers traffic) bytes reply → IsSentReply plan p (Is plan p) reply
 told_replies job Sends Is signed forms workers reply {bytes} {width = width} {plan} {p} {span} {fingers}
     {traffic} {header} {samples} file enough borne has assigned bears sends required =
-    sent_reply plan p (TrafficFrameHasSigns plan p samples) (Is plan p) reply
-    (borne_signs samples borne has bears)
+    sent_reply plan p (TrafficFrameHasSigns plan p samples) (Is plan p) reply (borne_signs samples borne has bears)
     (signed forms bytes width plan p span workers fingers traffic header samples reply _
     (borne_on_path file enough borne)
     (tells_the_mark width plan samples (signs fingers 1 None borne)) has assigned sends required)

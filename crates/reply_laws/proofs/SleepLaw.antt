@@ -47,13 +47,11 @@ module _ (samples : List Sample) (best : ℕ) (low : best < 32768) where
   -- So the second phase is one of the 65 round the best, and so is the third: next to the best one
   -- there is one that isn't the second.
   second_near : (one : ℕ) → near_place best one ≡ 32 → near_place best (next (one ∷ [])) ≤ 64
-  second_near one is =
-      next_near (one ∷ []) 31 (omega arith) (rw (not_at 31 one (omega arith) (omega (arith, is))) refl)
+  second_near one is = next_near (one ∷ []) 31 (omega arith) (rw (not_at 31 one (omega arith) (omega (arith, is))) refl)
 
   third_near : (one two : ℕ) → near_place best one ≡ 32 → near_place best (next (one ∷ two ∷ [])) ≤ 64
   third_near one two is =
-      let at_place = λ (place : ℕ) (few : place < 65) (not_one : place ≢ 32)
-      (not_two : place ≢ near_place best two).
+      let at_place = λ (place : ℕ) (few : place < 65) (not_one : place ≢ 32) (not_two : place ≢ near_place best two).
       next_near (one ∷ two ∷ []) place few
       (rw (not_at place one few (omega (arith, is, not_one)), not_at place two few not_two) refl) in
       elim (cases_lt (near_place best two) 32) [
@@ -72,8 +70,7 @@ near_one d h =
     let b : int_le d (pos 127) ≡ true = grind (arith, ints) in
     and_from (int_le (negsuc 127) d) (int_le d (pos 127)) a b
 
-near_all : (phase : ℕ) (deltas : List ℤ) → All IsPath deltas →
-    all_near (fingers_of 32 phase deltas) ≡ true
+near_all : (phase : ℕ) (deltas : List ℤ) → All IsPath deltas → all_near (fingers_of 32 phase deltas) ≡ true
 near_all phase [] h = refl
 near_all phase (d ∷ deltas) h =
     and_from (is_near d) (all_near (fingers_of 32 phase deltas))
@@ -84,8 +81,7 @@ abbrev AreFollowable : List ℤ → Type 0
 AreFollowable deltas = (phase : ℕ) → AreNear (fingers_of 32 phase deltas)
 
 -- the first of them at the best phase
-followed_first : (first : ℤ) (rest : List ℤ) → first ≡ pos 0 → All IsPath rest →
-    AreFollowable (first ∷ rest)
+followed_first : (first : ℤ) (rest : List ℤ) → first ≡ pos 0 → All IsPath rest → AreFollowable (first ∷ rest)
 followed_first first rest is h = rw is (λ phase. rw (near_all phase rest h) refl)
 
 module _ (samples : List Sample) where
@@ -109,8 +105,7 @@ module _ (samples : List Sample) where
 
   first_delta : delta first ≡ pos 0
   unfolding near_deltas first_places
-  first_delta =
-      ap (λ (deltas : List ℤ). get_or deltas 0 (pos 0)) (one_delta samples best (energy samples best) is_best)
+  first_delta = ap (λ (deltas : List ℤ). get_or deltas 0 (pos 0)) (one_delta samples best (energy samples best) is_best)
 
   first_place : near_place best first ≡ 32
   first_place = omega (arith, ints, first_delta)
@@ -165,18 +160,15 @@ fewer_agree one other few many less same =
 
 -- the text of a file whose slots are heard
 text_heard : (taps : List KeptTap) (span workers fingers number key cycle : ℕ) (header : Header)
-    (samples : List Sample) →
-    file_text taps (Idle span workers fingers number key cycle) header samples
-    ≡ tuned_text (Slots key cycle) (tuning_for (waiting header fingers) (take span samples))
-    (Paging number) samples
+    (samples : List Sample) → file_text taps (Idle span workers fingers number key cycle) header samples
+    ≡ tuned_text (Slots key cycle) (tuning_for (waiting header fingers) (take span samples)) (Paging number) samples
 unfolding file_text told
 text_heard taps span workers fingers number key cycle header samples = refl
 
 -- and its end
 end_heard : (span workers fingers number key cycle : ℕ) (header : Header) (samples : List Sample) →
     file_end_of (Idle span workers fingers number key cycle) header samples
-    ≡ end_when
-    (is_some (mark (tuning_for (waiting header fingers) (take span samples)) samples (length samples)))
+    ≡ end_when (is_some (mark (tuning_for (waiting header fingers) (take span samples)) samples (length samples)))
 unfolding file_end_of
 end_heard span workers fingers number key cycle header samples = refl
 

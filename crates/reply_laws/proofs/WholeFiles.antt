@@ -34,31 +34,23 @@ unfolding script_with_pilot plan_named stated_plan stated draft_after lines is_l
 scripts_named = (refl, refl)
 
 louder : HasLouderPilot Sixteen second_script second_cell 2048
-louder = record {
-  named = scripts_named.0;
-  louder = omega arith;
-  least = omega arith;
-  enough = omega arith;
-}
+louder = record { named = scripts_named.0; louder = omega arith; least = omega arith; enough = omega arith }
 
 receivable : IsReceivable Sixteen second_cell
 receivable = named_receivable Sixteen second_script second_cell scripts_named.0
 
 loud_receivable : IsReceivable Sixteen loud_cell
-loud_receivable =
-    named_receivable Sixteen (script_with_pilot (codes "2000")) loud_cell scripts_named.1
+loud_receivable = named_receivable Sixteen (script_with_pilot (codes "2000")) loud_cell scripts_named.1
 
 none_directed : (gain : ℕ) → All IsNotDirected (signaling_sent (second_with gain) None)
 unfolding signaling_sent
 none_directed gain = All-nil IsNotDirected
 
 abbrev ends_at : ℕ → ℕ → ℕ
-ends_at gain sending =
-    heard_after 32768 1228800 (sending_ends (second_with gain) (some_message 0) sending - 0)
+ends_at gain sending = heard_after 32768 1228800 (sending_ends (second_with gain) (some_message 0) sending - 0)
 
 whole_are : (gain : ℕ) → (whole_sendings (second_with gain) (some_message 0) ≡ 0 ∷ 1 ∷ 2 ∷ 3 ∷ [])
-    × (ends_at gain 0 ≡ 294848) × (ends_at gain 1 ≡ 589760) × (ends_at gain 2 ≡ 884672)
-    × (ends_at gain 3 ≡ 1179584)
+    × (ends_at gain 0 ≡ 294848) × (ends_at gain 1 ≡ 589760) × (ends_at gain 2 ≡ 884672) × (ends_at gain 3 ≡ 1179584)
 unfolding sync_capsule sync_body spelling capsule check_bits places binary
 whole_are gain = (refl, refl, refl, refl, refl)
 
@@ -98,8 +90,7 @@ module _ (forms limits : List ℕ) (workers : ℕ) where
         end_when (is_some (mark t xs (length xs))),
       ) in
       let is : IsReply forms job second_file found =
-      follow_writes forms 2048 workers 1 1 None limits second_file second_header xs (readable louder)
-      (enough louder) in
+      follow_writes forms 2048 workers 1 1 None limits second_file second_header xs (readable louder) (enough louder) in
       subst (IsReply forms job second_file) (only found is) is
 
 pub meets_each : MeetsEachPremise
@@ -144,8 +135,7 @@ noisy_file : (span : ℕ) → 16 ≤ span → span ≤ 737280 →
     IsNoisyFile 89 margin_bytes Sixteen cell span 1 (header_of Sixteen cell) file
 noisy_file span least long = record {
   file =
-      subst (λ (xs : List Sample). IsSampleFile margin_bytes (header_of Sixteen cell) xs)
-      (sym meets_premises.sent)
+      subst (λ (xs : List Sample). IsSampleFile margin_bytes (header_of Sixteen cell) xs) (sym meets_premises.sent)
       (lawful_readable Sixteen (cell_beside (Some (sync_with 1))) meets_premises.sender.lawful);
   enough =
       rw (

@@ -90,8 +90,7 @@ module _ {e : ℕ} {width : Width} {plan : CellPlan} {span : ℕ} {header : Head
           (sym (near-same samples (made_samples plan)
           (subst (λ (n : ℕ). IsNear n samples (made_samples plan)) none file.near.near)))
           (clean_signs width plan file.near.receivable)
-      by_channel (Some sync) sends bears =
-          near_sync samples file.near.receivable sends file.near.near bears
+      by_channel (Some sync) sends bears = near_sync samples file.near.receivable sends file.near.near bears
 
   -- so each whole transmission tells the time
   pub end_is : end_when (is_some (mark tuning samples (length samples))) ≡ clean_end plan

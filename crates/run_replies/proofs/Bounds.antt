@@ -9,16 +9,11 @@ use Rattle.run_replies.proofs.Common.{TakesNoMore, TakesSpan, file_end, most_tak
 
 at_most : {few most : ℕ} {rest left : Option (List ℕ)} → few ≤ most → ConsumesAtMost few rest left →
     ConsumesAtMost most rest left
-at_most is part = record {
-  bytes = part.bytes;
-  fits = omega (arith, part.fits, is);
-  consumed = part.consumed;
-}
+at_most is part = record { bytes = part.bytes; fits = omega (arith, part.fits, is); consumed = part.consumed }
 
 -- a part, and then another
 pub both_most : {one other most : ℕ} (rest mid left : Option (List ℕ)) →
-    ConsumesAtMost one rest mid → ConsumesAtMost other mid left → one + other ≤ most →
-    ConsumesAtMost most rest left
+    ConsumesAtMost one rest mid → ConsumesAtMost other mid left → one + other ≤ most → ConsumesAtMost most rest left
 both_most rest mid left first next fits = record {
   bytes = first.bytes ++ next.bytes;
   fits = omega (arith, first.fits, next.fits, fits, length-append first.bytes next.bytes);
@@ -26,11 +21,7 @@ both_most rest mid left first next fits = record {
 }
 
 pub none_most : (most : ℕ) (rest : Option (List ℕ)) → ConsumesAtMost most rest rest
-none_most most rest = record {
-  bytes = [];
-  fits = omega arith;
-  consumed = Consumes-nil rest;
-}
+none_most most rest = record { bytes = []; fits = omega arith; consumed = Consumes-nil rest }
 
 -- ---- a file
 
@@ -52,8 +43,7 @@ file_most header (Some bytes) left is part =
     part
 
 pub opened_as : (rest : Option (List ℕ)) (reading : Reading) →
-    IfSome rest (λ bytes. Opens (Ok reading) (opening bytes)) →
-    IfSome rest (λ bytes. opening bytes ≡ Ok reading.header)
+    IfSome rest (λ bytes. Opens (Ok reading) (opening bytes)) → IfSome rest (λ bytes. opening bytes ≡ Ok reading.header)
 opened_as None reading told = tt
 opened_as (Some bytes) reading told = told
 
@@ -70,20 +60,15 @@ header_part header rest mid consumed = record {
 pub span_most : (count : ℕ) (rest mid left : Option (List ℕ)) (reading : Reading) →
     IfSome rest (λ bytes. Opens (Ok reading) (opening bytes)) →
     Consumes rest mid (header_spelling reading.header) → reading.left ≡ reading.header.count →
-    ConsumesAtMost (sample_len (width_of reading.header) * min count reading.left) mid left →
-    TakesNoMore rest left
+    ConsumesAtMost (sample_len (width_of reading.header) * min count reading.left) mid left → TakesNoMore rest left
 span_most count rest mid left reading told consumed all part =
     let within : min count reading.left ≤ reading.header.count = omega (arith, all) in
     file_most reading.header rest left (opened_as rest reading told)
     (both_most rest mid left (header_part reading.header rest mid consumed) part
-    (omega (
-      arith,
-      sample_len-mono (width_of reading.header) (min count reading.left) reading.header.count within,
-    )))
+    (omega (arith, sample_len-mono (width_of reading.header) (min count reading.left) reading.header.count within)))
 
 -- the header and the first samples, and then some of the others
-first_part : (header : Header) (samples : List Sample) (rest mid : Option (List ℕ)) →
-    Consumes rest mid
+first_part : (header : Header) (samples : List Sample) (rest mid : Option (List ℕ)) → Consumes rest mid
     (header_spelling header ++ flat_map (sample_spelling (width_of header)) samples) →
     ConsumesAtMost (16 + sample_len (width_of header) * length samples) rest mid
 first_part header samples rest mid consumed = record {
@@ -100,8 +85,7 @@ first_part header samples rest mid consumed = record {
 pub shared_out : (width : Width) (one other all : ℕ) → other + one ≡ all →
     sample_len width * one + sample_len width * other ≡ sample_len width * all
 shared_out width one other all is =
-    let e : sample_len width * (other + one) ≡ sample_len width * all =
-    ap (λ (n : ℕ). sample_len width * n) is in
+    let e : sample_len width * (other + one) ≡ sample_len width * all = ap (λ (n : ℕ). sample_len width * n) is in
     omega (arith, e)
 
 pub rest_most : {span : ℕ} {header : Header} {samples : List Sample} {count : ℕ}
@@ -136,11 +120,7 @@ piece_most {header} left now room rest mid new same low fits passed part =
     let width = width_of header in
     passed_most rest mid new passed
     (subst (λ (h : Header). ConsumesAtMost (sample_len (width_of h) * room) mid new) same part)
-    (omega (
-      arith,
-      sample_len-mono width room now fits,
-      shared_out width (left - now) now left (omega (arith, low)),
-    ))
+    (omega (arith, sample_len-mono width room now fits, shared_out width (left - now) now left (omega (arith, low))))
 
 -- ---- a job that has read nothing
 

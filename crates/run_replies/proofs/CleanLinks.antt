@@ -37,8 +37,7 @@ module _ (width : Width) (script : List ℕ) (plan : CellPlan)
       ap (events tuning) clean.file.sent
       ∙ ap (λ (t : Tuning). events t (made_samples plan)) tuned_so
 
-  each_text : (taps : List KeptTap) →
-      file_text taps (Follow span workers fingers paging traffic limits) header samples
+  each_text : (taps : List KeptTap) → file_text taps (Follow span workers fingers paging traffic limits) header samples
       ≡ run_text taps heard
   unfolding file_text told
   each_text taps = ap (run_text taps) heard_is
@@ -57,8 +56,7 @@ module _ (width : Width) (script : List ℕ) (plan : CellPlan)
       ((reply : Reply) →
       IsFileReply taps (Follow span workers fingers paging traffic limits) bytes reply →
       (status ≡ NoMemory) ⊎ AnswersAfter held reply status written) →
-      (status ≡ NoMemory) ⊎
-      ((status ≡ clean_end plan) × WritesEach taps span plan paging traffic held written)
+      (status ≡ NoMemory) ⊎ ((status ≡ clean_end plan) × WritesEach taps span plan paging traffic held written)
   each_answer taps bytes held status written file enough exact =
       let text = file_text taps (Follow span workers fingers paging traffic limits) header samples in
       let end = file_end_of (Follow span workers fingers paging traffic limits) header samples in

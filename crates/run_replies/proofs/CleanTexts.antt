@@ -32,8 +32,7 @@ tuned width script plan span fingers paging traffic header samples clean free co
 -- and so it is tuned as the definition of a clean link has it
 pub tuned_to_cell : (width : Width) (script : List ℕ) (plan : CellPlan) (span fingers paging : ℕ)
     (traffic : Option Traffic) (header : Header) (samples : List Sample) →
-    IsCellFile width script plan span fingers header samples →
-    length samples ≡ header.count →
+    IsCellFile width script plan span fingers header samples → length samples ≡ header.count →
     tuning_for (settings_for header fingers paging traffic) (take span samples)
     ≡ tuning_to plan (cell_energy span plan) paging traffic
 tuned_to_cell width script plan span fingers paging traffic header samples file counted =
@@ -48,8 +47,7 @@ tuned_to_cell width script plan span fingers paging traffic header samples file 
 -- and hears no direction
 undirected : (width : Width) (script : List ℕ) (plan : CellPlan) (span fingers paging : ℕ)
     (traffic : Option Traffic) (header : Header) (samples : List Sample) →
-    IsCleanLink width script plan span fingers paging traffic header samples →
-    length samples ≡ header.count →
+    IsCleanLink width script plan span fingers paging traffic header samples → length samples ≡ header.count →
     All IsNotDirected
     (events (tuning_for (settings_for header fingers paging traffic) (take span samples))
     (made_samples plan))
@@ -66,14 +64,10 @@ file_events span settings samples = events (tuning_for settings (take span sampl
 
 -- those of a clean link are the cell's
 pub clean_events-are : (width : Width) (script : List ℕ) (plan : CellPlan)
-    (span fingers paging : ℕ) (traffic : Option Traffic) (header : Header)
-    (samples : List Sample) →
-    IsCleanLink width script plan span fingers paging traffic header
-    samples → IsFreeOf plan.traffic paging →
-    FollowsSent plan traffic → length samples ≡ header.count →
-    IsPaging paging →
-    file_events span (settings_for header fingers paging traffic) samples
-    ≡ clean_events span plan paging traffic
+    (span fingers paging : ℕ) (traffic : Option Traffic) (header : Header) (samples : List Sample) →
+    IsCleanLink width script plan span fingers paging traffic header samples → IsFreeOf plan.traffic paging →
+    FollowsSent plan traffic → length samples ≡ header.count → IsPaging paging →
+    file_events span (settings_for header fingers paging traffic) samples ≡ clean_events span plan paging traffic
 unfolding clean_events
 clean_events-are width script plan span fingers paging traffic header samples clean free follows
     counted one =
@@ -89,9 +83,7 @@ clean_events-are width script plan span fingers paging traffic header samples cl
 -- and how the run ends
 pub clean_end-is : (width : Width) (script : List ℕ) (plan : CellPlan)
     (span workers fingers paging : ℕ) (traffic : Option Traffic) (limits : List ℕ) (header : Header)
-    (samples : List Sample) →
-    IsCleanLink width script plan span fingers paging traffic header
-    samples →
+    (samples : List Sample) → IsCleanLink width script plan span fingers paging traffic header samples →
     length samples ≡ header.count →
     file_end_of (Follow span workers fingers paging traffic limits) header samples ≡ clean_end plan
 unfolding file_end_of
@@ -101,12 +93,9 @@ clean_end-is width script plan span workers fingers paging traffic limits header
 -- so what is written of the file is written of the cell
 clean_text-is : (taps : List KeptTap) (width : Width) (script : List ℕ) (plan : CellPlan)
     (span workers fingers paging : ℕ) (traffic : Option Traffic) (limits : List ℕ) (header : Header)
-    (samples : List Sample) →
-    IsCleanLink width script plan span fingers paging traffic header
-    samples → IsFreeOf plan.traffic paging →
-    FollowsSent plan traffic → length samples ≡ header.count →
-    IsPaging paging →
-    file_text taps (Follow span workers fingers paging traffic limits) header samples ≡
+    (samples : List Sample) → IsCleanLink width script plan span fingers paging traffic header
+    samples → IsFreeOf plan.traffic paging → FollowsSent plan traffic → length samples ≡ header.count →
+    IsPaging paging → file_text taps (Follow span workers fingers paging traffic limits) header samples ≡
     run_text taps (clean_events span plan paging traffic)
 unfolding file_text told
 clean_text-is taps width script plan span workers fingers paging traffic limits header samples clean free
@@ -118,11 +107,8 @@ clean_text-is taps width script plan span workers fingers paging traffic limits 
 clean_reply : (taps : List KeptTap) (width : Width) (script held : List ℕ)
     (plan : CellPlan) (span workers fingers paging : ℕ) (traffic : Option Traffic) (limits : List ℕ)
     (header : Header) (samples : List Sample) (status : Status) (written : Option (List ℕ)) →
-    IsCleanLink width script plan span fingers paging traffic header
-    samples → IsFreeOf plan.traffic paging →
-    FollowsSent plan traffic → length samples ≡ header.count →
-    IsPaging paging →
-    (status ≡ NoMemory) ⊎
+    IsCleanLink width script plan span fingers paging traffic header samples → IsFreeOf plan.traffic paging →
+    FollowsSent plan traffic → length samples ≡ header.count → IsPaging paging → (status ≡ NoMemory) ⊎
     ((status ≡ file_end_of (Follow span workers fingers paging traffic limits) header samples) ×
     (written ≡ Some (held ++ file_text taps (Follow span workers fingers paging traffic limits) header samples))) →
     (status ≡ NoMemory) ⊎

@@ -16,16 +16,14 @@ write_fault_end job = (tt, λ unheard is. absurd (cc))
 
 -- ---- the job that is named
 
-named_end : {P : Type 0} (job : Job) (status : Status) → IsEndOf job status →
-    status ≡ Status.BadWords → P
+named_end : {P : Type 0} (job : Job) (status : Status) → IsEndOf job status → status ≡ Status.BadWords → P
 named_end job status end bad = absurd (named_well job (subst (IsEndOf job) bad end))
 
 module _ {rest left : Option (List ℕ)} {misread misread_now : ℕ} {SameSource : Type 0}
     {old new : Option (List ℕ)} {miswritten miswritten_now : ℕ} {SameSink : Type 0} where
   pub command_run : {forms : List ℕ} {status : Status} {named : Option Job} {one : Job} →
       IsLawfulJob one → named ≡ Some one →
-      RunsJob forms one status rest left misread misread_now SameSource old new miswritten
-      miswritten_now SameSink →
+      RunsJob forms one status rest left misread misread_now SameSource old new miswritten miswritten_now SameSink →
       RunsCommand forms named status rest left misread misread_now SameSource old new miswritten
       miswritten_now SameSink SameSink
   command_run {forms} {status} {named} {one} lawful so ran =

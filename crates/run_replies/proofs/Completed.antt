@@ -58,13 +58,11 @@ answered_end forms job bytes status old new lawful answered =
 
 -- ---- a job that reads its input
 
-file_read : (job : Job) (fault : FileFault) → IsEndOf job (Status.BadFile fault) →
-    ReadsInput job
+file_read : (job : Job) (fault : FileFault) → IsEndOf job (Status.BadFile fault) → ReadsInput job
 file_read (Trial number workers) fault end = absurd end
 file_read job fault end = tt
 
-script_read : (job : Job) (fault : ScriptFault) → IsEndOf job (Status.BadScript fault) →
-    ReadsInput job
+script_read : (job : Job) (fault : ScriptFault) → IsEndOf job (Status.BadScript fault) → ReadsInput job
 script_read (Trial number workers) fault end = absurd end
 script_read job fault end = tt
 
@@ -73,8 +71,7 @@ source_read (Trial number workers) end = absurd end
 source_read job end = tt
 
 -- its input is known
-read_well : (job : Job) (rest : Option (List ℕ)) (Failed : Type 0) → ReadsInput job →
-    ReadsWell job rest Failed →
+read_well : (job : Job) (rest : Option (List ℕ)) (Failed : Type 0) → ReadsInput job → ReadsWell job rest Failed →
     (bytes : List ℕ) × (rest ≡ Some bytes) × IsLawfulInput job bytes × ¬ Failed
 read_well (Trial number workers) rest Failed reads well = absurd reads
 read_well job None Failed reads well = absurd well
@@ -104,9 +101,7 @@ module _ {rest left : Option (List ℕ)} {misread misread_now : ℕ} {SameSource
       (script_read job fault run.kind) well (run.verdict tt))
   complete_answer forms job Status.BadWords run well writes = absurd (named_well job run.kind)
   complete_answer forms job Status.ReadFault run well writes =
-      absurd ((read_well job rest (Rose misread misread_now) (source_read job run.kind) well).3
-      (run.read_fault refl))
-  complete_answer forms job Status.WriteFault run well writes =
-      absurd (writes (run.write_fault refl).0)
+      absurd ((read_well job rest (Rose misread misread_now) (source_read job run.kind) well).3 (run.read_fault refl))
+  complete_answer forms job Status.WriteFault run well writes = absurd (writes (run.write_fault refl).0)
   complete_answer forms job Status.NoMemory run well writes = inl refl
   complete_answer forms job good run well writes = inr tt

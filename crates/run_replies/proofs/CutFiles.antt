@@ -26,13 +26,11 @@ no_fewer Sixteen n k most = omega (arith, most)
 -- ---- before the first samples were read
 
 -- what a source lost is what it has less
-pub lost : (bytes left taken : List ℕ) → bytes ≡ taken ++ left →
-    length bytes ≡ length taken + length left
+pub lost : (bytes left taken : List ℕ) → bytes ≡ taken ++ left → length bytes ≡ length taken + length left
 lost bytes left taken is = ap length is ∙ length-append taken left
 
 -- at most the header was taken
-pub opening_few : (count : ℕ) (rest left : Option (List ℕ)) → ConsumesAtMost 16 rest left →
-    TakesFew count rest left
+pub opening_few : (count : ℕ) (rest left : Option (List ℕ)) → ConsumesAtMost 16 rest left → TakesFew count rest left
 opening_few count None left part = tt
 opening_few count (Some bytes) None part = absurd part.consumed
 opening_few count (Some bytes) (Some after) part =
@@ -48,10 +46,8 @@ opening_few count (Some bytes) (Some after) part =
 
 -- the header, and not all of the first samples
 pub span_few : (count : ℕ) (rest mid left : Option (List ℕ)) (reading : Reading) →
-    IfSome rest (λ bytes. Opens (Ok reading) (opening bytes)) →
-    Consumes rest mid (header_spelling reading.header) →
-    ConsumesFewer (sample_len (width_of reading.header) * min count reading.left) mid left →
-    TakesFew count rest left
+    IfSome rest (λ bytes. Opens (Ok reading) (opening bytes)) → Consumes rest mid (header_spelling reading.header) →
+    ConsumesFewer (sample_len (width_of reading.header) * min count reading.left) mid left → TakesFew count rest left
 span_few count None mid left reading told opened part = tt
 span_few count (Some bytes) None left reading told opened part = absurd opened
 span_few count (Some bytes) (Some more) None reading told opened part = absurd part.consumed
@@ -109,8 +105,7 @@ no_long_cut (Extra place) wanted from old new cut = absurd cut
 no_long_cut e wanted from old new cut = λ long. long
 
 -- the header that a lawful file opens with
-pub same_header : (bytes more : List ℕ) (header also : Header) (samples : List Sample) →
-    IsLawfulHeader header →
+pub same_header : (bytes more : List ℕ) (header also : Header) (samples : List Sample) → IsLawfulHeader header →
     bytes ≡ (header_spelling header ++ flat_map (sample_spelling (width_of header)) samples) ++ more →
     opening bytes ≡ Ok also → header ≡ also
 same_header bytes more header also samples lawful is opened =

@@ -35,26 +35,22 @@ begins_file {header} {samples} (Some bytes) (Some after) same t = record {
   lawful = t.lawful;
   enough = omega (arith, same, t.left);
   counted = t.counted ∙ same;
-  begins = front_begins bytes
-      (header_spelling header ++ flat_map (sample_spelling (width_of header)) samples) after
+  begins = front_begins bytes (header_spelling header ++ flat_map (sample_spelling (width_of header)) samples) after
       t.consumed;
 }
 
 -- how a run over a good file ends doesn't depend on the taps
 pub told_alike : (taps : List KeptTap) (job : Job) (header : Header) (first samples : List Sample) →
-    is_told (listening taps job header first) samples
-    ≡ is_told (listening [] job header first) samples
+    is_told (listening taps job header first) samples ≡ is_told (listening [] job header first) samples
 told_alike taps (Follow span workers fingers paging traffic limits) header first samples = refl
 told_alike taps job header first samples = refl
 
 -- one over a file that nobody hears is done
 pub ends_well : {T : Type 0} (taps : List KeptTap) (job : Job) (header : Header)
     (first heard : List Sample) (told : Bool) (r : Result T Status) → IsUnheard job →
-    ended r ≡ end_when told → told ≡ is_told (listening taps job header first) heard →
-    ¬ (ended r ≡ NoSync)
+    ended r ≡ end_when told → told ≡ is_told (listening taps job header first) heard → ¬ (ended r ≡ NoSync)
 ends_well taps job header first heard told r unheard ends is never =
-    let well : told ≡ true =
-    is ∙ told_alike taps job header first heard ∙ unheard header first heard in
+    let well : told ≡ true = is ∙ told_alike taps job header first heard ∙ unheard header first heard in
     let done : ended r ≡ end_when true = ends ∙ ap end_when well in
     cc
 
@@ -66,8 +62,7 @@ module _ {taps : List KeptTap} {job : Job} {rest left : Option (List ℕ)}
   -- memory ran out before anything was written
   pub starved_file : SameSink → SameSource ⊎ IfSome rest (BeginsFile (span_of job)) →
       TakesNoMore rest left → misread ≤ misread_now →
-      ReceivesFile taps job NoMemory rest left misread misread_now SameSource old old miswritten
-      miswritten SameSink
+      ReceivesFile taps job NoMemory rest left misread misread_now SameSource old old miswritten miswritten SameSink
   starved_file kept begun bound later = record {
     done = λ end. absurd end;
     at_end = λ end. absurd end;
@@ -130,8 +125,7 @@ module _ {width : Width} {rest left : Option (List ℕ)} {misread misread_now : 
   pub made_whole : IfSome rest (λ bytes. WritesMadeFile width bytes old new) → IsAtEnd left →
       WritesNoMoreMade width rest old new → ConsumesAtMost 1048577 rest left →
       misread ≤ misread_now → miswritten ≤ miswritten_now →
-      MakesFile width Done rest left misread misread_now SameSource old new miswritten
-      miswritten_now SameSink
+      MakesFile width Done rest left misread misread_now SameSource old new miswritten miswritten_now SameSink
   made_whole done ends written bound later later_sink = record {
     done = λ is. done;
     at_end = λ is. ends;
@@ -153,8 +147,7 @@ module _ {width : Width} {rest left : Option (List ℕ)} {misread misread_now : 
   pub made_part : Rose miswritten miswritten_now →
       IfSome rest (λ bytes. IsOk (plan_named width bytes)) → WritesNoMoreMade width rest old new →
       ConsumesAtMost 1048577 rest left → misread ≤ misread_now → miswritten ≤ miswritten_now →
-      MakesFile width WriteFault rest left misread misread_now SameSource old new miswritten
-      miswritten_now SameSink
+      MakesFile width WriteFault rest left misread misread_now SameSource old new miswritten miswritten_now SameSink
   made_part lost lawful written bound later later_sink = record {
     done = λ is. absurd (cc);
     at_end = λ is. absurd (cc);

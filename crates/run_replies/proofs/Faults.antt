@@ -7,15 +7,13 @@ use Rattle.run_replies.proofs.Common.{IsFaultIn, IsRestFault, PassesSamples, ◌
 
 -- opening the file answers it
 pub fault_of_opening : (rest : Option (List ℕ)) (span : ℕ) (e : FileFault) →
-    IfSome rest (λ bytes. Opens (Err e) (opening bytes)) → e ≢ ReadFault →
-    IfSome rest (λ bytes. IsFaultIn span bytes e)
+    IfSome rest (λ bytes. Opens (Err e) (opening bytes)) → e ≢ ReadFault → IfSome rest (λ bytes. IsFaultIn span bytes e)
 fault_of_opening None span e told other = tt
 fault_of_opening (Some bytes) span e told other = inl (told other)
 
 -- the header counts too few samples
 pub fault_of_count : (rest : Option (List ℕ)) (span count : ℕ) (reading : Reading) →
-    IfSome rest (λ bytes. Opens (Ok reading) (opening bytes)) →
-    count ≡ reading.header.count → count < span →
+    IfSome rest (λ bytes. Opens (Ok reading) (opening bytes)) → count ≡ reading.header.count → count < span →
     IfSome rest (λ bytes. IsFaultIn span bytes (TooFew count))
 fault_of_count None span count reading told is few = tt
 fault_of_count (Some bytes) span count reading told is few = inr (reading.header, told, (is, few))
@@ -26,11 +24,9 @@ pub fault_of_span : (e : FileFault) (old mid new : Option (List ℕ)) (span : �
     Consumes old mid (header_spelling reading.header) → reading.left ≡ reading.header.count →
     span ≤ reading.header.count →
     CutsShort e (sample_len (width_of reading.header) * min span reading.left) (next_place reading)
-    mid new → e ≢ ReadFault →
-    IfSome old (λ bytes. IsFaultIn span bytes e)
+    mid new → e ≢ ReadFault → IfSome old (λ bytes. IsFaultIn span bytes e)
 fault_of_span e None mid new span reading told consumed all enough cut other = tt
-fault_of_span e (Some bytes) None new span reading told consumed all enough cut other =
-    absurd consumed
+fault_of_span e (Some bytes) None new span reading told consumed all enough cut other = absurd consumed
 fault_of_span (Short place) (Some bytes) (Some rest) new span reading told consumed all enough cut
     other =
     let l = sample_len (width_of reading.header) in
@@ -51,30 +47,22 @@ fault_of_span (Short place) (Some bytes) (Some rest) new span reading told consu
       (
         enough,
         omega (arith, cut.1, none, long),
-        omega (
-          arith,
-          cut.0,
-          long,
-          sample_len-mono (width_of reading.header) (min span reading.left) count within,
-        ),
+        omega (arith, cut.0, long, sample_len-mono (width_of reading.header) (min span reading.left) count within),
       ),
     )
 fault_of_span ReadFault (Some bytes) (Some rest) new span reading told consumed all enough cut
     other = absurd (other refl)
-fault_of_span e (Some bytes) (Some rest) new span reading told consumed all enough cut other =
-    absurd cut
+fault_of_span e (Some bytes) (Some rest) new span reading told consumed all enough cut other = absurd cut
 
 -- what is left is cut short, after some of it was read
 pub rest_cut_fault : (e : FileFault) (begun now : Reading) (old mid new : Option (List ℕ))
     (room : ℕ) → now.header ≡ begun.header →
     PassesSamples (width_of begun.header) (begun.left - now.left) old mid → now.left ≤ begun.left →
     begun.left ≤ begun.header.count →
-    CutsShort e (sample_len (width_of now.header) * min room now.left) (next_place now) mid new →
-    e ≢ ReadFault →
+    CutsShort e (sample_len (width_of now.header) * min room now.left) (next_place now) mid new → e ≢ ReadFault →
     IfSome old (λ bytes. IsRestFault begun (length bytes) e)
 rest_cut_fault e begun now None mid new room same p low counted cut other = tt
-rest_cut_fault e begun now (Some bytes) None new room same p low counted cut other =
-    absurd p.consumed
+rest_cut_fault e begun now (Some bytes) None new room same p low counted cut other = absurd p.consumed
 rest_cut_fault (Short place) begun now (Some bytes) (Some rest) new room same p low counted cut
     other =
     let width = width_of begun.header in
@@ -99,21 +87,13 @@ rest_cut_fault (Short place) begun now (Some bytes) (Some rest) new room same p 
     ) in
     let within : passed + min room now.left ≤ begun.left = omega (arith, p.counted, low) in (
       omega (arith, here, place_parted, long),
-      omega (
-        arith,
-        few,
-        long,
-        sample_len-mono width (passed + min room now.left) begun.left within,
-      ),
+      omega (arith, few, long, sample_len-mono width (passed + min room now.left) begun.left within),
     )
-rest_cut_fault ReadFault begun now (Some bytes) (Some rest) new room same p low counted cut other =
-    absurd (other refl)
-rest_cut_fault e begun now (Some bytes) (Some rest) new room same p low counted cut other =
-    absurd cut
+rest_cut_fault ReadFault begun now (Some bytes) (Some rest) new room same p low counted cut other = absurd (other refl)
+rest_cut_fault e begun now (Some bytes) (Some rest) new room same p low counted cut other = absurd cut
 
 -- a byte comes after what is left
-pub rest_extra_fault : (e : FileFault) (begun now : Reading) (old mid : Option (List ℕ)) →
-    now.header ≡ begun.header →
+pub rest_extra_fault : (e : FileFault) (begun now : Reading) (old mid : Option (List ℕ)) → now.header ≡ begun.header →
     PassesSamples (width_of begun.header) (begun.left - now.left) old mid → now.left ≤ 0 →
     RunsOn e (16 + sample_len (width_of now.header) * now.header.count) mid → e ≢ ReadFault →
     IfSome old (λ bytes. IsRestFault begun (length bytes) e)
@@ -137,8 +117,7 @@ rest_extra_fault (Extra place) begun now (Some bytes) (Some rest) same p done ru
         length-samples width p.samples,
       ),
     )
-rest_extra_fault ReadFault begun now (Some bytes) (Some rest) same p done runs other =
-    absurd (other refl)
+rest_extra_fault ReadFault begun now (Some bytes) (Some rest) same p done runs other = absurd (other refl)
 rest_extra_fault e begun now (Some bytes) (Some rest) same p done runs other = absurd runs
 
 -- the lengths of a file of which the header and some samples were read
@@ -148,8 +127,7 @@ record Totals (bytes rest : List ℕ) (reading : Reading) (samples : List Sample
   long : length bytes ≡ 16 + sample_len (width_of reading.header) * length samples + length rest
   begun : sample_len (width_of reading.header) * (reading.header.count - reading.left) ≡
       sample_len (width_of reading.header) * length samples
-  whole : sample_len (width_of reading.header) * reading.left +
-      sample_len (width_of reading.header) * length samples ≡
+  whole : sample_len (width_of reading.header) * reading.left + sample_len (width_of reading.header) * length samples ≡
       sample_len (width_of reading.header) * reading.header.count
 
 -- The lengths that place a fault follow from the bytes that were read: 16 are the header's, each
@@ -164,8 +142,7 @@ totals bytes rest reading samples lawful counted consumed =
     let l = sample_len width in
     let front = header_spelling reading.header in
     let first = flat_map (sample_spelling width) samples in
-    let whole : l * (reading.left + length samples) ≡ l * reading.header.count =
-    ap (λ (n : ℕ). l * n) counted in
+    let whole : l * (reading.left + length samples) ≡ l * reading.header.count = ap (λ (n : ℕ). l * n) counted in
     let passed : reading.header.count - reading.left ≡ length samples = omega (arith, counted) in
     record {
       opened = ap opening (consumed ∙ append_assoc front first rest) ∙
@@ -185,8 +162,7 @@ totals bytes rest reading samples lawful counted consumed =
 
 -- a fault of what is left is one of the file
 pub fault_of_rest : (e : FileFault) (old mid : Option (List ℕ)) (reading : Reading)
-    (samples : List Sample) → IsLawfulHeader reading.header →
-    reading.left + length samples ≡ reading.header.count →
+    (samples : List Sample) → IsLawfulHeader reading.header → reading.left + length samples ≡ reading.header.count →
     Consumes old mid
     (header_spelling reading.header ++ flat_map (sample_spelling (width_of reading.header))
     samples) →
@@ -199,18 +175,9 @@ fault_of_rest (Short place) (Some bytes) (Some rest) reading samples lawful coun
     inr (
       reading.header,
       t.opened,
-      (
-        t.enough,
-        omega (arith, fault.0, t.long, t.begun),
-        omega (arith, fault.1, t.long, t.whole),
-      ),
+      (t.enough, omega (arith, fault.0, t.long, t.begun), omega (arith, fault.1, t.long, t.whole)),
     )
 fault_of_rest (Extra place) (Some bytes) (Some rest) reading samples lawful counted consumed fault =
     let t = totals bytes rest reading samples lawful counted consumed in
-    inr (
-      reading.header,
-      t.opened,
-      (t.enough, fault.0, omega (arith, fault.0, fault.1, t.long, t.whole)),
-    )
-fault_of_rest e (Some bytes) (Some rest) reading samples lawful counted consumed fault =
-    absurd fault
+    inr (reading.header, t.opened, (t.enough, fault.0, omega (arith, fault.0, fault.1, t.long, t.whole)))
+fault_of_rest e (Some bytes) (Some rest) reading samples lawful counted consumed fault = absurd fault

@@ -17,8 +17,7 @@ same_header : (bytes : List ℕ) (span : ℕ) (s : IsSearchable bytes span) (hea
     opening bytes ≡ Ok header → s.header ≡ header
 same_header bytes span s header is = let e = opens bytes span s in cc
 
-length-file : (bytes : List ℕ) (header : Header) (samples : List Sample) →
-    IsSampleFile bytes header samples →
+length-file : (bytes : List ℕ) (header : Header) (samples : List Sample) → IsSampleFile bytes header samples →
     length bytes ≡ 16 + sample_len (width_of header) * header.count
 length-file bytes header samples file =
     let width = width_of header in
@@ -35,8 +34,7 @@ length-file bytes header samples file =
 
 -- they have the length that the header tells with which they open
 length-searchable : (bytes : List ℕ) (span : ℕ) (s : IsSearchable bytes span) (header : Header) →
-    opening bytes ≡ Ok header →
-    length bytes ≡ 16 + sample_len (width_of header) * header.count
+    opening bytes ≡ Ok header → length bytes ≡ 16 + sample_len (width_of header) * header.count
 length-searchable bytes span s header is =
     subst (λ (h : Header). length bytes ≡ 16 + sample_len (width_of h) * h.count)
     (same_header bytes span s header is) (length-file bytes s.header s.samples s.file)
@@ -44,23 +42,17 @@ length-searchable bytes span s header is =
 -- ---- bytes with a fault
 
 no_later_fault : (span : ℕ) (header : Header) (len : ℕ) (e : FileFault) →
-    IsLaterFault span header len e → span ≤ header.count →
-    ¬ (len ≡ 16 + sample_len (width_of header) * header.count)
-no_later_fault span header len (TooFew count) fault enough long =
-    omega (arith, fault.0, fault.1, enough)
+    IsLaterFault span header len e → span ≤ header.count → ¬ (len ≡ 16 + sample_len (width_of header) * header.count)
+no_later_fault span header len (TooFew count) fault enough long = omega (arith, fault.0, fault.1, enough)
 no_later_fault span header len (Short place) fault enough long = omega (arith, fault.2, long)
-no_later_fault span header len (Extra place) fault enough long =
-    omega (arith, fault.1, fault.2, long)
+no_later_fault span header len (Extra place) fault enough long = omega (arith, fault.1, fault.2, long)
 no_later_fault span header len e fault enough long = fault
 
-pub no_fault : (bytes : List ℕ) (span : ℕ) (e : FileFault) (s : IsSearchable bytes span) →
-    ¬ (IsFaultIn span bytes e)
+pub no_fault : (bytes : List ℕ) (span : ℕ) (e : FileFault) (s : IsSearchable bytes span) → ¬ (IsFaultIn span bytes e)
 no_fault bytes span e s (inl refused) = let is = opens bytes span s in absurd (cc)
 no_fault bytes span e s (inr (header, opened, later)) =
-    let same : s.header.count ≡ header.count =
-    ap (λ (h : Header). h.count) (same_header bytes span s header opened) in
-    no_later_fault span header (length bytes) e later
-    (omega (arith, same, s.enough, s.file.counted))
+    let same : s.header.count ≡ header.count = ap (λ (h : Header). h.count) (same_header bytes span s header opened) in
+    no_later_fault span header (length bytes) e later (omega (arith, same, s.enough, s.file.counted))
     (length-searchable bytes span s header opened)
 
 -- a header has one later fault
@@ -71,11 +63,9 @@ one_later_fault span header len (TooFew n) (Short place) a b = absurd (omega (ar
 one_later_fault span header len (TooFew n) (Extra place) a b = absurd (omega (arith, a.0, a.1, b.0))
 one_later_fault span header len (Short place) (TooFew n) a b = absurd (omega (arith, b.0, b.1, a.0))
 one_later_fault span header len (Short place) (Short also) a b = ap Short (a.1 ∙ sym b.1)
-one_later_fault span header len (Short place) (Extra also) a b =
-    absurd (omega (arith, a.2, b.1, b.2))
+one_later_fault span header len (Short place) (Extra also) a b = absurd (omega (arith, a.2, b.1, b.2))
 one_later_fault span header len (Extra place) (TooFew n) a b = absurd (omega (arith, b.0, b.1, a.0))
-one_later_fault span header len (Extra place) (Short also) a b =
-    absurd (omega (arith, b.2, a.1, a.2))
+one_later_fault span header len (Extra place) (Short also) a b = absurd (omega (arith, b.2, a.1, a.2))
 one_later_fault span header len (Extra place) (Extra also) a b = ap Extra (a.1 ∙ sym b.1)
 one_later_fault span header len (TooFew n) other a b = absurd b
 one_later_fault span header len (Short place) other a b = absurd b
@@ -98,12 +88,10 @@ one_fault span bytes one other (inr (header, opened, later)) (inr (also, open_to
     (subst (λ (h : Header). IsLaterFault span h (length bytes) one) same later) last
 
 -- they are no file of so many samples
-pub unsearchable : (rest : Option (List ℕ)) (span : ℕ) (e : FileFault) →
-    IfSome rest (λ bytes. IsFaultIn span bytes e) →
+pub unsearchable : (rest : Option (List ℕ)) (span : ℕ) (e : FileFault) → IfSome rest (λ bytes. IsFaultIn span bytes e) →
     IfSome rest (λ bytes. ¬ (IsSearchable bytes span))
 unsearchable None span e fault = tt
-unsearchable (Some bytes) span e fault =
-    λ (s : IsSearchable bytes span). no_fault bytes span e s fault
+unsearchable (Some bytes) span e fault = λ (s : IsSearchable bytes span). no_fault bytes span e s fault
 
 pub no_file : {T : Type 0} (r : Result T FileFault) (rest : Option (List ℕ)) (span : ℕ) →
     IfErr r (λ e. e ≢ ReadFault → IfSome rest (λ bytes. IsFaultIn span bytes e)) →
@@ -125,8 +113,7 @@ wrong_length (Some bytes) reading (Extra place) fault =
 wrong_length (Some bytes) reading e fault = absurd fault
 
 -- a status that blames the file's bytes comes from a fault in them
-bad_file_is : (e fault : FileFault) → file_status e ≡ BadFile fault →
-    (e ≡ fault) × (fault ≢ ReadFault)
+bad_file_is : (e fault : FileFault) → file_status e ≡ BadFile fault → (e ≡ fault) × (fault ≢ ReadFault)
 bad_file_is ReadFault fault h = absurd (cc)
 bad_file_is e fault h = (cc, λ (r : fault ≡ ReadFault). cc)
 

@@ -18,10 +18,8 @@ module _ {rest left : Option (List ℕ)} {misread misread_now : ℕ} {SameSource
       ReceivesFile taps job status rest left misread misread_now SameSource old new miswritten
       miswritten_now SameSink → IsVerdict status →
       IfSome rest (λ bytes. IsAnswered (IsFileReply taps job bytes) status old new)
-  file_verdict taps job Status.Done run verdict =
-      IfSome_then rest (run.done tt) (λ bytes wrote. text_required wrote)
-  file_verdict taps job Status.NoSync run verdict =
-      IfSome_then rest (run.done tt) (λ bytes wrote. text_required wrote)
+  file_verdict taps job Status.Done run verdict = IfSome_then rest (run.done tt) (λ bytes wrote. text_required wrote)
+  file_verdict taps job Status.NoSync run verdict = IfSome_then rest (run.done tt) (λ bytes wrote. text_required wrote)
   file_verdict taps job (Status.BadFile fault) run verdict =
       IfSome_then rest (run.place fault refl) (λ bytes is. fault_required fault is)
   file_verdict taps job (Status.BadScript fault) run verdict = absurd run.others
@@ -37,10 +35,8 @@ module _ {rest left : Option (List ℕ)} {misread misread_now : ℕ} {SameSource
 
   -- taps have one name
   pub with_taps : {taps named : List KeptTap} {job : Job} {status : Status} → taps ≡ named →
-      ReceivesFile taps job status rest left misread misread_now SameSource old new miswritten
-      miswritten_now SameSink →
-      ReceivesFile named job status rest left misread misread_now SameSource old new miswritten
-      miswritten_now SameSink
+      ReceivesFile taps job status rest left misread misread_now SameSource old new miswritten miswritten_now SameSink →
+      ReceivesFile named job status rest left misread misread_now SameSource old new miswritten miswritten_now SameSink
   with_taps {taps} {named} {job} {status} same run =
       subst
       (λ (k : List KeptTap). ReceivesFile k job status rest left misread misread_now SameSource old new
@@ -50,11 +46,9 @@ module _ {rest left : Option (List ℕ)} {misread misread_now : ℕ} {SameSource
       ((width : Width) → job ≢ Make width) → ((number workers : ℕ) → job ≢ Trial number workers) →
       ReceivesFile (taps_for job forms) job status rest left misread misread_now SameSource old new
       miswritten miswritten_now SameSink →
-      RunsJob forms job status rest left misread misread_now SameSource old new miswritten
-      miswritten_now SameSink
+      RunsJob forms job status rest left misread misread_now SameSource old new miswritten miswritten_now SameSink
   file_run forms (Make width) status unmade untried run = absurd (unmade width refl)
-  file_run forms (Trial number workers) status unmade untried run =
-      absurd (untried number workers refl)
+  file_run forms (Trial number workers) status unmade untried run = absurd (untried number workers refl)
   file_run forms job status unmade untried run = record {
     kind = (file_end (taps_for job forms) job status run, run.alone);
     verdict = file_verdict (taps_for job forms) job status run;
@@ -80,8 +74,7 @@ module _ {rest left : Option (List ℕ)} {misread misread_now : ℕ} {SameSource
       MakesFile width status rest left misread misread_now SameSource old new miswritten
       miswritten_now SameSink → IsVerdict status →
       IfSome rest (λ bytes. IsAnswered (IsScriptReply width bytes) status old new)
-  script_verdict width Status.Done run verdict =
-      IfSome_then rest (run.done refl) (λ bytes wrote. made_required wrote)
+  script_verdict width Status.Done run verdict = IfSome_then rest (run.done refl) (λ bytes wrote. made_required wrote)
   script_verdict width Status.NoSync run verdict = absurd (run.others.0 refl)
   script_verdict width (Status.BadFile fault) run verdict = absurd (run.others.2 fault refl)
   script_verdict width (Status.BadScript fault) run verdict =
@@ -98,8 +91,7 @@ module _ {rest left : Option (List ℕ)} {misread misread_now : ℕ} {SameSource
   script_end width status run = tt
 
   pub made_run : (forms : List ℕ) (width : Width) (status : Status) →
-      MakesFile width status rest left misread misread_now SameSource old new miswritten
-      miswritten_now SameSink →
+      MakesFile width status rest left misread misread_now SameSource old new miswritten miswritten_now SameSink →
       RunsJob forms (Make width) status rest left misread misread_now SameSource old new miswritten
       miswritten_now SameSink
   made_run forms width status run = record {
@@ -129,8 +121,7 @@ module _ {rest left : Option (List ℕ)} {misread misread_now : ℕ} {SameSource
       RunsJob forms job status rest left misread misread_now SameSource old new miswritten
       miswritten_now SameSink → (bytes held : List ℕ) (reply : Reply) → rest ≡ Some bytes →
       old ≡ Some held → IsReply forms job bytes reply → ¬ (Rose misread misread_now) →
-      ¬ (Rose miswritten miswritten_now) →
-      (status ≡ Status.NoMemory) ⊎ AnswersAfter held reply status new
+      ¬ (Rose miswritten miswritten_now) → (status ≡ Status.NoMemory) ⊎ AnswersAfter held reply status new
   exact_answer forms job Status.BadWords run bytes held reply is was required reads writes =
       absurd (named_well job run.kind)
   exact_answer forms job Status.ReadFault run bytes held reply is was required reads writes =
@@ -144,10 +135,8 @@ module _ {rest left : Option (List ℕ)} {misread misread_now : ℕ} {SameSource
   -- what is promised of one job that the arguments name is promised of each
   pub run_of : {forms : List ℕ} {status : Status} {named : Option Job} {one : Job} (job : Job) →
       named ≡ Some one → named ≡ Some job →
-      RunsJob forms one status rest left misread misread_now SameSource old new miswritten
-      miswritten_now SameSink →
-      RunsJob forms job status rest left misread misread_now SameSource old new miswritten
-      miswritten_now SameSink
+      RunsJob forms one status rest left misread misread_now SameSource old new miswritten miswritten_now SameSink →
+      RunsJob forms job status rest left misread misread_now SameSource old new miswritten miswritten_now SameSink
   run_of {forms} {status} {named} {one} job so also run =
       subst
       (λ (j : Job). RunsJob forms j status rest left misread misread_now SameSource old new
@@ -164,8 +153,7 @@ pub trial_run : (forms : List ℕ) (number workers : ℕ) (ran : Result (Unit {0
     (rest : Option (List ℕ)) (misread : ℕ) {SameSource : Type 0} {old new : Option (List ℕ)}
     {miswritten miswritten_now : ℕ} {SameSink : Type 0} → HasTrialCauses number ran old new →
     (ran ≡ Err Status.NoMemory → SameSink) →
-    (ran ≡ Err Status.WriteFault → Rose miswritten miswritten_now) → miswritten ≤ miswritten_now →
-    SameSource →
+    (ran ≡ Err Status.WriteFault → Rose miswritten miswritten_now) → miswritten ≤ miswritten_now → SameSource →
     RunsJob forms (Trial number workers) (ended ran) rest rest misread misread SameSource old new
     miswritten miswritten_now SameSink
 trial_run forms number workers ran rest misread {SameSource} {old} {new} causes memory write_fault

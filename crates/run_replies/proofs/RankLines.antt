@@ -19,8 +19,7 @@ one_line : (rank : Rank) → ranks_text (rank ∷ []) ≡ rank_line rank
 unfolding ranks_text
 one_line rank = append-nil (rank_line rank)
 
-pub no_lines : (ranks : List Rank) (old : Option (List ℕ)) →
-    Appends old old (ranks_text (take 0 ranks))
+pub no_lines : (ranks : List Rank) (old : Option (List ℕ)) → Appends old old (ranks_text (take 0 ranks))
 unfolding ranks_text
 no_lines ranks old = Appends-nil old
 
@@ -30,8 +29,7 @@ ranks_more : (ranks : List Rank) (place : ℕ) (rank : Rank) → slice_get ranks
 ranks_more ranks place rank is =
     ap ranks_text
     (take_more ranks place rank (slice_get_within ranks place rank is)
-    ∙ ap (λ (r : Rank). take place ranks ++ r ∷ [])
-    (get_or_from_slice_get ranks place rank rank is))
+    ∙ ap (λ (r : Rank). take place ranks ++ r ∷ []) (get_or_from_slice_get ranks place rank rank is))
     ∙ ranks_joined (take place ranks) (rank ∷ [])
     ∙ ap (λ (text : List ℕ). ranks_text (take place ranks) ++ text) (one_line rank)
 
@@ -44,10 +42,8 @@ lines_more ranks place rank old mid new is lines line =
     (Appends-trans old mid new (ranks_text (take place ranks)) (rank_line rank) lines line)
 
 -- the lines of ranks are those of the first of them, the next one, and those after it
-ranks_parted : (ranks : List Rank) (place top : ℕ) (rank : Rank) →
-    slice_get ranks place ≡ Some rank → place < top →
-    ranks_text (take top ranks) ≡
-    (ranks_text (take place ranks) ++ rank_line rank)
+ranks_parted : (ranks : List Rank) (place top : ℕ) (rank : Rank) → slice_get ranks place ≡ Some rank → place < top →
+    ranks_text (take top ranks) ≡ (ranks_text (take place ranks) ++ rank_line rank)
     ++ ranks_text (take (top - (place + 1)) (drop (place + 1) ranks))
 ranks_parted ranks place top rank is below =
     let more = top - (place + 1) in
@@ -55,8 +51,7 @@ ranks_parted ranks place top rank is below =
     ap (λ (n : ℕ). ranks_text (take n ranks)) all
     ∙ ap ranks_text (take-add (place + 1) more ranks)
     ∙ ranks_joined (take (place + 1) ranks) (take more (drop (place + 1) ranks))
-    ∙ ap (λ (text : List ℕ). text ++ ranks_text (take more (drop (place + 1) ranks)))
-    (ranks_more ranks place rank is)
+    ∙ ap (λ (text : List ℕ). text ++ ranks_text (take more (drop (place + 1) ranks))) (ranks_more ranks place rank is)
 
 -- a write failed in the middle of its line
 pub lines_cut : (ranks : List Rank) (place top : ℕ) (rank : Rank) (old mid new : Option (List ℕ)) →

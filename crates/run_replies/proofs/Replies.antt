@@ -14,8 +14,7 @@ use Rattle.run_replies.proofs.Files.{no_fault, one_fault}
 -- an early fault is one of the file's header, or of the script
 pub early_by : (status : Status) {Same : Type 0} →
     ((fault : FileFault) → status ≡ Status.BadFile fault → IsHeaderFault fault → Same) →
-    ((fault : ScriptFault) → status ≡ Status.BadScript fault → Same) →
-    IsEarlyFault status → Same
+    ((fault : ScriptFault) → status ≡ Status.BadScript fault → Same) → IsEarlyFault status → Same
 early_by (Status.BadFile fault) file script early = file fault refl early
 early_by (Status.BadScript fault) file script early = script fault refl
 early_by status file script early = absurd early
@@ -64,8 +63,7 @@ fault_required fault is = record {
 
 -- ---- a run over a script
 
-pub made_required : {width : Width} {bytes : List ℕ} {old new : Option (List ℕ)} →
-    WritesMadeFile width bytes old new →
+pub made_required : {width : Width} {bytes : List ℕ} {old new : Option (List ℕ)} → WritesMadeFile width bytes old new →
     IsAnswered (IsScriptReply width bytes) Status.Done old new
 made_required {width} w = record {
   reply = Ok (made_file width w.plan, Status.Done);
@@ -137,11 +135,9 @@ trial_early number (Ok done) causes early = early
 trial_early number (Err status) causes early = (failed_end status causes.failed).2 early
 
 pub trial_done : (number : ℕ) (ran : Result (Unit {0}) Status) {old new : Option (List ℕ)} →
-    HasTrialCauses number ran old new → ended ran ≡ Status.Done →
-    Appends old new (trial_line number)
+    HasTrialCauses number ran old new → ended ran ≡ Status.Done → Appends old new (trial_line number)
 trial_done number (Ok done) causes is = causes.ok
-trial_done number (Err status) causes is =
-    absurd ((failed_end status causes.failed).1 (rw is tt))
+trial_done number (Err status) causes is = absurd ((failed_end status causes.failed).1 (rw is tt))
 
 pub trial_part : (number : ℕ) (ran : Result (Unit {0}) Status) {old new : Option (List ℕ)} →
     HasTrialCauses number ran old new → GainsNothingOr (λ text. StartsWith (trial_line number) text) old new
@@ -200,8 +196,7 @@ one_file_reply taps job bytes (Err one) (Err other) a b =
 
 -- so has a script
 made_alike : (width : Width) (bytes : List ℕ) (one other : List ℕ × Status) →
-    IsWholeScript width bytes one.0 one.1 → IsWholeScript width bytes other.0 other.1 →
-    one ≡ other
+    IsWholeScript width bytes one.0 one.1 → IsWholeScript width bytes other.0 other.1 → one ≡ other
 made_alike width bytes (text, end) (also, last) a b =
     let plans : Ok a.plan ≡ Ok b.plan = sym a.named ∙ b.named in
     let same : a.plan ≡ b.plan = cc in
@@ -224,18 +219,14 @@ pub one_script_reply : (width : Width) (bytes : List ℕ) (one other : Reply) �
     IsScriptReply width bytes one → IsScriptReply width bytes other → one ≡ other
 one_script_reply width bytes (Ok one) (Ok other) a b =
     ap (λ (p : List ℕ × Status). Ok p) (made_alike width bytes one other a b)
-one_script_reply width bytes (Ok one) (Err other) a b =
-    absurd (never_both width bytes a.plan b.fault a.named b.is)
-one_script_reply width bytes (Err one) (Ok other) a b =
-    absurd (never_both width bytes b.plan a.fault b.named a.is)
+one_script_reply width bytes (Ok one) (Err other) a b = absurd (never_both width bytes a.plan b.fault a.named b.is)
+one_script_reply width bytes (Err one) (Ok other) a b = absurd (never_both width bytes b.plan a.fault b.named a.is)
 one_script_reply width bytes (Err one) (Err other) a b =
     ap (λ (s : Status). Err s) (script_faults_alike width bytes one other a b)
 
 -- so has a number
-one_trial_reply : (number : ℕ) (one other : Reply) → IsTrialReply number one →
-    IsTrialReply number other → one ≡ other
-one_trial_reply number (Ok one) (Ok other) a b =
-    ap (λ (p : List ℕ × Status). Ok p) (a ∙ sym b)
+one_trial_reply : (number : ℕ) (one other : Reply) → IsTrialReply number one → IsTrialReply number other → one ≡ other
+one_trial_reply number (Ok one) (Ok other) a b = ap (λ (p : List ℕ × Status). Ok p) (a ∙ sym b)
 one_trial_reply number (Ok one) (Err other) a b = absurd b
 one_trial_reply number (Err one) other a b = absurd a
 
@@ -244,29 +235,23 @@ pub one_reply : (forms : List ℕ) (job : Job) (bytes : List ℕ) (one other : R
     IsReply forms job bytes one → IsReply forms job bytes other → one ≡ other
 one_reply forms (Make width) bytes one other a b = one_script_reply width bytes one other a b
 one_reply forms (Trial number workers) bytes one other a b = one_trial_reply number one other a b
-one_reply forms job bytes one other a b =
-    one_file_reply (taps_for job forms) job bytes one other a b
+one_reply forms job bytes one other a b = one_file_reply (taps_for job forms) job bytes one other a b
 
 -- ---- just that reply
 
 settled : (held : List ℕ) (reply : Reply) (status : Status) (new : Option (List ℕ)) →
     Answers reply status (Some held) new → AnswersAfter held reply status new
 settled held (Ok whole) status None answers = absurd answers.1
-settled held (Ok whole) status (Some now) answers =
-    (answers.0, ap (λ (text : List ℕ). Some text) answers.1)
+settled held (Ok whole) status (Some now) answers = (answers.0, ap (λ (text : List ℕ). Some text) answers.1)
 settled held (Err end) status new answers = answers
 
 -- an answer is that of the reply that the input requires
 pub required_answer : (forms : List ℕ) (job : Job) (status : Status) (bytes held : List ℕ) (reply : Reply)
-    (rest old new : Option (List ℕ)) →
-    IfSome rest (λ bytes. IsAnswered (IsReply forms job bytes) status old new) →
-    rest ≡ Some bytes → old ≡ Some held → IsReply forms job bytes reply →
-    AnswersAfter held reply status new
+    (rest old new : Option (List ℕ)) → IfSome rest (λ bytes. IsAnswered (IsReply forms job bytes) status old new) →
+    rest ≡ Some bytes → old ≡ Some held → IsReply forms job bytes reply → AnswersAfter held reply status new
 required_answer forms job status bytes held reply rest old new answered is was required =
-    let a : IsAnswered (IsReply forms job bytes) status (Some held) new =
-    rw (is, was) at answered in
-    subst (λ (r : Reply). AnswersAfter held r status new)
-    (one_reply forms job bytes a.reply reply a.required required)
+    let a : IsAnswered (IsReply forms job bytes) status (Some held) new = rw (is, was) at answered in
+    subst (λ (r : Reply). AnswersAfter held r status new) (one_reply forms job bytes a.reply reply a.required required)
     (settled held a.reply status new a.answers)
 
 pub named_well : (job : Job) → ¬ (IsEndOf job Status.BadWords)
@@ -276,6 +261,5 @@ named_well job end = end.0
 
 -- ---- what was asked for
 
-pub same_job : (named : Option Job) (one other : Job) → named ≡ Some one → named ≡ Some other →
-    one ≡ other
+pub same_job : (named : Option Job) (one other : Job) → named ≡ Some one → named ≡ Some other → one ≡ other
 same_job named one other is so = cc

@@ -21,17 +21,14 @@ known_kept : (old mid new : Option (List ℕ)) (held text : List ℕ) → old �
 known_kept None mid new held text was grew kept = absurd (cc)
 known_kept (Some xs) None new held text was grew kept = absurd grew
 known_kept (Some xs) (Some ys) None held text was grew kept = absurd kept
-known_kept (Some xs) (Some ys) (Some zs) held text was grew kept =
-    ap (λ (all : List ℕ). Some all) (sym kept)
+known_kept (Some xs) (Some ys) (Some zs) held text was grew kept = ap (λ (all : List ℕ). Some all) (sym kept)
 
 answers_kept : (reply : Reply) (status : Status) (old mid new : Option (List ℕ)) →
     Answers reply status old mid → Keeps mid new → Answers reply status old new
-answers_kept (Ok whole) status old mid new answers kept =
-    (answers.0, Appends-kept old mid new whole.0 answers.1 kept)
+answers_kept (Ok whole) status old mid new answers kept = (answers.0, Appends-kept old mid new whole.0 answers.1 kept)
 answers_kept (Err end) status old mid new answers kept = answers
 
-verdict_kept : (asks : List ℕ → Reply → Type 0) (status : Status)
-    (rest old mid new : Option (List ℕ)) →
+verdict_kept : (asks : List ℕ → Reply → Type 0) (status : Status) (rest old mid new : Option (List ℕ)) →
     IfSome rest (λ bytes. IsAnswered (asks bytes) status old mid) → Keeps mid new →
     IfSome rest (λ bytes. IsAnswered (asks bytes) status old new)
 verdict_kept asks status None old mid new answered kept = tt
@@ -51,8 +48,7 @@ part_kept begins old mid new wrote kept = record {
 
 samples_kept : {taps : List KeptTap} {job : Job} {header : Header} {bytes : List ℕ}
     {counted : ℕ → Type 0} (old mid new : Option (List ℕ)) →
-    HasWritten taps job header bytes counted old mid → Keeps mid new →
-    HasWritten taps job header bytes counted old new
+    HasWritten taps job header bytes counted old mid → Keeps mid new → HasWritten taps job header bytes counted old new
 samples_kept old mid new wrote kept = record {
   samples = wrote.samples;
   lawful = wrote.lawful;
@@ -101,8 +97,7 @@ file_begins {span} {bytes} {header} {samples} file enough =
       lawful = file.lawful;
       enough = omega (arith, enough, file.counted);
       counted = length-take-le span samples enough;
-      begins = front_begins bytes (front ++ flat_map spelled (take span samples))
-          (flat_map spelled (drop span samples))
+      begins = front_begins bytes (front ++ flat_map spelled (take span samples)) (flat_map spelled (drop span samples))
           (file.spelled ∙ ap (λ (t : List ℕ). front ++ t) parted ∙
           sym (append_assoc front (flat_map spelled (take span samples))
           (flat_map spelled (drop span samples))));
@@ -116,8 +111,7 @@ required_end forms (Make width) bytes (Ok whole) status old new required answers
 required_end forms (Make width) bytes (Err fault) status old new required answers end =
     absurd (subst IsEnd (answers ∙ required.end_is) end)
 required_end forms (Trial number workers) bytes reply status old new required answers end = tt
-required_end forms job bytes (Ok whole) status old new required answers end =
-    file_begins required.file required.enough
+required_end forms job bytes (Ok whole) status old new required answers end = file_begins required.file required.enough
 required_end forms job bytes (Err fault) status old new required answers end =
     absurd (subst IsEnd (answers ∙ required.end_is) end)
 
@@ -276,12 +270,10 @@ module _ {forms : List ℕ} {named : Option Job} {rest left old mid new : Option
       ]
 
 pub run_passed : {forms : List ℕ} {named : Option Job} {before status : Status}
-    {rest left old mid new : Option (List ℕ)}
-    {misread misread_now miswritten between miswritten_now : ℕ}
+    {rest left old mid new : Option (List ℕ)} {misread misread_now miswritten between miswritten_now : ℕ}
     {SameSource StillSink SamePassed Unwritten PassedOn : Type 0} →
     RunsCommand forms named before rest left misread misread_now SameSource old mid miswritten between
-    StillSink Unwritten →
-    PassesOn before status mid new between miswritten_now SamePassed PassedOn →
+    StillSink Unwritten → PassesOn before status mid new between miswritten_now SamePassed PassedOn →
     IsPassedOn status (Rose miswritten miswritten_now) PassedOn
 run_passed {forms} {named} {before} {status} {rest} {left} {old} {mid} {new} {misread}
     {misread_now} {miswritten} {between} {miswritten_now} run passed = record {
@@ -328,8 +320,7 @@ module _ {SameErrors : Type 0} {old new : Option (List ℕ)} {miswritten miswrit
   told_so (Ok done) whole part cause = whole_told whole cause.later
   told_so (Err failed) whole part cause = part_told part cause.failed cause.later
 
-not_done : {status : Status} (is : Bool) → is ≡ false → (IsTrue is ↔ (status ≡ Status.Done)) →
-    ¬ (status ≡ Status.Done)
+not_done : {status : Status} (is : Bool) → is ≡ false → (IsTrue is ↔ (status ≡ Status.Done)) → ¬ (status ≡ Status.Done)
 not_done is unset means done = let set : is ≡ true = means.1 done in absurd (cc)
 
 -- a line was written, or the first of it
@@ -337,11 +328,9 @@ pub line_told : {T E SameErrors : Type 0} {old new : Option (List ℕ)} {miswrit
     {status : Status} (is : Bool) (told : Result T E) (bytes : List ℕ) → is ≡ false →
     (IsTrue is ↔ (status ≡ Status.Done)) → bytes ≡ end_line status →
     OnOk told (Appends old new bytes) → OnErr told (AppendsPrefix old new bytes) →
-    HasCause miswritten miswritten_now told →
-    TellsEnd status old new miswritten miswritten_now SameErrors
+    HasCause miswritten miswritten_now told → TellsEnd status old new miswritten miswritten_now SameErrors
 line_told {T} {E} {SameErrors} {old} {new} is told bytes unset means same whole part cause =
-    told_so (not_done is unset means) told
-    (subst (λ (line : List ℕ). OnOk told (Appends old new line)) same whole)
+    told_so (not_done is unset means) told (subst (λ (line : List ℕ). OnOk told (Appends old new line)) same whole)
     (subst (λ (line : List ℕ). OnErr told (AppendsPrefix old new line)) same part) cause
 
 -- ---- taps of each form
@@ -349,13 +338,11 @@ line_told {T} {E} {SameErrors} {old} {new} is told bytes unset means same whole 
 -- what each value after a vtable tells, after one that is the same
 pub by_vtable : {X : Type 0} {F : X → Type 0} (form : (i : X) → F i → ℕ) (known i : X) (n : ℕ)
     (v : F i) → i ≡ known → ((w : F known) → form known w ≡ n) → form i v ≡ n
-by_vtable {X} {F} form known i n v is told =
-    subst (λ (j : X). (w : F j) → form j w ≡ n) (sym is) told v
+by_vtable {X} {F} form known i n v is told = subst (λ (j : X). (w : F j) → form j w ≡ n) (sym is) told v
 
 pub four_forms : {T : Type 0} (form : T → ℕ) (none one two three four : List T) (a b c d : T) →
     none ≡ [] → one ≡ none ++ (a ∷ []) → two ≡ one ++ (b ∷ []) → three ≡ two ++ (c ∷ []) →
-    four ≡ three ++ (d ∷ []) → form a ≡ 0 → form b ≡ 1 → form c ≡ 2 → form d ≡ 3 →
-    map form four ≡ each_form
+    four ≡ three ++ (d ∷ []) → form a ≡ 0 → form b ≡ 1 → form c ≡ 2 → form d ≡ 3 → map form four ≡ each_form
 four_forms form none one two three four a b c d is_none is_one is_two is_three is_four of_a of_b of_c
     of_d = rw (is_four, is_three, is_two, is_one, is_none) (rw (of_a, of_b, of_c, of_d) refl)
 

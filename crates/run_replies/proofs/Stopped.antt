@@ -35,8 +35,7 @@ lost_not_misread is = cc
 
 lost_none : (e : FileFault) → ¬ (file_status e ≡ Status.WriteFault)
 lost_none e =
-    by_file_status (λ (s : Status). ¬ (s ≡ Status.WriteFault)) e
-    (λ (r : Status.ReadFault ≡ Status.WriteFault). cc)
+    by_file_status (λ (s : Status). ¬ (s ≡ Status.WriteFault)) e (λ (r : Status.ReadFault ≡ Status.WriteFault). cc)
     (λ (r : Status.BadFile e ≡ Status.WriteFault). cc)
 
 module _ {taps : List KeptTap} {job : Job} {rest left : Option (List ℕ)}
@@ -58,8 +57,7 @@ module _ {taps : List KeptTap} {job : Job} {rest left : Option (List ℕ)}
       λ fault is.
       let b = blames e fault is in
       subst (λ (n : ℕ). IfSome rest (λ (bytes : List ℕ). IsFaultIn n bytes fault)) same
-      (subst (λ (f : FileFault). IfSome rest (λ (bytes : List ℕ). IsFaultIn count bytes f)) b.0
-      (place b.2)) in
+      (subst (λ (f : FileFault). IfSome rest (λ (bytes : List ℕ). IsFaultIn count bytes f)) b.0 (place b.2)) in
       record {
         done = λ end. absurd (fault_no_end status faulty end);
         at_end = λ end. absurd (fault_no_end status faulty end);
@@ -94,10 +92,8 @@ module _ {taps : List KeptTap} {job : Job} {rest left : Option (List ℕ)}
       ((fault : FileFault) → status ≡ Status.BadFile fault → ¬ (IsHeaderFault fault)) →
       TakesNoMore rest left → WritesNoMore taps job rest left old new →
       (IsCut status → WritesFirst taps job rest left old new) →
-      (IsLong status → WritesAll taps job rest old new) → misread ≤ misread_now →
-      miswritten ≤ miswritten_now →
-      ReceivesFile taps job status rest left misread misread_now SameSource old new miswritten
-      miswritten_now SameSink
+      (IsLong status → WritesAll taps job rest old new) → misread ≤ misread_now → miswritten ≤ miswritten_now →
+      ReceivesFile taps job status rest left misread misread_now SameSource old new miswritten miswritten_now SameSink
   stopped_file status faulty begun blame failed lost later_fault bound written cut long later
       later_sink = record {
         done = λ end. absurd (fault_no_end status faulty end);

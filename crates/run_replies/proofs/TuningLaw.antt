@@ -8,17 +8,14 @@ handsets_tuned span header samples fingers paging traffic = (refl, refl, refl, r
 
 -- a file that is near to what a cell sends has as many samples
 pub near_long : (e : ℕ) (width : Width) (plan : CellPlan) (span fingers : ℕ) (header : Header)
-    (samples : List Sample) → IsNearFile e width plan span fingers header samples →
-    length samples ≡ plan.link.samples
+    (samples : List Sample) → IsNearFile e width plan span fingers header samples → length samples ≡ plan.link.samples
 near_long e width plan span fingers header samples file =
     length-near e samples (made_samples plan) file.near ∙ length-made plan
 
 -- one finger is on the best phase
-pub own_delta : (samples : List Sample) →
-    near_deltas samples (best_phase samples) 1 ≡ pos 0 ∷ []
+pub own_delta : (samples : List Sample) → near_deltas samples (best_phase samples) 1 ≡ pos 0 ∷ []
 own_delta samples =
-    one_delta samples (best_phase samples) (energy samples (best_phase samples))
-    (best_phase-is samples)
+    one_delta samples (best_phase samples) (energy samples (best_phase samples)) (best_phase-is samples)
 
 -- so the handset lies on the cell's path
 pub on_plans_path : HandsetsLieOnThePath

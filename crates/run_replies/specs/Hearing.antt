@@ -128,8 +128,7 @@ IsUnheard job =
 -- pages of the paging channel that is followed, and the frames of the traffic channel that is, with
 -- the messages that their signaling spells and the pilot sets
 unfoldable pub clean_events : ℕ → CellPlan → ℕ → Option Traffic → List Event
-clean_events span plan paging traffic =
-    sent_events plan (cell_energy span plan) paging traffic
+clean_events span plan paging traffic = sent_events plan (cell_energy span plan) paging traffic
 
 -- how a run over a clean link ends: each whole transmission tells the time
 abbrev pub clean_end : CellPlan → Status
@@ -150,8 +149,7 @@ IsLawfulHandset fingers paging traffic =
 
 -- from one to three of them, the best phase first
 abbrev pub AreReady : Near → Type 0
-AreReady near =
-    (1 ≤ near.count) × (near.count ≤ 3) × (slice_get near.deltas 0 ≡ Some (pos 0))
+AreReady near = (1 ≤ near.count) × (near.count ≤ 3) × (slice_get near.deltas 0 ≡ Some (pos 0))
 
 -- ---- what a sink got of it
 

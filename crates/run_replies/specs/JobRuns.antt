@@ -1,4 +1,4 @@
--- What a run promises that receives a sample file, makes one, or does a task. It ends so, over a
+-- What a run promises that receives a sample file, makes one, or tries a link. It ends so, over a
 -- source that told these bytes and then tells those that are left, and a sink that told these and
 -- then those; of each, numbers are its counts of faults before and after, and a type says that it
 -- is as it was.
@@ -80,8 +80,7 @@ pub record RunsJob (forms : List ℕ) (job : Job) (status : Status)
   pub read_fault : status ≡ ends.ReadFault → Rose misread misread_now
   pub write_fault : status ≡ ends.WriteFault →
       Rose miswritten miswritten_now × IfSome rest (IsPromising job)
-  pub memory : status ≡ ends.NoMemory →
-      SameSink × (SameSource ⊎ IfSome rest (IsPromising job))
+  pub memory : status ≡ ends.NoMemory → SameSink × (SameSource ⊎ IfSome rest (IsPromising job))
   pub early : IsEarlyFault status → SameSink
   pub header : (fault : FileFault) → status ≡ ends.BadFile fault → IsHeaderFault fault →
       ConsumesAtMost 16 rest left

@@ -108,8 +108,7 @@ WritesTaken forms (Trial number workers) Unwritten = λ rest left old new. Unit 
 WritesTaken forms job Unwritten = WritesFirst (taps_for job forms) job
 
 -- and where it goes on after its samples: their whole text
-abbrev pub WritesWhole : List ℕ → Job → Option (List ℕ) → Option (List ℕ) → Option (List ℕ) →
-    Type 0
+abbrev pub WritesWhole : List ℕ → Job → Option (List ℕ) → Option (List ℕ) → Option (List ℕ) → Type 0
 WritesWhole forms (Make width) = λ rest old new. Unit {0}
 WritesWhole forms (Trial number workers) = λ rest old new. Unit {0}
 WritesWhole forms job = WritesAll (taps_for job forms) job

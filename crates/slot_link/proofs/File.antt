@@ -362,8 +362,7 @@ module _ (plan : CellPlan) (t : Tuning) (number : ℕ) (m : Mark) (superframes :
         (slots_to_end plan superframes) (λ slot inside. heard_low low slot inside)
 
     slots_high : nat_lt m.prat 2 ≡ false → filter heard (places (slot_bound (length samples))) ≡ []
-    slots_high high =
-        filter_none_places heard (slot_bound (length samples)) (λ slot below. heard_high high slot)
+    slots_high high = filter_none_places heard (slot_bound (length samples)) (λ slot below. heard_high high slot)
 
 -- ---- their lines
 

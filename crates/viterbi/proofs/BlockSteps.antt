@@ -13,8 +13,7 @@ use Rattle.viterbi.proofs.Blocks.{passed, kept}
 all_tests : (p : ℕ → Bool) (xs : List ℕ) (i d : ℕ) → i < length xs → list_all p xs ≡ true → p (get_or xs i d) ≡ true
 all_tests p [] i d h all = absurd (omega (arith, h))
 all_tests p (x ∷ xs) zero d h all = (and_parts (p x) (list_all p xs) all).0
-all_tests p (x ∷ xs) (suc i) d h all =
-    all_tests p xs i d (omega (arith, h)) (and_parts (p x) (list_all p xs) all).1
+all_tests p (x ∷ xs) (suc i) d h all = all_tests p xs i d (omega (arith, h)) (and_parts (p x) (list_all p xs) all).1
 
 all_below : (p : ℕ → Bool) (n : ℕ) → list_all p (range_with_len 0 n) ≡ true → (t : ℕ) → t < n → p t ≡ true
 all_below p n all t b =
@@ -171,8 +170,7 @@ less_read column xs made top at room top_fits each less h made_of =
       size = ap length is ∙ length-map xs (λ x. x -ℤ top) ∙ h.long
 
       fits : (l : ℕ) → l < length made → FitsSigned w64 (get_or made l (pos 0))
-      fits l b =
-          rw (here l (omega (arith, b, size))) (less (at + 2 * l) (omega (arith, b, size, room)))
+      fits l b = rw (here l (omega (arith, b, size))) (less (at + 2 * l) (omega (arith, b, size, room)))
 
 place_even : (k l : ℕ) → k < 32 → l < 8 → 2 * ((8 * k + l) % 128) + 0 ≡ 16 * (k % 16) + 2 * l
 place_even k l p b = omega (arith, p, b)
@@ -294,8 +292,7 @@ lanes_fit column a g top f s k at room can h n gains = (
       (can.near (at + 2 * l) (omega (arith, b, room))))
 
   g_fits : (l : ℕ) → l < 8 → FitsSigned w64 (get_or g l (pos 0))
-  g_fits l b =
-      rw (gains l b) (gain_fits f s (get_or lane_codes (8 * get_or patterns k 0 + l) 0) can.pair)
+  g_fits l b = rw (gains l b) (gain_fits f s (get_or lane_codes (8 * get_or patterns k 0 + l) 0) can.pair)
 
   both : (l : ℕ) → l < 8 → FitsSigned w64 (get_or a l (pos 0) +ℤ get_or g l (pos 0))
       × FitsSigned w64 (get_or a l (pos 0) -ℤ get_or g l (pos 0))

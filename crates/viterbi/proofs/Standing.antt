@@ -53,8 +53,7 @@ moved by xs = map (λ x. x +ℤ by) xs
 
 moved_read : (by : ℤ) (xs : List ℤ) (u : ℕ) → length xs ≡ 256 → u < 256 →
     get_or (moved by xs) u (pos 0) ≡ get_or xs u (pos 0) +ℤ by
-moved_read by xs u whole b =
-    get_or-map (λ x. x +ℤ by) xs u (pos 0) (pos 0) (omega (arith, whole, b))
+moved_read by xs u whole b = get_or-map (λ x. x +ℤ by) xs u (pos 0) (pos 0) (omega (arith, whole, b))
 
 sum_moved : (x by gain : ℤ) → (x +ℤ by) +ℤ gain ≡ (x +ℤ gain) +ℤ by
 sum_moved x by gain = omega (arith, ints)

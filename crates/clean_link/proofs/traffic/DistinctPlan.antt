@@ -98,8 +98,7 @@ starts_at mask (suc n) v (suc g) low below =
 -- ---- all of a frame
 
 abbrev pub pairs_by : List ℕ → List ℕ
-pairs_by starts =
-    flat_map (λ g. (24 * g + get_or starts g 0) ∷ (24 * g + get_or starts g 0 + 1) ∷ []) (places 16)
+pairs_by starts = flat_map (λ g. (24 * g + get_or starts g 0) ∷ (24 * g + get_or starts g 0 + 1) ∷ []) (places 16)
 
 -- back from a group later
 back : (v : ℕ) → v < 2 ^ 42 → before (after v 1536) 1536 ≡ v

@@ -11,8 +11,7 @@ loop-event-init g c = record {
   told = λ (t : Tuning) (first : List KeptTap) (heard : List Sample) (given : List Event)
       (stands : StandsFor t c.args.mobile.now heard given)
       (following : g.T.KeepsTaps.kept c.args.taps.now ≡ run_taps first given).
-      subst (λ (xs : List Sample). HasTold t first c.args.mobile.now
-      (g.T.KeepsTaps.kept c.args.taps.now) given xs
+      subst (λ (xs : List Sample). HasTold t first c.args.mobile.now (g.T.KeepsTaps.kept c.args.taps.now) given xs
       (g.K.Sink.written c.args.sink.now) (g.K.Sink.written c.args.sink.now))
       (sym (append-nil heard))
       (told_none t first c.args.mobile.now (g.T.KeepsTaps.kept c.args.taps.now) given heard
@@ -31,11 +30,9 @@ returns-in_default-clause-ok g c t first heard stands following =
     let left = take_rest samples taken in
     let none = c.step-step.ensures.none nothing in
     told_all t first c.loop-event.mobile c.step-step.new.self _ heard samples taken
-    c.step-step.result.taken _ _ (inv.told t first heard (events t heard) stands following)
-    (none.0 ∙ ap length left)
+    c.step-step.result.taken _ _ (inv.told t first heard (events t heard) stands following) (none.0 ∙ ap length left)
     (step_stands t heard samples taken None nothing c.step-step.ensures.steps)
-    (λ (before : List Event)
-    (is : StandsFor t c.loop-event.mobile (heard ++ take taken samples) before).
+    (λ (before : List Event) (is : StandsFor t c.loop-event.mobile (heard ++ take taken samples) before).
     subst (λ (xs : List Sample). before ≡ events t ((heard ++ take taken samples) ++ xs)) left
     (none.1 t (heard ++ take taken samples) before is))
 
@@ -78,5 +75,4 @@ returns-in_err-tell-clause-err g c =
     (following : g.T.KeepsTaps.kept c.args.taps.now ≡ run_taps first (events t heard)).
     told_part t first c.loop-event.mobile c.step-step.new.self _ heard samples taken
     c.step-step.result.taken event _ _ _ (inv.told t first heard (events t heard) stands following)
-    (step_stands t heard samples taken (Some event) something c.step-step.ensures.steps)
-    (search rules))
+    (step_stands t heard samples taken (Some event) something c.step-step.ensures.steps) (search rules))

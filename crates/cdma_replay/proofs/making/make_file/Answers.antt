@@ -14,11 +14,7 @@ returns-in_err-cell g c =
       others = (told.others.0, told.others.1, told.others.3);
       memory = λ none. refl;
       early = λ none. inr (told.memory none);
-      bad_script = λ fault is. (
-        (told.bad_script fault is).0,
-        refl,
-        (told.bad_script fault is).1,
-      );
+      bad_script = λ fault is. ((told.bad_script fault is).0, refl, (told.bad_script fault is).1);
       read_fault = told.read_fault;
       unwritten = λ failed. refl;
       write_fault = λ lost. absurd (told.others.2 lost);
@@ -36,8 +32,7 @@ returns-in-Ok g c =
     let plan = c.in_ok-cell.cell.plan in
     let named = c.in_ok-cell.ensures.named in
     made_whole
-    (IfSome_then rest named
-    (λ bytes is. record { plan = plan; named = is; written = c.in-Ok.ensures.ok }))
+    (IfSome_then rest named (λ bytes is. record { plan = plan; named = is; written = c.in-Ok.ensures.ok }))
     c.in_ok-cell.ensures.at_end (writes_whole c.args.width plan rest _ _ named c.in-Ok.ensures.ok)
     c.open_cell.ensures.bound c.open_cell.ensures.later c.write_cell.ensures.cause.later
 

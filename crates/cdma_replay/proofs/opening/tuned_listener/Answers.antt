@@ -11,8 +11,7 @@ returns-clause-listens c first found near =
     let long : length c.args.near.deltas ≡ 3 = search rules in
     let settings = c.args.settings in
     let boxed : c.in_ok-new.field-0.value ≡ c.in_ok-tuned.tuned = search rules in
-    rw boxed (c.in_ok-tuned.ensures.listens (tuning_for settings first)
-    (c.in_ok-mobile.ensures.given first found near)
+    rw boxed (c.in_ok-tuned.ensures.listens (tuning_for settings first) (c.in_ok-mobile.ensures.given first found near)
     (sym (best_phase-only first best.phase best.energy found))
     (sym (near_taken first settings.fingers best c.args.near found near.0 c.requires.settings.0.1 long near.1))
     refl)

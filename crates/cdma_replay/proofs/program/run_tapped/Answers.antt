@@ -7,5 +7,4 @@ returns-clause-ran g c =
     c.pass_on.ensures
 
 pub returns-clause-flushed : goal.returns-clause-flushed
-returns-clause-flushed g c =
-    run_passed c.replay-status.ensures c.pass_on.ensures
+returns-clause-flushed g c = run_passed c.replay-status.ensures c.pass_on.ensures

@@ -101,12 +101,7 @@ returns-in-Err-clause-written g c =
     let long : length c.read.new.out ≡ length c.loop-reader.piece = search rules in
     let room : n ≤ length c.read.new.out = omega (arith, long, c.in_ok-count.ensures.count) in
     hears_stopped _ _ c.args.reader.now.left (ap width_of inv.same) inv.hears
-    (omega (
-      arith,
-      length-take-le n c.read.new.out room,
-      c.in_ok-count.ensures.count,
-      inv.low,
-    ))
+    (omega (arith, length-take-le n c.read.new.out room, c.in_ok-count.ensures.count, inv.low))
     c.in_ok-count.ensures.in_range c.in_ok-count.ensures.samples c.in-Err.ensures.err
 
 pub returns-in_err-finish-clause-written : goal.returns-in_err-finish-clause-written
@@ -120,8 +115,7 @@ pub returns-in_err-finish-clause-place : goal.returns-in_err-finish-clause-place
 returns-in_err-finish-clause-place g c fault is =
     let inv = c.loop-reader.invariant in
     let none : IsNone c.loop-reader.reader.fault = rw inv.good refl in
-    let done : c.loop-reader.reader.left ≤ 0 =
-    omega (arith, c.left.ensures.value, c.loop-reader-test.false) in
+    let done : c.loop-reader.reader.left ≤ 0 = omega (arith, c.left.ensures.value, c.loop-reader-test.false) in
     let e = blamed c.from_residual-in_err-finish.result c.in_err-finish.field-0.0 fault
     c.from_residual-in_err-finish.ensures.1 is in
     subst (λ (f : FileFault). IfSome (g.S.Source.rest c.args.source.now)
@@ -144,10 +138,8 @@ returns-clause-written g c =
 
 pub returns-clause-ok : goal.returns-clause-ok
 returns-clause-ok g c =
-    let done : c.loop-reader.reader.left ≤ 0 =
-    omega (arith, c.left.ensures.value, c.loop-reader-test.false) in
-    hears_all c.args.reader.now.left c.loop-reader.reader.left c.loop-reader.invariant.hears done
-    (search rules)
+    let done : c.loop-reader.reader.left ≤ 0 = omega (arith, c.left.ensures.value, c.loop-reader-test.false) in
+    hears_all c.args.reader.now.left c.loop-reader.reader.left c.loop-reader.invariant.hears done (search rules)
 
 -- Where a piece can't be read, the listener has heard all samples before it, and the bytes that
 -- were taken after them are no more than those of a piece, which has 4,096 samples.
@@ -161,8 +153,7 @@ returns-in_err-count-clause-cut g c cut =
     (sample_len (width_of h) * min (length c.loop-reader.piece) c.loop-reader.reader.left)
     (g.S.Source.rest c.loop-reader.source) (g.S.Source.rest c.read.new.source)) inv.same
     c.read.ensures.taken)
-    (sample_len-mono width (min (length c.loop-reader.piece) c.loop-reader.reader.left) 4096
-    (omega (arith, inv.room)))
+    (sample_len-mono width (min (length c.loop-reader.piece) c.loop-reader.reader.left) 4096 (omega (arith, inv.room)))
 
 -- A piece that can't be read never ends the run as a file that is too long does: its file was cut
 -- short or reading it failed, and only a byte after the last sample makes a file too long.
@@ -185,8 +176,7 @@ returns-in_err-finish-clause-cut g c cut =
 pub returns-in_err-finish-clause-long : goal.returns-in_err-finish-clause-long
 returns-in_err-finish-clause-long g c long =
     let left = c.args.reader.now.left in
-    let done : c.loop-reader.reader.left ≤ 0 =
-    omega (arith, c.left.ensures.value, c.loop-reader-test.false) in
+    let done : c.loop-reader.reader.left ≤ 0 = omega (arith, c.left.ensures.value, c.loop-reader-test.false) in
     hears_first (λ (k : ℕ). k ≡ left) 1 c.loop-reader.invariant.hears (omega (arith, done))
     c.finish.ensures.taken (omega arith)
 
@@ -203,8 +193,7 @@ read_most g c =
     c.read.ensures.taken
 
 pub returns-in_err-count-clause-bound : goal.returns-in_err-count-clause-bound
-returns-in_err-count-clause-bound g c =
-    read_most g (goal.at.returns-in_err-count-clause-bound g c).After-read
+returns-in_err-count-clause-bound g c = read_most g (goal.at.returns-in_err-count-clause-bound g c).After-read
 
 pub returns-in-Err-clause-bound : goal.returns-in-Err-clause-bound
 returns-in-Err-clause-bound g c = read_most g (goal.at.returns-in-Err-clause-bound g c).After-read
@@ -219,12 +208,10 @@ finished_most g c =
     let now = c.loop-reader.reader.left in
     let width = width_of c.args.reader.now.header in
     passed_most (g.S.Source.rest c.args.source.now) _ _ c.loop-reader.invariant.hears.passed
-    c.finish.ensures.taken
-    (omega (arith, sample_len-mono width (left - now) left (omega arith)))
+    c.finish.ensures.taken (omega (arith, sample_len-mono width (left - now) left (omega arith)))
 
 pub returns-in_err-finish-clause-bound : goal.returns-in_err-finish-clause-bound
-returns-in_err-finish-clause-bound g c =
-    finished_most g (goal.at.returns-in_err-finish-clause-bound g c).After-finish
+returns-in_err-finish-clause-bound g c = finished_most g (goal.at.returns-in_err-finish-clause-bound g c).After-finish
 
 pub returns-clause-bound : goal.returns-clause-bound
 returns-clause-bound g c = finished_most g (goal.at.returns-clause-bound g c).After-finish

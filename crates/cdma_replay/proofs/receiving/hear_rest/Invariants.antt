@@ -6,8 +6,7 @@ abbrev pub invariant-loop-reader : goal.invariant-loop-reader
 invariant-loop-reader g l = record {
   hears : Hears (width_of l.initial.reader.header) (l.initial.reader.left - l.reader.left)
       l.fn.listener l.listener (g.T.KeepsTaps.kept l.fn.taps) (g.T.KeepsTaps.kept l.taps)
-      (g.S.Source.rest l.fn.source) (g.S.Source.rest l.source) (g.K.Sink.written l.fn.sink)
-      (g.K.Sink.written l.sink);
+      (g.S.Source.rest l.fn.source) (g.S.Source.rest l.source) (g.K.Sink.written l.fn.sink) (g.K.Sink.written l.sink);
   kept : All IsKept (g.T.KeepsTaps.kept l.taps);
   taken : HasRoom l.listener l.reader.left;
   same : l.reader.header ≡ l.initial.reader.header;

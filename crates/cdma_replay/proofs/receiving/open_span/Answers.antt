@@ -29,8 +29,7 @@ returns-in_err-read-clause-place g c =
     rw (p.1, p.2)
     (fault_of_span _ (g.S.Source.rest c.args.source.now) _ _ (length c.args.span.now) reading
     c.in_ok-reader.ensures.told c.in_ok-reader.ensures.header
-    (ap (λ (r : Reading). r.left) c.in_ok-reader.ensures.fresh) enough
-    (c.in_err-read.ensures.fault none))
+    (ap (λ (r : Reading). r.left) c.in_ok-reader.ensures.fresh) enough (c.in_err-read.ensures.fault none))
 
 -- bytes with a fault are no file
 pub returns-in_err-reader-clause-fault : goal.returns-in_err-reader-clause-fault
@@ -55,8 +54,7 @@ returns-in_err-reader-clause-few g c =
     rw p.1 (opening_few (length c.args.span.now) _ _ c.open.ensures.taken)
 
 pub returns-then-count-span-clause-few : goal.returns-then-count-span-clause-few
-returns-then-count-span-clause-few g c =
-    opening_few (length c.args.span.now) _ _ c.open.ensures.taken
+returns-then-count-span-clause-few g c = opening_few (length c.args.span.now) _ _ c.open.ensures.taken
 
 -- Where the first samples can't be read, fewer bytes were taken than those of the header and the
 -- samples that are searched: after the header's 16 the read took fewer than it was to take.
@@ -75,8 +73,7 @@ returns-in_err-read-clause-few g c =
 pub returns-in_err-reader-clause-no_longer : goal.returns-in_err-reader-clause-no_longer
 returns-in_err-reader-clause-no_longer g c =
     let p = err_from_is_err_and c.from_residual.result c.from_residual.ensures.1 in
-    rw (p.1, p.2)
-    (unopened _ (g.S.Source.rest c.args.source.now) c.in_err-reader.ensures.told)
+    rw (p.1, p.2) (unopened _ (g.S.Source.rest c.args.source.now) c.in_err-reader.ensures.told)
 
 -- Where the first samples can't be read, the file isn't reported as too long: the header was read
 -- without a fault, and a read that fails after it tells of a file that is cut short, or that
@@ -88,8 +85,7 @@ returns-in_err-read-clause-no_longer g c =
     let none : IsNone reading.fault = rw good refl in
     let p = err_from_is_err_and c.from_residual-in_err-read.result
     c.from_residual-in_err-read.ensures.1 in
-    rw (p.1, p.2)
-    (λ long. absurd (no_long_cut _ _ _ _ _ (c.in_err-read.ensures.fault none) long))
+    rw (p.1, p.2) (λ long. absurd (no_long_cut _ _ _ _ _ (c.in_err-read.ensures.fault none) long))
 
 -- no more bytes were taken than the header has, or than it counts
 pub returns-in_err-reader-clause-bound : goal.returns-in_err-reader-clause-bound
@@ -98,8 +94,7 @@ returns-in_err-reader-clause-bound g c =
     rw p.1 (opening_most (g.S.Source.rest c.args.source.now) _ c.open.ensures.taken)
 
 pub returns-then-count-span-clause-bound : goal.returns-then-count-span-clause-bound
-returns-then-count-span-clause-bound g c =
-    opening_most (g.S.Source.rest c.args.source.now) _ c.open.ensures.taken
+returns-then-count-span-clause-bound g c = opening_most (g.S.Source.rest c.args.source.now) _ c.open.ensures.taken
 
 pub returns-in_err-read-clause-bound : goal.returns-in_err-read-clause-bound
 returns-in_err-read-clause-bound g c =

@@ -29,17 +29,14 @@ returns-in_err-listener g c =
 -- what is told before any sample, or of the first ones, can't be written
 pub returns-in-Err : goal.returns-in-Err
 returns-in-Err g c =
-    lost_file
-    (begins_file _ _ c.requires.span.0 c.in_ok-reader.ensures.taken)
-    c.in-Err.ensures.cause.failed
-    (rest_most c.in_ok-reader.ensures.taken (none_most _ _))
+    lost_file (begins_file _ _ c.requires.span.0 c.in_ok-reader.ensures.taken)
+    c.in-Err.ensures.cause.failed (rest_most c.in_ok-reader.ensures.taken (none_most _ _))
     (writes_first_text c.in_ok-listener.listener c.requires.span.0 c.in_ok-reader.ensures.taken
     c.header.ensures.value c.in_ok-listener.ensures.fresh c.in-Err.ensures.err)
     c.open_span.ensures.later c.begin.ensures.cause.later
 
 -- what is told before any sample was written
-begun_of : (g : Over) (c : In-Ok g) →
-    HasBegun (g.T.KeepsTaps.kept c.args.taps) c.args.job c.in_ok-reader.reader.header
+begun_of : (g : Over) (c : In-Ok g) → HasBegun (g.T.KeepsTaps.kept c.args.taps) c.args.job c.in_ok-reader.reader.header
     c.open_span.new.span c.begin.new.self (g.T.KeepsTaps.kept c.begin.new.taps)
     (g.S.Source.rest c.args.source.now) (g.S.Source.rest c.open_span.new.source)
     (g.K.Sink.written c.args.sink.now) (g.K.Sink.written c.begin.new.sink)
@@ -51,13 +48,10 @@ begun_of g c =
 pub returns-in-Err-hear : goal.returns-in-Err-hear
 returns-in-Err-hear g c =
     let begun = begun_of g (goal.at.returns-in-Err-hear g c).In-Ok in
-    lost_file
-    (begins_file _ _ c.requires.span.0 c.in_ok-reader.ensures.taken)
+    lost_file (begins_file _ _ c.requires.span.0 c.in_ok-reader.ensures.taken)
     (rose_before _ _ _ c.begin.ensures.cause.later c.in-Err-hear.ensures.cause.failed)
-    (rest_most c.in_ok-reader.ensures.taken (none_most _ _))
-    (writes_first_part begun c.in-Err-hear.ensures.err)
-    c.open_span.ensures.later
-    (omega (arith, c.begin.ensures.cause.later, c.hear.ensures.cause.later))
+    (rest_most c.in_ok-reader.ensures.taken (none_most _ _)) (writes_first_part begun c.in-Err-hear.ensures.err)
+    c.open_span.ensures.later (omega (arith, c.begin.ensures.cause.later, c.hear.ensures.cause.later))
 
 -- the others aren't heard to the end of the file
 pub returns-in_err-hear_rest : goal.returns-in_err-hear_rest
@@ -75,8 +69,7 @@ returns-in_err-hear_rest g c =
     IfSome rest (λ bytes. IsFaultIn (span_of c.args.job) bytes fault) =
     λ fault blames.
     subst (λ (n : ℕ). IfSome rest (λ (bytes : List ℕ). IsFaultIn n bytes fault)) begun.counted
-    (fault_of_rest fault rest _ reader span begun.lawful (search rules) begun.consumed
-    (told.place fault blames)) in
+    (fault_of_rest fault rest _ reader span begun.lawful (search rules) begun.consumed (told.place fault blames)) in
     rw (ended_by c.from_residual-in_err-hear_rest.result c.in_err-hear_rest.field-0.0
     c.from_residual-in_err-hear_rest.ensures.1)
     (stopped_file c.in_err-hear_rest.field-0.0 told.others
@@ -86,10 +79,8 @@ returns-in_err-hear_rest g c =
     (λ lost. rose_before _ _ _ later (told.write_fault lost)) told.sample_fault
     (rest_most c.in_ok-reader.ensures.taken c.hear_rest.ensures.bound)
     (writes_rest_part left begun c.in-Ok-hear.ensures.ok told.written)
-    (λ cut. writes_first rest _ _ _ _ begun.lawful left begun c.in-Ok-hear.ensures.ok
-    (told.cut cut))
-    (λ long. writes_all rest _ _ _ _ begun.lawful left begun c.in-Ok-hear.ensures.ok
-    (told.long long))
+    (λ cut. writes_first rest _ _ _ _ begun.lawful left begun c.in-Ok-hear.ensures.ok (told.cut cut))
+    (λ long. writes_all rest _ _ _ _ begun.lawful left begun c.in-Ok-hear.ensures.ok (told.long long))
     (omega (arith, c.open_span.ensures.later, c.hear_rest.ensures.later_source))
     (omega (arith, later, c.hear_rest.ensures.later_sink)))
 

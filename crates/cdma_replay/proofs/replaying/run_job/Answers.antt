@@ -3,8 +3,7 @@ use Rattle.cdma_replay.proofs.replaying.run_job.Goals as goal
 
 pub returns-in-Make : goal.returns-in-Make
 returns-in-Make g c =
-    rw (c.in-Make.is, c.status_of.ensures)
-    (made_run _ c.in-Make.width _ c.make.ensures)
+    rw (c.in-Make.is, c.status_of.ensures) (made_run _ c.in-Make.width _ c.make.ensures)
 
 pub returns-in-Trial : goal.returns-in-Trial
 returns-in-Trial g c =

@@ -20,8 +20,7 @@ loop-event-init c = record {
 
 pub returns-in_default-clause-few : goal.returns-in_default-clause-few
 returns-in_default-clause-few c =
-    room_left c.loop-event.counts _ _ c.loop-event.invariant.few
-    (omega (arith, c.step-step.ensures.steps.fewer))
+    room_left c.loop-event.counts _ _ c.loop-event.invariant.few (omega (arith, c.step-step.ensures.steps.fewer))
 
 -- A step that gives no event took all samples that were left, and leaves no event of theirs untold.
 -- So the events that were counted are all that a handset hears of these samples.
@@ -33,8 +32,7 @@ returns-in_default-clause-told c t heard given stands is =
     let left = take_rest samples taken in
     let none = c.step-step.ensures.none nothing in
     counted_all t c.loop-event.mobile c.step-step.new.self c.loop-event.counts heard samples taken
-    c.step-step.result.taken (c.loop-event.invariant.told t heard given stands is)
-    (none.0 ∙ ap length left)
+    c.step-step.result.taken (c.loop-event.invariant.told t heard given stands is) (none.0 ∙ ap length left)
     (step_stands t heard samples taken None nothing c.step-step.ensures.steps)
     (λ before standing.
     subst (λ (xs : List Sample). before ≡ events t ((heard ++ take taken samples) ++ xs)) left
@@ -46,8 +44,7 @@ add-requires c =
     let fewer : steps_left c.step-step.new.self + 1 ≤ steps_left c.loop-event.mobile =
     subst (λ (e : Option Event). steps_left c.step-step.new.self + length (event_list e)
     ≤ steps_left c.loop-event.mobile) something c.step-step.ensures.steps.fewer in
-    room_for_one c.loop-event.counts (steps_left c.loop-event.mobile) c.loop-event.invariant.few
-    (omega (arith, fewer))
+    room_for_one c.loop-event.counts (steps_left c.loop-event.mobile) c.loop-event.invariant.few (omega (arith, fewer))
 
 -- One event more is counted: the handset now stands for the samples of this step and for this event
 -- after those before it, and the counts still leave room for the steps that are left, which are
@@ -66,8 +63,7 @@ loop-event-preserved c =
     record {
       most = search rules;
       room = search rules;
-      few = subst (λ (k : Counts). LeavesRoom k (steps_left c.step-step.new.self))
-          (sym added)
+      few = subst (λ (k : Counts). LeavesRoom k (steps_left c.step-step.new.self)) (sym added)
           (room_after_event c.loop-event.counts event (steps_left c.step-step.new.self)
           (steps_left c.loop-event.mobile) inv.few fewer);
       told = λ t heard given stands is.

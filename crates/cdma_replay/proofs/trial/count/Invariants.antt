@@ -8,10 +8,8 @@ invariant-loop-event l = record {
   room : has_room l.mobile + l.taken ≡ has_room l.fn.mobile;
   few : LeavesRoom l.counts (steps_left l.mobile);
   told : (t : Tuning) (heard : List Sample) (given : List Event) →
-      StandsFor t l.fn.mobile heard given → l.fn.counts ≡ counts_of given →
-      (more : List Event)
-      × StandsFor t l.mobile (heard ++ take l.taken l.samples) more
-      × (l.counts ≡ counts_of more);
+      StandsFor t l.fn.mobile heard given → l.fn.counts ≡ counts_of given → (more : List Event)
+      × StandsFor t l.mobile (heard ++ take l.taken l.samples) more × (l.counts ≡ counts_of more);
 }
 
 abbrev pub decreases-loop-event : goal.decreases-loop-event

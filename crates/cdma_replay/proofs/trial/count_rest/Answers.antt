@@ -20,12 +20,6 @@ returns c t stands is =
     let inv = c.loop-cell.invariant in
     let plan = c.args.cell.now.plan in
     let all : plan.link.samples ≤ c.loop-cell.cell.given =
-    omega (
-      arith,
-      c.left.ensures,
-      c.loop-cell-test.false,
-      ap (λ (p : CellPlan). p.link.samples) inv.plan,
-    ) in
+    omega (arith, c.left.ensures, c.loop-cell-test.false, ap (λ (p : CellPlan). p.link.samples) inv.plan) in
     (inv.told t stands is).1
-    ∙ ap (λ (xs : List Sample). counts_of (events t xs))
-    (made_all plan c.loop-cell.cell.given all)
+    ∙ ap (λ (xs : List Sample). counts_of (events t xs)) (made_all plan c.loop-cell.cell.given all)

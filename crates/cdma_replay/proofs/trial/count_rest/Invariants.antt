@@ -11,8 +11,7 @@ invariant-loop-cell l = record {
   told : (t : Tuning) →
       let all = made_samples l.fn.cell.plan in
       let before = take l.fn.cell.given all in
-      StandsFor t l.fn.mobile before (events t before) →
-      l.fn.counts ≡ counts_of (events t before) →
+      StandsFor t l.fn.mobile before (events t before) → l.fn.counts ≡ counts_of (events t before) →
       let now = take l.cell.given all in
       StandsFor t l.mobile now (events t now) × (l.counts ≡ counts_of (events t now));
 }

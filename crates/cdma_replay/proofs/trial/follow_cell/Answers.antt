@@ -5,8 +5,7 @@ use Rattle.cdma_replay.proofs.Counting.{after_span, line_is, span_fits, span_is,
 use Rattle.cdma_replay.proofs.trial.follow_cell.Goals as goal
 
 pub fill-requires : goal.fill-requires
-fill-requires g c =
-    span_fits c.args.cell.now c.args.number (length c.args.span.now) c.requires.cell c.requires.span
+fill-requires g c = span_fits c.args.cell.now c.args.number (length c.args.span.now) c.requires.cell c.requires.span
 
 pub settings_by-settings-requires : goal.settings_by-settings-requires
 settings_by-settings-requires g c =
@@ -59,8 +58,7 @@ returns g c =
     c.requires.cell c.requires.span c.fill.ensures.state in
     let rest =
     c.count_rest.ensures t
-    (subst (λ (xs : List Sample). StandsFor t c.count.new.mobile xs (events t xs))
-    (span ∙ sym following.1) told.0)
+    (subst (λ (xs : List Sample). StandsFor t c.count.new.mobile xs (events t xs)) (span ∙ sym following.1) told.0)
     (told.1 ∙ ap (λ (xs : List Sample). counts_of (events t xs)) (span ∙ sym following.1)) in
     line_is number c.summary.result c.header-header.result.count c.get.result
     c.count_rest.new.counts c.summary.ensures (ap (λ (h : Header). h.count) header)

@@ -14,14 +14,12 @@ pub returns-clause-job : goal.returns-clause-job
 returns-clause-job c =
     let texts = map string_bytes c.args.options.now in
     let is : job_after c.args.name.now texts ≡ job_by (command_entry c.in-Some.command) texts =
-    ap (λ (o : Option CommandEntry). option_and_then (λ entry. job_by entry texts) o)
-    (sym c.in-Some.ensures) in
+    ap (λ (o : Option CommandEntry). option_and_then (λ entry. job_by entry texts) o) (sym c.in-Some.ensures) in
     IfOk-weaker c.job_by.result _ _ (λ job e. is ∙ e) c.job_by.ensures.job
 
 pub returns-clause-bad : goal.returns-clause-bad
 returns-clause-bad c =
     let texts = map string_bytes c.args.options.now in
     let is : job_after c.args.name.now texts ≡ job_by (command_entry c.in-Some.command) texts =
-    ap (λ (o : Option CommandEntry). option_and_then (λ entry. job_by entry texts) o)
-    (sym c.in-Some.ensures) in
+    ap (λ (o : Option CommandEntry). option_and_then (λ entry. job_by entry texts) o) (sym c.in-Some.ensures) in
     (λ e. is ∙ c.job_by.ensures.bad.0 e, λ none. c.job_by.ensures.bad.1 (sym is ∙ none))

@@ -18,8 +18,7 @@ returns-then-not-are_lawful-clause-bad c =
     )
 
 -- the options are lawful where the job is read
-lawful : (c : After-is_none) →
-    AreLawful (command_entry c.args.command) (map string_bytes c.args.options.now)
+lawful : (c : After-is_none) → AreLawful (command_entry c.args.command) (map string_bytes c.args.options.now)
 lawful c =
     ap (λ (entries : List OptionEntry).
     is_some (given_after entries (Some []) (map string_bytes c.args.options.now)))
@@ -46,10 +45,8 @@ returns-in_default-clause-bad c =
     ∙ c.is_none.ensures ∙ ap not c.if-is_none.false) (λ e. search rules)
 
 -- and what clap finds makes the same job
-found : (c : After-ok_or) →
-    AreLawful (command_entry c.args.command) (map string_bytes c.args.options.now) →
-    c.ok_or.result
-    ≡ ok_or (job_by (command_entry c.args.command) (map string_bytes c.args.options.now)) Bad
+found : (c : After-ok_or) → AreLawful (command_entry c.args.command) (map string_bytes c.args.options.now) →
+    c.ok_or.result ≡ ok_or (job_by (command_entry c.args.command) (map string_bytes c.args.options.now)) Bad
 found c lawful_options =
     let entry = command_entry c.args.command in
     let texts = map string_bytes c.args.options.now in

@@ -3,8 +3,7 @@ use Rattle.command_line.proofs.ArgJobs.{command_first, no_args}
 use Rattle.command_line.proofs.job.words_of.Goals as goal
 
 pub returns-in_default-clause-bad : goal.returns-in_default-clause-bad
-returns-in_default-clause-bad c =
-    (λ e. no_args c.args.args.now (search rules), λ e. refl)
+returns-in_default-clause-bad c = (λ e. no_args c.args.args.now (search rules), λ e. refl)
 
 pub returns-clause-job : goal.returns-clause-job
 returns-clause-job c =

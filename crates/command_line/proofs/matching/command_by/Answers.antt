@@ -24,7 +24,6 @@ loop-rule-preserved c =
 pub returns : goal.returns
 returns c =
     sym (c.loop-rule.invariant
-    ∙ ap (app_from (app_of c.loop-rule.command)) (drop_all c.loop-rule.rule-index
-    (map entry_of c.args.rules.now)
+    ∙ ap (app_from (app_of c.loop-rule.command)) (drop_all c.loop-rule.rule-index (map entry_of c.args.rules.now)
     (rw (length-map c.args.rules.now entry_of) (omega (arith, c.loop-rule-test.false))))
     ∙ app-none (app_of c.loop-rule.command))

@@ -14,8 +14,7 @@ returns-in_default c =
     let texts = map string_bytes args in
     let inside : place ≤ length args = omega (arith, c.loop-place-test.true) in
     let some : 0 < length (drop place texts) =
-    rw (length-drop place texts, length-map args string_bytes)
-    (omega (arith, c.loop-place-test.true)) in
+    rw (length-drop place texts, length-map args string_bytes) (omega (arith, c.loop-place-test.true)) in
     let is : part_of (drop place texts) ≡ None =
     ap part_of (sym (texts_after args place inside)) ∙ sym c.in_default.ensures.value in
     stands_missing (map entry_of c.args.rules.now) texts place some is c.loop-place.invariant
@@ -24,11 +23,9 @@ returns-in_default c =
 abbrev part_at : In-Some → Part
 part_at c = (c.in-Some.part.name.now, c.in-Some.part.value.now, c.in-Some.part.args)
 
-part_is : (c : In-Some) →
-    part_of (drop c.loop-place.place (map string_bytes c.args.args.now)) ≡ Some (part_at c)
+part_is : (c : In-Some) → part_of (drop c.loop-place.place (map string_bytes c.args.args.now)) ≡ Some (part_at c)
 part_is c =
-    let inside : c.loop-place.place ≤ length c.args.args.now =
-    omega (arith, c.loop-place-test.true) in
+    let inside : c.loop-place.place ≤ length c.args.args.now = omega (arith, c.loop-place-test.true) in
     ap part_of (sym (texts_after c.args.args.now c.loop-place.place inside))
     ∙ sym c.in-Some.ensures.value
 

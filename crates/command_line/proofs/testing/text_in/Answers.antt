@@ -40,6 +40,5 @@ returns c =
     let name = c.args.name.now in
     let args = c.args.args.now in
     let place = c.loop-place.place in
-    let past : length (map string_bytes args) ≤ place =
-    rw (length-map args string_bytes) (omega arith) in
+    let past : length (map string_bytes args) ≤ place = rw (length-map args string_bytes) (omega arith) in
     sym (c.loop-place.invariant ∙ ap (text_in name) (drop_all place (map string_bytes args) past))

@@ -10,8 +10,7 @@ pub returns : goal.returns
 returns c =
     let best : ℕ = c.loop-place.best in
     let end : c.loop-place.place ≡ 2 * c.args.width + 1 = omega arith in
-    let f : ℕ → ℤ =
-    λ (k : ℕ). pos (energy c.args.samples.now (survey_phase c.args.base c.args.width c.args.pilot k)) in
+    let f : ℕ → ℤ = λ (k : ℕ). pos (energy c.args.samples.now (survey_phase c.args.base c.args.width c.args.pilot k)) in
     let all : IsFirstGreatest f (2 * c.args.width + 1) best =
     subst (λ (n : ℕ). IsFirstGreatest f n best) end c.loop-place.invariant.first in
     let delta : to_z w8 (of_z w8 c.delta_of.result) ≡ pos best -ℤ pos c.args.width = omega (arith, ints) in

@@ -7,5 +7,4 @@ returns-clause-value c =
     c.from.ensures c.from-2.ensures
 
 pub returns-clause-bound : goal.returns-clause-bound
-returns-clause-bound c =
-    rw (returns-clause-value c) (branch_most c.args.branch c.args.sign c.ranges.branch c.requires)
+returns-clause-bound c = rw (returns-clause-value c) (branch_most c.args.branch c.args.sign c.ranges.branch c.requires)

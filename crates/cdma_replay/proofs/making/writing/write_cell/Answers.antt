@@ -59,11 +59,6 @@ pub returns-clause-ok : goal.returns-clause-ok
 returns-clause-ok g c =
     let inv = c.loop-width.invariant in
     let done : c.loop-width.cell.given ≡ c.args.cell.now.plan.link.samples =
-    omega (
-      arith,
-      c.left.ensures,
-      c.loop-width-test.false,
-      ap (λ (p : CellPlan). p.link.samples) inv.plan,
-    ) in
+    omega (arith, c.left.ensures, c.loop-width-test.false, ap (λ (p : CellPlan). p.link.samples) inv.plan) in
     pieces_all c.args.width c.args.cell.now.plan c.loop-width.cell.given
     (g.K.Sink.written c.args.sink.now) _ done inv.written
