@@ -7,5 +7,6 @@
 | `completions` | completions of the tools for bash and zsh |
 | `program_completions` | those of cdma_replay, which say what is wrong with its arguments |
 | `archive` | the built program as an archive with its checksum |
+| `gate_log` | the log of the gate that goes with the archive |
 | `debian` | the package: what the rules in debian/ take from here, and how it is made in a copy of the checkout |
 """

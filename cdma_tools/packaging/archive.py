@@ -1,6 +1,7 @@
 """The built program as an archive, for users without the kit: the program, its manual page and its completions.
 
-Next to the archive is its SHA-256 checksum, in the form that `sha256sum --check` reads.
+Next to the archive is its SHA-256 checksum, in the form that `sha256sum --check` reads. If there is a log of the gate
+that proved the program, it is there too, with its checksum.
 """
 
 import gzip
@@ -17,6 +18,7 @@ from cdma_tools.packaging.tree import NAME, PLAIN, Entry, put
 TITLE = f"{NAME}_{__version__}_{ARCHITECTURE}"
 FILE = f"{TITLE}.tar.gz"
 CHECKSUM = f"{FILE}.sha256"
+LOG = f"{TITLE}.gate.log"
 
 
 def archived(files: Iterable[Entry]) -> bytes:
@@ -30,11 +32,16 @@ def archived(files: Iterable[Entry]) -> bytes:
     return gzip.compress(packed.getvalue(), 9, mtime=0)
 
 
-def build(files: Iterable[Entry], folder: str) -> list[str]:
-    """Writes the archive and its checksum into a folder, each completely or not at all; returns their paths."""
-    data = archived(files)
-    checksum = f"{hashlib.sha256(data).hexdigest()}  {FILE}\n".encode()
-    made = [Entry(FILE, data, PLAIN), Entry(CHECKSUM, checksum, PLAIN)]
+def build(files: Iterable[Entry], folder: str, log: bytes | None = None) -> list[str]:
+    """Writes the archive, the gate's log if there is one, and their checksums into a folder; returns the paths.
+
+    Each file is written completely or not at all.
+    """
+    made = [Entry(FILE, archived(files), PLAIN)]
+    if log is not None:
+        made.append(Entry(LOG, log, PLAIN))
+    checksums = "".join(f"{hashlib.sha256(entry.data).hexdigest()}  {entry.place}\n" for entry in made)
+    made.append(Entry(CHECKSUM, checksums.encode(), PLAIN))
     for entry in made:
         put(folder, entry)
     return [os.path.join(folder, entry.place) for entry in made]

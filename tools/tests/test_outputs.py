@@ -21,7 +21,7 @@ from tools.tests.helping import PYTHON, ROOT, needs, run_inside, sample_file, te
 
 needs("numpy", "scipy", "matplotlib", "plotly")
 
-from cdma_tools import writing  # noqa: E402
+from cdma_tools import __version__, writing  # noqa: E402
 from cdma_tools.commands import FAILED, FAILED_AS  # noqa: E402
 from cdma_tools.errors import Refused  # noqa: E402
 from cdma_tools.lines import begins_line  # noqa: E402
@@ -67,6 +67,7 @@ CASES = {
     ("listen", "out"): f"listen {RAW} --program /bin/true IN --out OUT",
     ("listen", "out_dir"): f"listen {RAW} --program /bin/true IN --out-dir FOLDER",
     ("listen", "pcapng"): f"listen {RAW} --program /bin/true IN --pcapng OUT",
+    ("package", "folder"): "package --tarball --log IN FOLDER",
     ("report", "out"): f"report {RAW} --program /bin/true IN --out OUT",
 }
 # Outputs of tools that read no file that they could replace: they have no input, or only a program, and the names of
@@ -77,7 +78,6 @@ NO_INPUT = {
     ("conformance_recordings", "keep"),
     ("house", "write"),
     ("make_capture", "file"),
-    ("package", "folder"),
     ("radio_bench", "keep"),
     ("script", "out"),
 }
@@ -88,6 +88,7 @@ IN_FOLDERS = {
     ("curve", "out"): "curve.csv",
     ("install", "prefix"): os.path.join("bin", "cdma_replay"),
     ("listen", "out_dir"): "cell1-paging1.txt",
+    ("package", "folder"): f"cdma-replay_{__version__}_amd64.gate.log",
 }
 SHOWN = re.compile(r"(?m)^  ((?:pilot phase|(?:sync|paging|frame|traffic|sets|raw) at)=.+)$")
 FRAME = b"frame at=%d rate=9600 good=1 bits=0: commands=0000000000000011\n"

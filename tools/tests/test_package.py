@@ -21,7 +21,7 @@ needs("numpy", "scipy")
 import cdma_tools  # noqa: E402
 from cdma_model.words import COMMANDS  # noqa: E402
 from cdma_tools.errors import Refused  # noqa: E402
-from cdma_tools.packaging import archive, completions, debian, program_completions, tree  # noqa: E402
+from cdma_tools.packaging import archive, completions, debian, gate_log, program_completions, tree  # noqa: E402
 from cdma_tools.places import data_folder  # noqa: E402
 from cdma_tools.program import NAME  # noqa: E402
 from cdma_tools.starting import INSTALLED  # noqa: E402
@@ -366,12 +366,62 @@ class Parts(Installed):
         self.assertEqual(run_tool("package", "--program", program)[0], 2)
         self.assertEqual(run_tool("package", os.path.join(self.folder, "none"))[0], 2)
 
-    def test_a_tarball(self) -> None:
-        """The archive has the program byte by byte, passes its checksum, and is the same each time."""
+    def stand_in(self) -> str:
+        """Returns the path of a script that stands for the program."""
         program = os.path.join(self.folder, "program")
         with open(program, "w", encoding="ascii") as file:
             file.write(STANDS_FOR)
         os.chmod(program, 0o755)
+        return program
+
+    def kept_log(self, text: str) -> tuple[int, str, list[str]]:
+        """Makes an archive with a log; returns the status, what is said, and the files of the folder."""
+        log = os.path.join(self.folder, "gate.log")
+        with open(log, "w", encoding="utf-8") as file:
+            file.write(text)
+        folder = temporary_folder(self.addCleanup)
+        with unittest.mock.patch("cdma_tools.commands.package.BUILT", self.stand_in()):
+            status, _, said = run_inside("package", "--tarball", "--log", log, folder)
+        if status == 0:
+            words = ["sha256sum", "--check", "--quiet", archive.CHECKSUM]
+            self.assertEqual(subprocess.run(words, cwd=folder, capture_output=True, timeout=60).stdout, b"")
+            with open(os.path.join(folder, archive.LOG), encoding="utf-8") as kept:
+                self.assertEqual(kept.read(), text)
+            with open(os.path.join(folder, archive.CHECKSUM), encoding="ascii") as sums:
+                self.assertEqual([line.split()[1] for line in sums], [archive.FILE, archive.LOG])
+        return status, said, files_below(folder)
+
+    def test_the_log_of_a_gate_that_passed(self) -> None:
+        ours = gate_log.this_commit()
+        logs = ["41 passed, 0 failed\n", "rt: ok\n41 passed, 0 failed", "Dec 01 03:00:59 41 passed, 0 failed\n\n"]
+        if ours:
+            logs += [f"{at}commit {ours}\nrt: ok\n{at}1 passed, 0 failed\n" for at in ("", "2026-12-01T03:00:59 ")]
+        for text in logs:
+            with self.subTest(text):
+                self.assertEqual(self.kept_log(text), (0, "", sorted([archive.FILE, archive.LOG, archive.CHECKSUM])))
+
+    def test_no_other_log_is_kept(self) -> None:
+        for text, why in (
+            ("", "the log's last line is not that of a whole gate"),
+            ("rt: ok\n", "not that of a whole gate, 'N passed, 0 failed': 'rt: ok'"),
+            ("41 passed, 0 failed\nmore\n", "not that of a whole gate, 'N passed, 0 failed': 'more'"),
+            ("40 passed, 1 failed\n", "a gate that did not pass"),
+            ("0 passed, 0 failed\n", "a gate that did not pass"),
+            ("1 passed, 0 failed (walsh and the crates below alone: not the gate)\n", "not of the whole gate"),
+            (f"commit {'0' * 40}\n41 passed, 0 failed\n", "the log is of commit 0000000"),
+            ("commit 0000000 (HEAD -> main)\n41 passed, 0 failed\n", "is of commit 0000000, and this checkout"),
+            ("\0" * 1_000, "not that of a whole gate"),
+        ):
+            with self.subTest(text):
+                status, said, files = self.kept_log(text)
+                self.assertEqual((status, said.count("\n"), files), (1, 1, []))
+                self.assertIn(why, said)
+        for words, wanted in ((("--log", os.devnull), 2), (("--tarball", "--log", self.folder), 1)):
+            self.assertEqual(run_inside("package", *words, self.work)[0], wanted)
+
+    def test_a_tarball(self) -> None:
+        """The archive has the program byte by byte, passes its checksum, and is the same each time."""
+        program = self.stand_in()
         made = []
         for name in ("one", "two"):
             folder = os.path.join(self.folder, name)
