@@ -3,7 +3,7 @@ use Rattle.cdma_replay.proofs.Common.{◌≡◌, ℕ, ◌+◌, ◌*◌, ◌<◌,
 use Rattle.cdma_replay.proofs.Common.{length-append, None, Some, Ok, flat_map-append, flat_map, Sample, Header, HasBits, IsLawfulHeader}
 use Rattle.cdma_replay.proofs.Common.{header_spelling, opening, sample_len, sample_spelling, width_of, All-append, length-header_spelling}
 use Rattle.cdma_replay.proofs.Common.{length-samples, KeptTap, front_begins, HasWritten, HearsFirst, WritesAll, WritesFirst, Listening}
-use Rattle.cdma_replay.proofs.Common.{Listens, ListenerTells, listening, Listener, Job, no_fewer, lost, same_header}
+use Rattle.cdma_replay.proofs.Common.{Listens, ListenerTells, listening, Listener, Job, span_of, no_fewer, lost, same_header}
 use Rattle.cdma_replay.proofs.Hearings.{more_after}
 use Rattle.cdma_replay.proofs.Lines.{HasBegun, writes_whole}
 

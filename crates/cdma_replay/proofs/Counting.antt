@@ -120,7 +120,7 @@ pub samples_back : (samples : List Sample) → map sample_with (map of_sample sa
 samples_back [] = refl
 samples_back (s ∷ samples) = ap (λ (ss : List Sample). s ∷ ss) (samples_back samples)
 
--- the next so many samples, as they are given
+-- the next n samples, as they are given
 pub next_made : (plan : CellPlan) (given n : ℕ) (out : List Sample) →
     map of_sample out ≡ take n (drop given (samples_of plan)) → out ≡ take n (drop given (made_samples plan))
 unfolding made_samples

@@ -6,9 +6,9 @@ use Rattle.cdma_replay.proofs.Common.{KeptTap, HearsFirst, PassesSamples, LosesS
 use Rattle.cdma_replay.proofs.Common.{GainsPrefix, Listener}
 use Rattle.cdma_replay.proofs.Hearings.{all_part, more_after, more_none, part_after}
 
--- a source lost the spellings of so many samples, and one listener became the other by hearing them,
--- as the taps that are kept did. The samples are known also where the listener stands for nothing
--- that is known
+-- a source lost the spellings of `count` samples, and one listener became the other by hearing
+-- them, as the taps that are kept did. The samples are known also where the listener stands for
+-- nothing that is known
 pub record Hears (width : Width) (count : ℕ) (one other : Listener)
     (kept following : List KeptTap) (rest left old new : Option (List ℕ)) : Type 0 where
   pub passed : PassesSamples width count rest left

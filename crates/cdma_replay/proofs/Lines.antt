@@ -1,4 +1,4 @@
--- Lemmas on the text that is written, and on the file whose beginning it tells of.
+-- Lemmas on the text that is written, and on the file whose beginning it reports.
 use Rattle.cdma_replay.proofs.Common.{◌≡◌, ℕ, ◌+◌, ◌≤◌, ◌++◌, List, [], length, take, sym, ap, ◌∙◌, subst, arith, inr, append_assoc}
 use Rattle.cdma_replay.proofs.Common.{append-nil, length-append, All, Option, None, Some, IfSome, take_at, flat_map-append, All-append}
 use Rattle.cdma_replay.proofs.Common.{flat_map, StartsWith, Appends, Consumes, IsAtEnd, Appends-trans, Consumes-nil, Consumes-trans, Sample}
@@ -7,8 +7,11 @@ use Rattle.cdma_replay.proofs.Common.{best_phase, best_phase-only, best_energy-o
 use Rattle.cdma_replay.proofs.Common.{taken_begins, Listener, Job, Status, TakesSpan, WritesNoMore, WritesText, BeginsAfter, LosesSamples}
 use Rattle.cdma_replay.proofs.Common.{HearsRest, IsFreshListener, Listening, Listens, told, ListenerTells, GainsText, GainsPrefix}
 use Rattle.cdma_replay.proofs.Common.{best_pilot, end_when, file_end_of, file_text, is_told, listening, IsBest, ranking, ranks_text}
-use Rattle.cdma_replay.proofs.Common.{survey_text, none_within, span_of, told_alike}
+use Rattle.cdma_replay.proofs.Common.{survey_text, none_within, span_of, told_alike, ◌≢◌, refl, Result, IfOk, Unheard}
+use Rattle.chip_core.specs.declared.assignment.Traffic.{Traffic}
+use Rattle.cdma_replay.specs.Listeners.{IsListenerFor}
 use Rattle.cdma_replay.proofs.Hearings.{more_after, part_after}
+use Rattle.command_line.specs.declared.job.Job.TheVariants as jobs
 
 -- ---- what the first samples show
 
@@ -30,6 +33,32 @@ pub survey_is : (first : List Sample) (ranks : List Rank) (base width top : ℕ)
     survey_text base width top first ≡ ranks_text (take top ranks)
 unfolding survey_text
 survey_is first ranks base width top is = sym (ap (λ (rs : List Rank). ranks_text (take top rs)) is)
+
+-- a job that none of these is has the pilot's line
+pub pilot_alone : {E : Type 0} (job : Job) (header : Header) (first : List Sample)
+    (found : Result Listener E) (count : ℕ) →
+    ((span workers fingers paging : ℕ) (traffic : Option Traffic) (limits : List ℕ) →
+    job ≢ jobs.Follow span workers fingers paging traffic limits) →
+    ((span workers fingers offset esn row : ℕ) →
+    job ≢ jobs.Rate2 span workers fingers offset esn row) →
+    ((span workers fingers offset esn row k : ℕ) →
+    job ≢ jobs.List span workers fingers offset esn row k) →
+    ((span workers fingers paging key cycle : ℕ) →
+    job ≢ jobs.Idle span workers fingers paging key cycle) →
+    ((span workers base width top : ℕ) → job ≢ jobs.Survey span workers base width top) →
+    IfOk found (IsListenerFor (λ taps. Unheard (event_line (best_pilot first))) count) →
+    IfOk found (IsListenerFor (λ taps. listening taps job header first) count)
+pilot_alone (jobs.Follow span workers fingers paging traffic limits) header first found count follow
+    rate2 list idle survey pilot = absurd (follow span workers fingers paging traffic limits refl)
+pilot_alone (jobs.Rate2 span workers fingers offset esn row) header first found count follow rate2
+    list idle survey pilot = absurd (rate2 span workers fingers offset esn row refl)
+pilot_alone (jobs.List span workers fingers offset esn row k) header first found count follow rate2
+    list idle survey pilot = absurd (list span workers fingers offset esn row k refl)
+pilot_alone (jobs.Idle span workers fingers paging key cycle) header first found count follow rate2
+    list idle survey pilot = absurd (idle span workers fingers paging key cycle refl)
+pilot_alone (jobs.Survey span workers base width top) header first found count follow rate2 list idle
+    survey pilot = absurd (survey span workers base width top refl)
+pilot_alone job header first found count follow rate2 list idle survey pilot = pilot
 
 -- ---- the text of a file
 

@@ -87,7 +87,7 @@ pub bad_script_is : (e fault : ScriptFault) → script_status e ≡ Status.BadSc
 bad_script_is OutOfMemory fault h = absurd (cc)
 bad_script_is e fault h = (cc, λ (r : fault ≡ OutOfMemory). cc)
 
--- want of memory is no fault of the script
+-- out of memory is not a fault of the script
 pub memory_is : (e : ScriptFault) → script_status e ≡ Status.NoMemory → e ≡ OutOfMemory
 memory_is OutOfMemory h = refl
 memory_is e h = absurd (cc)

@@ -1,10 +1,10 @@
--- Lemmas on runs that move nothing: of arguments that name no job, or for want of memory.
+-- Lemmas on runs that move nothing: for arguments that name no job, or out of memory.
 use Rattle.cdma_replay.proofs.Common.{◌≡◌, ℕ, List, [], Option, None, Result, Err, inl, refl, sym, ◌∙◌, arith, Appends-nil, Status}
 use Rattle.cdma_replay.proofs.Common.{unread_most, IsEndOf, Job, Make, Trial}
 use Rattle.command_line.specs.declared.job.WordFault.{WordFault}
 use Rattle.run_replies.specs.Runs.{RunsCommand}
 
--- each job may end for want of memory
+-- each job may end out of memory
 job_starves : (job : Job) → IsEndOf job Status.NoMemory
 job_starves (Make width) = tt
 job_starves (Trial number workers) = tt
@@ -42,7 +42,7 @@ module _ {forms : List ℕ} {named : Option Job} {rest : Option (List ℕ)} {mis
     later_sink = omega arith;
   }
 
-  -- arguments that couldn't be read for want of memory aren't told as bad ones
+  -- arguments that couldn't be read because memory ran out are not reported as bad arguments
   pub starved_run : {T : Type 0} (words : Result T WordFault) → words ≡ Err WordFault.OutOfMemory →
       (named ≡ None → words ≡ Err WordFault.Bad) → SameSource → SameSink →
       RunsCommand forms named Status.NoMemory rest rest misread misread SameSource old old miswritten

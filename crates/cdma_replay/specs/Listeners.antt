@@ -47,19 +47,19 @@ Listens (ByFrames t channel text) (by.Tuned tuned) kept heard =
     ListensTuned t channel text tuned.value heard
 Listens l listener kept heard = ⊥
 
--- it takes just so many samples more
+-- it takes exactly n more samples
 abbrev pub HasRoom : Listener → ℕ → Type 0
 HasRoom (by.Unheard findings) count = Unit {0}
 HasRoom (by.Handset mobile) count = has_room mobile.value ≡ count
 HasRoom (by.Tuned tuned) count = tuned_room tuned.value ≡ count
 
--- it takes so many samples more, or others too
+-- it takes n more samples, or others too
 abbrev pub HasRoomFor : Listener → ℕ → Type 0
 HasRoomFor (by.Unheard findings) count = Unit {0}
 HasRoomFor (by.Handset mobile) count = count ≤ has_room mobile.value
 HasRoomFor (by.Tuned tuned) count = count ≤ tuned_room tuned.value
 
--- a listener before any sample of a file that counts so many, for taps to hear as this says
+-- a listener before any sample of a file of `count` samples, for taps to hear as this says
 pub record IsListenerFor (who : List KeptTap → Listening) (count : ℕ) (listener : Listener) :
     Type 0 where
   pub fresh : (taps : List KeptTap) → IsFreshListener (who taps) listener taps
@@ -87,7 +87,7 @@ pub record HasTold (t : Tuning) (taps : List KeptTap) (mobile : Mobile) (kept : 
   pub stands : StandsFor t mobile heard (given ++ more)
   pub following : kept ≡ run_taps taps (given ++ more)
 
--- a source lost the spellings of so many samples, and the listener heard them
+-- a source lost the spellings of `count` samples, and the listener heard them
 pub record HearsRest (l : Listening) (width : Width) (count : ℕ) (listener : Listener)
     (kept : List KeptTap) (heard : List Sample) (rest left old new : Option (List ℕ)) :
     Type 0 where

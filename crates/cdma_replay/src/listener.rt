@@ -106,7 +106,9 @@ impl Listener {
     }
 }
 
-/// Gives the taps the first event of a handset, which is the pilot.
+/// Gives the taps the first event of a handset, which is the pilot. [`Mobile::step`] returns all
+/// events of a handset, so the pilot too: it ends at no sample, and a step without samples returns
+/// it.
 fn tell_pilot<T: KeepsTaps, K: Sink>(
     mobile: &mut Mobile,
     taps: &mut T,

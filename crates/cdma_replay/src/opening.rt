@@ -152,7 +152,7 @@ fn rank_pilots<R: Threads + Sync, G: Gate + Sync>(
 
 /// Opens the listener of a job, given a file's header and first samples.
 ///
-/// No file is received for `make` and `trial`.
+/// Only the pilot is searched for `find`, and for `make` and `trial`, for which no file is received.
 pub fn listener_for<R: Threads + Sync, G: Gate + Sync>(
     rt: &R,
     alloc: Global,
@@ -222,8 +222,6 @@ pub fn listener_for<R: Threads + Sync, G: Gate + Sync>(
             top,
             ..
         } => rank_pilots(rt, alloc, base, width, top, codes, first, workers, gate),
-        Job::Find { .. } | Job::Make { .. } | Job::Trial { .. } => {
-            find_pilot(rt, alloc, codes, first, workers, gate)
-        }
+        _ => find_pilot(rt, alloc, codes, first, workers, gate),
     }
 }

@@ -67,10 +67,9 @@ fn run_job<R: Threads + Sync, S: Source, K: Sink, G: Gate + Sync>(
 /// heard. `rate2` searches as `find` does and writes no pilot's line: from the mark on that a sync
 /// message sets it decodes each frame of one traffic channel as one of rate set 2 (TIA/EIA-95-B,
 /// 7.1.3.5), and writes its line; it ends with `NoSync` as `follow` does. `list` does so with
-/// frames of rate set 1, each chosen of the first so many codewords of a rate whose quality bits
-/// are right. `idle` hears, after the mark too, the slots of one paging channel that a handset of
-/// a key wakes for (TIA/EIA-95-B, 6.6.2.1.1.3), and writes the line of each and those of its
-/// messages.
+/// frames of rate set 1, each chosen from the first k codewords of a rate, by right quality bits.
+/// `idle` hears, after the mark too, the slots of one paging channel that a handset of a key wakes
+/// for (TIA/EIA-95-B, 6.6.2.1.1.3), and writes the line of each and those of its messages.
 ///
 /// [`command_line::words_of`] lists the commands' options and their defaults.
 ///

@@ -115,8 +115,8 @@ fn count_rest(mobile: &mut Mobile, cell: &mut Cell, piece: &mut [Sample], counts
     }
 }
 
-/// Follows all samples of a number's cell, by way of `span` and `piece`, and makes out the line
-/// that tells what was heard.
+/// Follows all samples of a number's cell, by way of `span` and `piece`, and writes the line that
+/// reports what was received.
 fn follow_cell<R: Threads + Sync, G: Gate + Sync>(
     rt: &R,
     alloc: Global,
@@ -147,8 +147,8 @@ fn follow_cell<R: Threads + Sync, G: Gate + Sync>(
     Ok(counts.summary(number, header.count, best.phase.get()))
 }
 
-/// Makes a number's cell, follows it, and makes out the line that tells what was heard. All memory
-/// is taken before the first sample is followed.
+/// Makes a number's cell, follows it, and writes the line that reports what was received. All
+/// memory is taken before the first sample is followed.
 fn followed<R: Threads + Sync, G: Gate + Sync>(
     rt: &R,
     alloc: Global,

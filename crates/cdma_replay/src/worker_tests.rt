@@ -1,5 +1,5 @@
-//! Runs of each command by two, five and 64 workers: that they are so many, each with its own
-//! number, and run at once.
+//! Runs of each command by two, five and 64 workers: that there are as many as asked, each with its
+//! own number, and that they run at once.
 
 use crate::Status;
 use crate::test_runs::{TRIAL_LINE, UNBROKEN, ZERO_LINE, ZERO_RANK, each_tap, run_tapped, zeros};

@@ -129,8 +129,8 @@ reception_with (Some span ∷ Some workers ∷ Some fingers ∷ []) =
     Some (record { span = span; workers = workers; fingers = fingers })
 reception_with _ = None
 
--- the traffic channel of a serial number, a row and an offset, which is else 0; the sync channel
--- has row 32
+-- the traffic channel of a serial number, a row and an offset, default 0; the sync channel has row
+-- 32
 abbrev pub channel_with : List (Option ℕ) → Option Traffic
 channel_with (Some esn ∷ Some row ∷ offset ∷ []) =
     if nat_eq row 32 then None
@@ -194,7 +194,7 @@ survey_with (Some span ∷ Some workers ∷ Some base ∷ Some width ∷ Some to
     Some (Survey span workers base width top)
 survey_with _ = None
 
--- the width of parts of so many bits
+-- the width of parts of n bits
 abbrev pub width_of_bits : ℕ → Width
 width_of_bits bits = if nat_eq bits 8 then Eight else Sixteen
 
@@ -369,7 +369,7 @@ option_text name given = option_map (λ p. p.1) (find (λ p. bytes_eq p.0 name) 
 
 -- ---- from arguments to jobs
 
--- the number of an option: that of its text where it was given, else the one that stands for it
+-- the number of an option: that of its text if it was given, otherwise its default
 unfoldable pub number_by : OptionEntry → Option Text → Option ℕ
 number_by entry None = entry.default
 number_by entry (Some text) = value_in entry.form text

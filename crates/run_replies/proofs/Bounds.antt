@@ -97,7 +97,7 @@ rest_most {span} {header} {samples} {count} {rest} {mid} {left} t part =
     (both_most rest mid left (first_part header samples rest mid t.consumed) part
     (omega (arith, shared_out (width_of header) (length samples) count header.count counted)))
 
--- so many samples were read, and then some more bytes
+-- `count` samples were read, and then some more bytes
 pub passed_most : {width : Width} {count few most : ℕ} (rest mid left : Option (List ℕ)) →
     PassesSamples width count rest mid → ConsumesAtMost few mid left →
     sample_len width * count + few ≤ most → ConsumesAtMost most rest left

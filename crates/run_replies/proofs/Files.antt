@@ -87,7 +87,7 @@ one_fault span bytes one other (inr (header, opened, later)) (inr (also, open_to
     one_later_fault span also (length bytes) one other
     (subst (λ (h : Header). IsLaterFault span h (length bytes) one) same later) last
 
--- they are no file of so many samples
+-- they are not a file of that many samples
 pub unsearchable : (rest : Option (List ℕ)) (span : ℕ) (e : FileFault) → IfSome rest (λ bytes. IsFaultIn span bytes e) →
     IfSome rest (λ bytes. ¬ (IsSearchable bytes span))
 unsearchable None span e fault = tt

@@ -38,7 +38,7 @@ pub record HasWritten (taps : List KeptTap) (job : Job) (header : Header) (bytes
       (header_spelling header ++ flat_map (sample_spelling (width_of header)) samples)
   pub written : Appends old new (file_text taps job header samples)
 
--- Known bytes lost fewer at their front than a header and so many whole samples or more.
+-- Known bytes lost fewer at their front than a header and the span's samples.
 abbrev pub TakesFew : ℕ → Option (List ℕ) → Option (List ℕ) → Type 0
 TakesFew count rest left =
     IfSome rest
@@ -50,9 +50,9 @@ TakesFew count rest left =
 abbrev pub IsUnopened : Option (List ℕ) → Type 0
 IsUnopened rest = IfSome rest (λ bytes. (header : Header) → ¬ (opening bytes ≡ Ok header))
 
--- Where so many whole samples of known bytes were taken, the span's or more, the text of the first
--- of them was written, and of these at most 4,096 are missing, which are read at once; all whose
--- text was written were taken.
+-- If at least the span's whole samples of known bytes were taken, the text of the first of them was
+-- written. Of these at most 4,096 are missing, which are read at once. All samples whose text was
+-- written were taken.
 abbrev pub WritesFirst : List KeptTap → Job → Option (List ℕ) → Option (List ℕ) →
     Option (List ℕ) → Option (List ℕ) → Type 0
 WritesFirst taps job rest left old new =
@@ -71,8 +71,8 @@ WritesAll taps job rest old new =
     (λ bytes. (header : Header) → opening bytes ≡ Ok header →
     HasWritten taps job header bytes (λ k. k ≡ header.count) old new)
 
--- A source lost the spellings of samples, such a number of them, each within its width, and at most
--- so many bytes after them; and a sink got what is told of these samples.
+-- A source lost the spellings of samples, of a number that satisfies the condition, each within its
+-- width, and at most `most` bytes after them; and a sink got the text of these samples.
 pub record HearsFirst (l : Listening) (width : Width) (counted : ℕ → Type 0) (most : ℕ)
     (heard : List Sample) (rest left old new : Option (List ℕ)) : Type 0 where
   pub samples : List Sample

@@ -16,7 +16,7 @@ pub record IsCellFile (width : Width) (script : List ℕ) (plan : CellPlan) (spa
   pub found : best_phase (take span samples) ≡ phase_at plan plan.link.start
   pub alone : fingers ≡ 1
 
--- the energy that so many first samples of a cell have at its phase
+-- the energy of the first n samples of a cell at its phase
 abbrev pub cell_energy : ℕ → CellPlan → ℕ
 cell_energy span plan = energy (take span (made_samples plan)) (phase_at plan plan.link.start)
 

@@ -14,14 +14,14 @@ use Rattle.run_replies.specs.declared.status.Status.TheVariants.{BadWords, BadSc
 use Rattle.run_replies.specs.Hearing.{file_end_of, file_text, span_of}
 use Rattle.run_replies.specs.declared.status.Status.TheVariants as ends
 
--- bytes that are a sample file of so many samples or more
+-- bytes that are a sample file of at least `span` samples
 pub record IsSearchable (bytes : List ℕ) (span : ℕ) : Type 0 where
   pub header : Header
   pub samples : List Sample
   pub file : IsSampleFile bytes header samples
   pub enough : span ≤ length samples
 
--- bytes that begin with a lawful header that counts so many samples or more, and with so many of
+-- bytes that begin with a lawful header that counts at least `span` samples, and with `span` of
 -- them
 pub record BeginsFile (span : ℕ) (bytes : List ℕ) : Type 0 where
   pub header : Header
@@ -33,7 +33,7 @@ pub record BeginsFile (span : ℕ) (bytes : List ℕ) : Type 0 where
       (header_spelling header ++ flat_map (sample_spelling (width_of header)) samples)
 
 -- known bytes, which open with this lawful header, lost it and as many samples as the span is, each
--- within its width; so many of those that it counts are left
+-- within its width; `count` of the samples that it counts are left
 pub record TakesSpan (span : ℕ) (header : Header) (samples : List Sample) (count : ℕ)
     (rest mid : Option (List ℕ)) : Type 0 where
   pub lawful : IsLawfulHeader header
@@ -44,7 +44,7 @@ pub record TakesSpan (span : ℕ) (header : Header) (samples : List Sample) (cou
       (header_spelling header ++ flat_map (sample_spelling (width_of header)) samples)
   pub opened : IfSome rest (λ bytes. opening bytes ≡ Ok header)
 
--- known bytes lost the spellings of so many samples of this width
+-- known bytes lost the spellings of `count` samples of this width
 pub record PassesSamples (width : Width) (count : ℕ) (old new : Option (List ℕ)) : Type 0 where
   pub samples : List Sample
   pub counted : length samples ≡ count
@@ -110,7 +110,7 @@ abbrev pub TakesNoMore : Option (List ℕ) → Option (List ℕ) → Type 0
 TakesNoMore rest left =
     IfSome rest (λ bytes. ConsumesAtMost (most_taken (opening bytes)) (Some bytes) left)
 
--- a fault that a file of this header and of so many bytes has after the header
+-- a fault that a file of this header and of n bytes has after the header
 abbrev pub IsLaterFault : ℕ → Header → ℕ → FileFault → Type 0
 IsLaterFault span header len (TooFew count) = (count ≡ header.count) × (count < span)
 IsLaterFault span header len (Short place) =
@@ -119,14 +119,14 @@ IsLaterFault span header len (Extra place) =
     (span ≤ header.count) × (place ≡ file_end header) × (place < len)
 IsLaterFault span header len _ = ⊥
 
--- the one fault of these bytes as a file of so many samples or more
+-- the one fault of these bytes as a file of at least n samples
 abbrev pub IsFaultIn : ℕ → List ℕ → FileFault → Type 0
 IsFaultIn span bytes fault =
     (opening bytes ≡ Err fault) ⊎
     ((header : Header) × (opening bytes ≡ Ok header) ×
     IsLaterFault span header (length bytes) fault)
 
--- a fault that a reader meets in what it has left, so many bytes
+-- a fault that a reader meets in the n bytes that it has left
 abbrev pub IsRestFault : Reading → ℕ → FileFault → Type 0
 IsRestFault reading len (Short place) =
     (place ≡ next_place reading + len) × (len < sample_len (width_of reading.header) * reading.left)

@@ -101,7 +101,7 @@ span_of job = (job_search job).span
 abbrev pub listening_to : List KeptTap → Job → Header → List Sample → Listening
 listening_to taps job header samples = listening taps job header (take (span_of job) samples)
 
--- the text of a file, or of one of which only so many samples are known
+-- the text of a file, or of one of which only the first samples are known
 unfoldable pub file_text : List KeptTap → Job → Header → List Sample → List ℕ
 file_text taps job header samples = told (listening_to taps job header samples) samples
 
@@ -167,8 +167,8 @@ pub record GainsPrefix (l : Listening) (before heard : List Sample) (old new : O
   pub written : Appends old new text
   pub begins : StartsWith (told l heard) (told l before ++ text)
 
--- a source lost the spellings of samples, at most so many, each within its width, with more bytes
--- or none; and a sink got a beginning of what is told of them
+-- a source lost the spellings of at most `most` samples, each within its width, with more bytes or
+-- none; and a sink got a beginning of their text
 pub record LosesSamples (l : Listening) (width : Width) (most : ℕ) (heard : List Sample)
     (rest left old new : Option (List ℕ)) : Type 0 where
   pub samples : List Sample

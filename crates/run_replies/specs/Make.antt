@@ -6,7 +6,7 @@ use Rattle.std.specs.List.{flat_map}
 use Rattle.std.specs.Io.{StartsWith}
 use Rattle.std.specs.Io.KnownBytes.{Appends}
 
--- the bytes of so many of a cell's samples from a place on
+-- the bytes of n of a cell's samples from a place on
 abbrev pub piece_bytes : Width → CellPlan → ℕ → ℕ → List ℕ
 piece_bytes width plan given count =
     flat_map (sample_spelling width) (take count (drop given (made_samples plan)))

@@ -16,7 +16,7 @@ rank_line rank =
 unfoldable pub ranks_text : List Rank → List ℕ
 ranks_text ranks = flat_map rank_line ranks
 
--- those of so many of the first ranks of samples, where the pilot of offset 0 has the phase `base`,
--- and each pilot is measured at the phases up to `width` chips from its own
+-- those of the first ranks of samples, if the pilot of offset 0 has the phase `base`, and each
+-- pilot is measured at the phases up to `width` chips from its own
 unfoldable pub survey_text : ℕ → ℕ → ℕ → List Sample → List ℕ
 survey_text base width top samples = ranks_text (take top (ranking samples base width))

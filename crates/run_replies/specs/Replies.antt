@@ -36,7 +36,7 @@ pub record IsWholeFile (taps : List KeptTap) (job : Job) (bytes text : List ℕ)
   pub text_is : text ≡ file_text taps job header samples
   pub end_is : end ≡ file_end_of job header samples
 
--- the bytes have this fault as a file of so many samples or more
+-- the bytes have this fault as a file of at least `span` samples
 pub record IsFaultyFile (span : ℕ) (bytes : List ℕ) (end : Status) : Type 0 where
   pub fault : FileFault
   pub is : IsFaultIn span bytes fault
@@ -164,7 +164,7 @@ IsEndOf job = λ status. IsFileEnd status × (IsUnheard job → status ≢ ends.
 
 -- ---- answers
 
--- an end that tells of the input: of all of it, or of its fault
+-- an end that depends on the input: on all of it, or on its fault
 abbrev pub IsVerdict : Status → Type 0
 IsVerdict ends.Done = Unit {0}
 IsVerdict ends.NoSync = Unit {0}

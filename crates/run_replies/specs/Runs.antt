@@ -131,7 +131,7 @@ MayHold status = ⊥
 -- faults before and after, and types say that it is as it was and that nothing is held back.
 pub record PassesOn (before status : Status) (old new : Option (List ℕ))
     (miswritten miswritten_now : ℕ) (SameSink PassedOn : Type 0) : Type 0 where
-  -- A flush that fails is a write that fails, where all else went well.
+  -- A failed flush is a failed write, if everything else succeeded.
   pub end : (status ≡ before) ⊎
       ((status ≡ ends.WriteFault) × IsEnd before × Rose miswritten miswritten_now)
   pub still : ¬ (MayHold before) → SameSink

@@ -26,7 +26,7 @@ abbrev pub file_status : FileFault → Status
 file_status file.ReadFault = ReadFault
 file_status fault = BadFile fault
 
--- want of memory is none of the script's; any other fault is one of its bytes
+-- out of memory is not a fault of the script; any other fault is one of its bytes
 abbrev pub script_status : ScriptFault → Status
 script_status script.OutOfMemory = NoMemory
 script_status fault = BadScript fault

@@ -39,7 +39,7 @@ counts_with counts event = record {
   good = counts.good + one_if (is_good event);
 }
 
--- each leaves room for so many more below 2^63
+-- each leaves room for `more` more below 2^63
 pub record LeavesRoom (counts : Counts) (more : ℕ) : Type 0 where
   pub syncs : counts.syncs + more ≤ 2 ^ 63
   pub pagings : counts.pagings + more ≤ 2 ^ 63
@@ -73,7 +73,7 @@ summary number samples phase counts =
     ++ codes " pagings=" ++ decimal counts.pagings ++ codes " frames=" ++ decimal counts.frames
     ++ codes " good=" ++ decimal counts.good ++ codes "\n"
 
--- the line of a number: what the handset tells of all samples of its link, counted
+-- the line of a number: the events of the handset over all samples of its link, counted
 unfoldable pub trial_line : ℕ → List ℕ
 trial_line number =
     summary number (trial_plan number).link.samples (best_phase (trial_span number))

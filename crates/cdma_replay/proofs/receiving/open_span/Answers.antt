@@ -76,8 +76,8 @@ returns-in_err-reader-clause-no_longer g c =
     rw (p.1, p.2) (unopened _ (g.S.Source.rest c.args.source.now) c.in_err-reader.ensures.told)
 
 -- Where the first samples can't be read, the file isn't reported as too long: the header was read
--- without a fault, and a read that fails after it tells of a file that is cut short, or that
--- reading failed.
+-- without a fault, and a read that fails after it reports a file that is cut short, or that reading
+-- failed.
 pub returns-in_err-read-clause-no_longer : goal.returns-in_err-read-clause-no_longer
 returns-in_err-read-clause-no_longer g c =
     let reading = c.in_ok-reader.reader in

@@ -19,4 +19,4 @@ pub returns-in_default : goal.returns-in_default
 returns-in_default g c =
     rw c.status_of-in_default.ensures
     (file_run _ c.args.job _ c.in_default.not-Make c.in_default.not-Trial
-    (with_taps c.new-taps.ensures.value c.receive.ensures))
+    (with_taps (rw c.limits.ensures at c.new-taps.ensures.value) c.receive.ensures))

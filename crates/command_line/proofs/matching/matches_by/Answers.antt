@@ -20,7 +20,7 @@ returns-clause-ok c = λ given is.
     ∙ finds_args (arg_app name entries) name entries texts given (app_bare name entries)
     (app_built name entries) is)) c.try_get_matches_from.ensures.matches
 
--- Clap fails for want of memory alone: it promises this for arguments that its walk takes, and
+-- Clap fails only if memory runs out: it promises this for arguments that its walk takes, and
 -- arguments that the grammar takes are such.
 pub returns-clause-err : goal.returns-clause-err
 returns-clause-err c =

@@ -12,7 +12,7 @@ tell-requires g c = record {
   kept = c.requires.kept;
 }
 
--- Where a handset hears the file, it tells what is defined: who listens by a handset is the taps
+-- If a handset receives the file, it reports what is defined: who listens by a handset is the taps
 -- that heard its events so far, and for them the text, the taps and the handset after these samples
 -- are those that `tell` promises.
 pub returns-in-Handset-clause-ok : goal.returns-in-Handset-clause-ok
@@ -75,7 +75,7 @@ returns-in-Tuned-clause-err g c =
     c.hear.ensures.err
 
 -- Clause `ok` holds where nobody hears the file: its text is that of the first samples whatever the
--- samples, so there is nothing to tell of these, and the unchanged sink has all of it.
+-- samples, so nothing is to be written for these, and the unchanged sink has all of it.
 pub returns-in-Unheard-clause-ok : goal.returns-in-Unheard-clause-ok
 returns-in-Unheard-clause-ok g c l heard is =
     let kept = g.T.KeepsTaps.kept c.args.taps.now in
