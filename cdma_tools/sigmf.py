@@ -189,26 +189,35 @@ def annotate(
 
 
 def annotate_all(meta: dict[str, Any], added: list[dict[str, Any]]) -> None:
-    """Adds notes, in the order of their beginnings."""
+    """Adds notes that aren't there yet, in the order of their beginnings."""
     notes = meta.setdefault("annotations", [])
     if not isinstance(notes, list) or not all(isinstance(old, dict) for old in notes):
         raise Refused("'annotations' is not a list of objects")
-    notes.extend(added)
+    known = {json.dumps(old, sort_keys=True) for old in notes}
+    notes.extend(new for new in added if json.dumps(new, sort_keys=True) not in known)
     notes.sort(key=lambda old: start if isinstance(start := old.get("core:sample_start"), (int, float)) else 0)
 
 
-def begin_capture(meta: dict[str, Any], first: int, lost: int) -> None:
-    """Begins a capture at sample `first`, before which `lost` samples are missing, unless one begins there.
+def number_in(capture: dict[str, Any], name: str, default: int) -> int:
+    """Returns a whole number of a capture, by default another one."""
+    told = capture.get(name)
+    return told if isinstance(told, int) else default
 
-    It has the frequency of the capture before it. core:global_index counts the lost samples too.
+
+def begin_capture(meta: dict[str, Any], first: int, lost: int, near: int) -> None:
+    """Begins a capture at sample `first`, before which `lost` samples are missing, unless one begins near there.
+
+    It has the frequency of the capture before it. core:global_index counts the lost samples too. Tools place the same
+    loss up to `near` samples apart.
     """
     captures = meta.setdefault("captures", [])
-    begun = [capture for capture in captures if capture.get("core:sample_start", 0) <= first]
-    before = begun[-1] if begun else {}
-    start = before.get("core:sample_start", 0)
-    if begun and start == first:
+    starts = [number_in(capture, "core:sample_start", 0) for capture in captures]
+    if any(abs(start - first) <= near for start in starts):
         return
-    index = before.get("core:global_index", start) + first - start + lost
+    begun = [capture for capture, start in zip(captures, starts) if start <= first]
+    before = begun[-1] if begun else {}
+    start = number_in(before, "core:sample_start", 0)
+    index = number_in(before, "core:global_index", start) + first - start + lost
     added = {"core:sample_start": first, "core:global_index": index}
     if "core:frequency" in before:
         added["core:frequency"] = before["core:frequency"]

@@ -90,10 +90,9 @@ from cdma_tools.sources.options import (
     add_radio_options,
     add_sample_options,
     add_seconds_option,
-    is_received,
+    note_fault,
     source_fault,
 )
-from cdma_tools.sources.stored import ARCHIVE, WAVE
 from cdma_tools.sources.taking import TakenSource, taken
 from cdma_tools.starting import called
 from cdma_tools.writing import write_out
@@ -236,10 +235,8 @@ def check_words(words: Parser, options: argparse.Namespace) -> None:
         words.error(f"--{given[0]} needs --lock")
     if options.lock and (options.sum or options.offset is not None or options.scale == "fit"):
         words.error("--sum, --offset and --scale fit can't be given with --lock, which takes its own samples")
-    if options.meta is not None and not options.meta.endswith(sigmf.META):
-        words.error(f"--meta names a {sigmf.META}")
-    if options.meta is not None and (options.recording.endswith((ARCHIVE, WAVE)) or is_received(options.recording)):
-        words.error("--meta goes with a .sigmf-meta or a file of raw samples")
+    if fault := note_fault(options.recording, options.meta, options.capture):
+        words.error(fault)
     if fault := source_fault(options.recording, options):
         words.error(fault)
 

@@ -36,7 +36,8 @@ replaced; a listening that continues after the lines of --out writes packets onl
 --meta writes notes of SigMF (core:annotations) on what was decoded of a file of samples, each on the samples in which it
 was sent: a sync message on its frames, any other message on the frame in which it ends. If samples were lost, a capture
 begins after them, whose core:global_index counts them too. It keeps what FILE has already, or what the recording's own
-.sigmf-meta has.
+.sigmf-meta has. The samples of a stream are in no file, so it can have no notes. A listening that continues after the
+lines of --out decodes the recording from its start again, since all lines get notes.
 
 Several channels of the cell can be followed at once, over the same chips: paging channels with --paging 1,2, or all
 that have a message with --paging all, and traffic channels with --traffic. Paging channel 1 always counts; each other
@@ -64,10 +65,10 @@ import argparse
 import contextlib
 import os
 from collections.abc import Iterator, Sequence
+from contextlib import AbstractContextManager
 from dataclasses import replace
 from fractions import Fraction
 
-from cdma_tools import sigmf
 from cdma_tools.arguments import Parser, Within, number_within, rational, whole_within, wrong
 from cdma_tools.errors import Refused, WrongArguments
 from cdma_tools.listening.channel_options import (
@@ -86,18 +87,25 @@ from cdma_tools.listening.follow_run import Handset
 from cdma_tools.listening.line_writer import LineWriter, Write
 from cdma_tools.listening.live import LiveListening, hear_stream, heard_all
 from cdma_tools.listening.output import Output, open_output
-from cdma_tools.listening.notes import Notes
+from cdma_tools.listening.notes import Notes, noted
 from cdma_tools.listening.parts import PART, Recording
 from cdma_tools.listening.relays import Followed
 from cdma_tools.listening.sharing import Channel, hear_recording
 from cdma_tools.listening.stream_lock import LockOptions
-from cdma_tools.overwriting import META, STANDARD, InputFile, OutputFile, UpdatedFile
+from cdma_tools.overwriting import STANDARD, InputFile, OutputFile, UpdatedFile
 from cdma_tools.program import add_program_option, find_program
 from cdma_tools.radio.air import CHIP_RATE
 from cdma_tools.radio.search_policy import TRIES, add_search_options, policy_of
 from cdma_tools.recordings import TYPES, absolute, sample_count
 from cdma_tools.sources.live import Stream, scheme_of
-from cdma_tools.sources.options import SOURCE_HELP, add_radio_options, add_sample_options, source_fault, stream_of
+from cdma_tools.sources.options import (
+    SOURCE_HELP,
+    add_radio_options,
+    add_sample_options,
+    note_fault,
+    source_fault,
+    stream_of,
+)
 from cdma_tools.sources.stored import is_described, stored_of
 from cdma_tools.wireshark.capture import Capture
 from cdma_tools.wireshark.stream import PacketStream
@@ -105,6 +113,7 @@ from cdma_tools.wireshark.stream import PacketStream
 MOST_RATE, MOST_SHIFT, MOST_WORKERS = 100_000_000, 50_000_000, 64
 LEAST_PART, MOST_PART = 10, 1_000_000
 JSON_LINES = ".jsonl"
+MAKER = "tools/listen"  # of notes
 MOST_EVENTS = 4_294_967_295
 
 
@@ -234,10 +243,8 @@ def check(words: argparse.ArgumentParser, options: argparse.Namespace) -> None:
     check_channels(words, options)
     if options.append and options.out is None and options.out_dir is None:
         words.error("--append needs --out or --out-dir")
-    if options.meta is not None and not options.meta.endswith(META):
-        words.error(f"--meta names a {META}")
-    if options.meta is not None and options.capture is not None:
-        words.error("--meta goes with a whole recording, not with --capture")
+    if fault := note_fault(options.source, options.meta, options.capture):
+        words.error(fault)
     if options.json and options.pcapng == STANDARD and options.out is None:
         words.error("--json needs --out if standard output has the packets")
     if options.out is not None and os.path.isdir(options.out):
@@ -317,23 +324,12 @@ def opened_packets(options: argparse.Namespace) -> Iterator[PacketStream | None]
         yield PacketStream(capture.write, paging_number(options), options.row or 0)
 
 
-@contextlib.contextmanager
-def noted(options: argparse.Namespace, source: Stream | Recording) -> Iterator[Notes | None]:
-    """Yields where notes on what was decoded go, if they are asked for; they are written at the end."""
-    if options.meta is None:
-        yield None
-        return
-    if not isinstance(source, Recording):
-        raise WrongArguments("--meta goes with a file of samples")
-    sigmf.check_note(options.meta, source.path)
+def notes_on(options: argparse.Namespace, source: Stream | Recording) -> AbstractContextManager[Notes | None]:
+    """Returns where notes on what was decoded go, if they are asked for; they are written at the end."""
+    if options.meta is None or not isinstance(source, Recording):
+        return contextlib.nullcontext()
     lock = source.lock
-    meta = sigmf.meta_for(options.meta, options.source, lock.kind, Fraction(lock.rate), source.path)
-    notes = Notes(lock.rate)
-    yield notes
-    sigmf.annotate_all(meta, notes.found)
-    for first, lost in notes.losses:
-        sigmf.begin_capture(meta, first, lost)
-    sigmf.write_meta(options.meta, meta)
+    return noted(options.meta, options.source, lock.kind, Fraction(lock.rate), source.path, MAKER)
 
 
 def lines_to(options: argparse.Namespace, output: Output) -> Write:
@@ -403,7 +399,7 @@ def hear_one(options: argparse.Namespace) -> bool:
     is_json = options.json or (options.out or "").endswith(JSON_LINES)
     with contextlib.closing(open_output(options.out, is_json)) as output:
         check_output(options, isinstance(source, Recording), output, options.out)
-        with opened_packets(options) as packets, noted(options, source) as notes:
+        with opened_packets(options) as packets, notes_on(options, source) as notes:
             already = output.already if isinstance(source, Recording) else None
             writer = LineWriter(lines_to(options, output), is_json, counts, already)
             writer.packets, writer.notes = packets, notes

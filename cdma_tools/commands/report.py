@@ -14,11 +14,13 @@ It describes the recording, and shows the correlation around the best phase, the
 constellation of the sync channel, the code domain, and a recording's spectrum and waterfall. A time line has messages,
 frames, power control and pilot sets. The fields of system messages are explained, and all lines can be searched. With
 --cells N each of up to N cells of a recording has a section, with the stronger ones subtracted, and a map shows which
-cells name each other as neighbors.
+cells name each other as neighbors. --meta writes notes of SigMF on the samples in which messages and frames were sent,
+as `tools/listen --meta` does.
 
     tools/report radio.is95 --out radio.html
     tools/report radio.sigmf-meta --out radio.html --fingers 3
     tools/report radio.sigmf-meta --out cells.html --cells 3
+    tools/report radio.sigmf-meta --out radio.html --meta radio.sigmf-meta
     tools/report --type cu8 --rate 2457600 radio.bin --out radio.html --esn 8badf00d --row 10
     tools/report day.jsonl --out day.html
 
@@ -45,7 +47,8 @@ from cdma_tools.arguments import Parser, whole_within
 from cdma_tools.commands import FAILED, import_capture, listen
 from cdma_tools.errors import Refused, WrongArguments
 from cdma_tools.frequencies import FREQUENCY_OPTIONS, frequency_given
-from cdma_tools.overwriting import META, InputFile, OutputFile
+from cdma_tools.listening.notes import LABELS, Notes, noted
+from cdma_tools.overwriting import META, InputFile, OutputFile, UpdatedFile
 from cdma_tools.program import add_program_option, find_program
 from cdma_tools.radio.air import CHIP_RATE
 from cdma_tools.radio.search_policy import SEARCH_OPTIONS, add_search_options
@@ -63,6 +66,7 @@ from cdma_tools.sources.options import (
     add_seconds_option,
     is_received,
     is_told,
+    note_fault,
     source_fault,
     source_words,
 )
@@ -77,7 +81,8 @@ SPANS = {str(span) for span in range(64, 32_769)}  # as follow takes them
 SPAN = 2_048  # samples of the search by default (--span, docs/FORMATS.md)
 MOST_CELLS = 12
 MOST_NOTES = 40  # of a recording's own
-RECORDING_ONLY = ("more", *SEARCH_OPTIONS, "capture", "seconds", *FREQUENCY_OPTIONS, *RADIO_OPTIONS)
+MAKER = "tools/report"  # of the notes that --meta writes
+RECORDING_ONLY = ("meta", "more", *SEARCH_OPTIONS, "capture", "seconds", *FREQUENCY_OPTIONS, *RADIO_OPTIONS)
 # The options of follow, as docs/FORMATS.md has them.
 FOLLOW_WORDS = {
     "span": "number of first samples in which the pilot is searched (64 to 32,768, default 2,048)",
@@ -101,6 +106,8 @@ def parser() -> Parser:
     words.add_argument("recording", type=InputFile, metavar="FILE_OR_RECORDING", help=what)
     page = "the page to write, - for standard output"
     words.add_argument("--out", required=True, type=OutputFile, metavar="PAGE", help=page)
+    notes = "write the recording's .sigmf-meta with notes on what was decoded of its strongest cell"
+    words.add_argument("--meta", type=UpdatedFile, metavar="FILE", help=notes)
     add_program_option(words)
     add_sample_options(words)
     add_seconds_option(words)
@@ -231,7 +238,14 @@ def imported_page(
     imported = run_import(options, recording, asked)
     if imported.told.status:
         return unimported_page(options, imported.told)
-    return page_of(options, program, asked.file, Import(imported, recording, asked))
+    done = Import(imported, recording, asked)
+    if options.meta is None or imported.seen is None:
+        return page_of(options, program, asked.file, done)
+    name, kind, rate, path = options.recording, recording.kind, recording.rate, recording.path
+    with noted(options.meta, name, kind, rate, path, MAKER) as notes:
+        held, skipped = imported.seen.held, asked.skip / float(rate)
+        notes.take_lock(held, skipped)
+        return page_of(options, program, asked.file, done, notes)
 
 
 class Import(NamedTuple):
@@ -248,11 +262,19 @@ class Import(NamedTuple):
         return waveform.Raw(recording.path, recording.kind, float(recording.rate), recording.frequency)
 
 
-def page_of(options: argparse.Namespace, program: str, file: str, done: Import | None) -> Page:
-    """Returns the page of a sample file; `done` describes the import, if there was one."""
+def page_of(
+    options: argparse.Namespace, program: str, file: str, done: Import | None, notes: Notes | None = None
+) -> Page:
+    """Returns the page of a sample file; `done` describes the import, if there was one.
+
+    `notes` get what follow decoded.
+    """
     words = {name: value for name in FOLLOW_WORDS if (value := getattr(options, name)) is not None}
     told, seen = done.imported if done is not None else (None, None)
     gathered = gathering.Gathered(shown_name(options.recording), told, *gathering.gather_runs(program, file, words))
+    if notes is not None:
+        for number, read in gathered.follow.reads(*LABELS):
+            notes.take(read, gathered.follow.lines[number].text, read["at"])
     phases = [read["phase"] for _, read in gathered.find.reads("pilot")]
     span = words.get("span", "")
     measured = measures.measured(file, phases[0] if phases else None, int(span) if span in SPANS else SPAN)
@@ -292,7 +314,7 @@ def seconds_of(recording: TakenSource) -> float:
 
 def listening_words(options: argparse.Namespace, recording: TakenSource, program: str, out: str) -> list[str]:
     """The arguments of a listening to a recording."""
-    given = {"program": program, "out": out} | {name: getattr(options, name) for name in SEARCH_OPTIONS}
+    given = {"program": program, "out": out} | {name: getattr(options, name) for name in ("meta", *SEARCH_OPTIONS)}
     given |= {name: getattr(options, name) for name in FOLLOW_WORDS if name not in ("span", "workers")}
     if is_described(options.recording):
         given |= {name: getattr(options, name) for name in ("rate", "capture")}
@@ -310,10 +332,19 @@ def page_of_listening(options: argparse.Namespace, recording: TakenSource, progr
         return Page(page_of_lines(shown_name(options.recording), heard_lines(lines)), status)
 
 
+def check_notes(options: argparse.Namespace, asked: argparse.Namespace) -> None:
+    """Refuses --meta if notes on what the import takes can't be written there."""
+    if fault := note_fault(options.recording, options.meta, asked.capture):
+        raise WrongArguments(fault)
+    if options.meta is not None and (asked.pn is not None or (asked.cell or 1) > 1):
+        raise WrongArguments("--meta has notes on the strongest cell, but --import takes another one")
+
+
 def recording_page(options: argparse.Namespace, program: str) -> Page:
     """The page of a recording; of a source that fails, of what came before."""
     with tempfile.TemporaryDirectory(prefix="report-") as folder:
         asked = import_options(options, os.path.join(folder, "recording.is95"))
+        check_notes(options, asked)
         try:
             found = take(options.recording, asked)
         except Refused as why:

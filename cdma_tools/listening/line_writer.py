@@ -96,15 +96,17 @@ class LineWriter:
         if time := time_told(event):
             self.time = time
         tap = TAP_OF.get(event.kind)
-        if tap is None or self.already.stands(event, self.origin, tap):
+        if tap is None:
             return
-        if self.counts[tap] >= self.most.get(tap, sys.maxsize):
-            return
-        self.counts[tap] += 1
         text = event.counted_from(self.origin)
-        self.put(text, event)
-        if self.packets is not None:
-            self.packets.take(object_of(text), event.chip, self.time)
+        is_there = self.already.stands(event, self.origin, tap)
+        if not is_there:
+            if self.counts[tap] >= self.most.get(tap, sys.maxsize):
+                return
+            self.counts[tap] += 1
+            self.put(text, event)
+            if self.packets is not None:
+                self.packets.take(object_of(text), event.chip, self.time)
         if self.notes is not None:
             self.notes.take(object_of(text), text, event.chip)
 
@@ -123,5 +125,5 @@ class LineWriter:
     def remark(self, remark: Remark) -> None:
         """Says a remark on standard error, and notes a loss."""
         if self.notes is not None and remark.lost_chips:
-            self.notes.take_loss(remark)
+            self.notes.take_loss(remark.seconds, remark.lost_chips)
         said(called("listen"), f"at {remark.seconds:.4f} s: {remark.text}")

@@ -113,9 +113,12 @@ def on_rows(channels: Sequence[Channel], rows: Iterable[int | None]) -> tuple[Ha
 
 def start_of(parts: list[Part], channels: Sequence[Channel], workers: ChannelWorkers) -> tuple[list[Joiner], int]:
     """Returns the beginning of a listening: the part in which the last existing line of a channel lies, if that part
-    has the time too. The earliest of such parts counts."""
+    has the time too. The earliest of such parts counts. If notes are wanted, it is the first part: those have the
+    samples of all lines."""
     already = [channel.writer.already for channel in channels]
     first = min(0 if one.at is None or one.offset is None else part_at(parts, one.at) for one in already)
+    if any(channel.writer.notes is not None for channel in channels):
+        first = 0
     if first:
         joiners = [Joiner(channel.handset.row) for channel in channels]
         for joiner, one in zip(joiners, already):

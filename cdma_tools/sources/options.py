@@ -10,7 +10,7 @@ from typing import Any
 from cdma_tools.arguments import number_within, rate_of, whole_within
 from cdma_tools.errors import Refused
 from cdma_tools.frequencies import FREQUENCY_OPTIONS, add_frequency_options, frequency_fault, frequency_given
-from cdma_tools.overwriting import STANDARD
+from cdma_tools.overwriting import META, STANDARD
 from cdma_tools.radio.guessing import AUTO
 from cdma_tools.recordings import TYPES, type_named
 from cdma_tools.sources.live import FIXED_TYPES, RTL_TCP, SENT_TYPES, SOAPY, TUNED, LiveSource, Stream, scheme_of
@@ -98,6 +98,20 @@ def source_fault(name: str, options: argparse.Namespace, has_middle: bool = Fals
     scheme = scheme_of(name)
     fault = recorded_fault(name, options) if scheme is None else live_fault(scheme, options)
     return fault or radio_fault(scheme, options, has_middle) or frequency_fault(options)
+
+
+def note_fault(name: str, meta: str | None, capture: int | None) -> str:
+    """Returns why notes on a source can't be written to the .sigmf-meta of --meta, empty if they can.
+
+    They number the samples of a file, which must begin with the first one.
+    """
+    if meta is None:
+        return ""
+    if not meta.endswith(META):
+        return f"--meta names a {META}"
+    if is_received(name) or is_described(name) and not name.endswith(META):
+        return f"--meta goes with a {META} or a file of raw samples, since notes have the numbers of its samples"
+    return "" if capture is None else "--meta goes with a whole recording, not with --capture"
 
 
 def live_fault(scheme: str, options: argparse.Namespace) -> str:

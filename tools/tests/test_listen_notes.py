@@ -55,6 +55,44 @@ class Noted(unittest.TestCase):
         self.assertEqual(len(notes), len(lines))
         for line in lines:
             self.check_note(line, notes)
+        self.check_again(samples, meta, described)
+        self.check_report(samples, notes)
+
+    def check_again(self, samples: str, meta: str, described: dict[str, Any]) -> None:
+        """Checks that a listening that continues after some lines notes all of them, and none twice."""
+        out = f"{samples}.txt"
+        words = [*STREAM, samples, *HANDSET, "--meta", meta, "--out", out]
+        self.assertEqual(run_inside("listen", *words)[0], 0)
+        with open(out, encoding="ascii") as file:
+            lines = file.readlines()
+        with open(out, "w", encoding="ascii") as file:
+            file.writelines(lines[:20])
+        os.unlink(meta)
+        self.assertEqual(run_inside("listen", *words)[0], 0)
+        with open(out, encoding="ascii") as file:
+            self.assertEqual(file.readlines(), lines)
+        with open(meta, encoding="utf-8") as file:
+            self.assertEqual(json.load(file), described)
+
+    def check_report(self, samples: str, notes: list[dict[str, Any]]) -> None:
+        """Checks the notes of a report, which begins later and counts other chips: the same at the same samples."""
+        meta, skipped = os.path.join(os.path.dirname(samples), "report.sigmf-meta"), 200_000
+        words = [*STREAM, samples, *HANDSET[:6], "--out", f"{samples}.html", "--meta", meta]
+        status, _, said = run_inside("report", *words, f"--import=--skip {skipped}")
+        self.assertEqual((status, said), (0, ""))
+        with open(meta, encoding="utf-8") as file:
+            reported = json.load(file)["annotations"]
+        self.check_rules(reported, os.path.getsize(samples) // 2)
+        self.assertGreater(len(reported), len(notes) // 2)
+        starts: dict[tuple[str, str], list[int]] = {}
+        for note in notes:
+            starts.setdefault((note["core:label"], note["core:comment"]), []).append(note["core:sample_start"])
+        for note in reported:
+            self.assertEqual(note["core:generator"], "tools/report")
+            begun = note["core:sample_start"]
+            self.assertGreaterEqual(begun, skipped)
+            near = [start for start in starts[note["core:label"], note["core:comment"]] if abs(start - begun) < 3]
+            self.assertEqual(len(near), 1, note)
 
     def check_rules(self, notes: list[dict[str, Any]], count: int) -> None:
         """Checks SigMF 1.0's rules for annotations: whole numbers, within the samples, ordered by their beginnings."""
@@ -95,13 +133,26 @@ class Rules(unittest.TestCase):
 
     def test_refusals(self) -> None:
         words = [*STREAM, "--program", "/bin/true"]
-        for more, status, why in (
-            (["/dev/null", "--meta", "/tmp/none.sigmf-meta"], 2, "--meta goes with a file of samples"),
-            (["/dev/null", "--meta", "/tmp/none.json"], 2, "--meta names a .sigmf-meta"),
+        folder = temporary_folder(self.addCleanup)
+        out, meta, samples = (os.path.join(folder, name) for name in ("lines.txt", "none.sigmf-meta", "samples"))
+        with open(samples, "wb"):
+            pass
+        needed = "--meta goes with a .sigmf-meta or a file of raw samples"
+        for tool, more, why in (
+            ("listen", [*words, "/dev/null", "--meta", meta], needed),
+            ("listen", [*words, "-", "--append", "--out", out, "--meta", meta], needed),
+            ("listen", [*words, "udp://127.0.0.1:9", "--meta", meta], needed),
+            ("listen", ["--program", "/bin/true", "radio.wav", "--meta", meta], needed),
+            ("listen", ["radio.sigmf-meta", "--capture", "2", "--meta", meta], "--meta goes with a whole recording"),
+            ("listen", [*words, "/dev/null", "--meta", "none.json"], "--meta names a .sigmf-meta"),
+            ("report", [*words, "-", "--out", out, "--meta", meta], needed),
+            ("report", ["radio.is95", "--out", out, "--meta", meta], "--meta goes with a recording"),
+            ("report", [*words, samples, "--out", out, "--meta", meta, "--import=--cell 2"], "the strongest cell"),
         ):
-            ended, wrote, said = run_inside("listen", *words, *more)
-            self.assertEqual((ended, wrote, said.count("\n")), (status, b"", 1), said)
+            ended, wrote, said = run_inside(tool, *more)
+            self.assertEqual((ended, wrote, said.count("\n")), (2, b"", 1), said)
             self.assertIn(why, said)
+        self.assertEqual(os.listdir(folder), ["samples"])
 
 
 if __name__ == "__main__":

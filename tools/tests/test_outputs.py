@@ -81,8 +81,8 @@ NO_INPUT = {
     ("radio_bench", "keep"),
     ("script", "out"),
 }
-# And the one output that is meant to be an input too: a metadata file that gets a note.
-UPDATED = {("import_capture", "meta"), ("listen", "meta")}
+# And the one output that is meant to be an input too: a metadata file that gets notes.
+UPDATED = {("import_capture", "meta"), ("listen", "meta"), ("report", "meta")}
 # Names that a folder's files have, by the tool that writes them and its argument.
 IN_FOLDERS = {
     ("curve", "out"): "curve.csv",

@@ -10,6 +10,7 @@ from tools.tests.helping import NO_PROGRAM, PROGRAM, needs, run_inside, run_prog
 
 needs("numpy", "scipy")
 
+import cdma  # noqa: E402
 from cdma_tools import sigmf  # noqa: E402
 from tools.tests.listening_cell import script_of  # noqa: E402
 from tools.tests.sigmf_rules import faults_of  # noqa: E402
@@ -59,9 +60,9 @@ class Rules(unittest.TestCase):
     def test_a_capture_after_a_loss(self) -> None:
         """It has the frequency of the one before; indices count what was lost; one that is there isn't added again."""
         meta: dict[str, Any] = {"captures": [{"core:sample_start": 0, "core:frequency": 1e9}]}
-        for _ in range(2):
-            sigmf.begin_capture(meta, 30, 7)
-            sigmf.begin_capture(meta, 80, 1)
+        for first, second in ((30, 80), (30, 80), (28, 82)):
+            sigmf.begin_capture(meta, first, 7, near=2)
+            sigmf.begin_capture(meta, second, 1, near=2)
         self.assertEqual(
             meta["captures"],
             [
@@ -95,20 +96,36 @@ class Written(unittest.TestCase):
         return meta
 
     def test_each_tool(self) -> None:
-        """channel, import_capture and listen; a capture begins where the samples were lost, within some chips."""
+        """channel, import_capture, listen, report; a capture begins where the samples were lost, within some chips."""
         self.object_of(self.meta)
         for name, words in (
             ("import_capture", ["--lock", "--meta", self.meta, self.meta, os.path.join(self.folder, "out.is95")]),
             ("listen", ["--meta", self.meta, self.meta]),
+            ("report", ["--meta", self.meta, self.meta, "--out", os.path.join(self.folder, "radio.html")]),
         ):
             self.assertEqual(run_inside(name, *words)[0], 0, name)
             meta = self.object_of(self.meta)
         labels = {note["core:label"] for note in meta["annotations"]}
         self.assertLessEqual({"truth", "IS-95 pilot", "IS-95 sync"}, labels)
-        first, after = meta["captures"]
+        makers = {note["core:generator"] for note in meta["annotations"] if note["core:label"] == "IS-95 sync"}
+        self.assertEqual(makers, {"tools/listen", "tools/report"})
+        first, after = meta["captures"]  # one of two tools that place it some samples apart
         self.assertEqual(first["core:sample_start"], 0)
         self.assertAlmostEqual(after["core:sample_start"], LOST_AT, delta=200)
         self.assertAlmostEqual(after["core:global_index"] - after["core:sample_start"], LOST, delta=RATE / CHIP_RATE)
+
+    def test_the_library(self) -> None:
+        """A recording that a program makes and saves."""
+        other: dict[str, Any] = {"type": "cf32_le", "rate": 2_457_600.5, "lose": [(20_000, 300)], "ec_io": -9}
+        for given in ({"type": "cu8"}, other):
+            with self.subTest(given):
+                recording = cdma.record(os.path.join(self.folder, "cell.is95"), seconds=0.05, **given)
+                path = os.path.join(self.folder, "saved.sigmf-meta")
+                recording.save(path)
+                with open(path, encoding="utf-8") as file:
+                    meta = json.load(file)
+                self.assertEqual(faults_of(meta, recording.samples), [])
+                self.assertEqual(meta["global"]["core:datatype"], given["type"])
 
 
 if __name__ == "__main__":
