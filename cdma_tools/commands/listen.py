@@ -29,7 +29,8 @@ status says whether a pilot was found. A second one breaks it off.
 
 With --pcapng messages and frames are also written as packets, which Wireshark shows with the dissector
 share/cdma-replay/is95.lua (docs/FORMATS.md). Each is written with its line, so a listening can be watched. FILE is
-replaced; a listening that continues after the lines of --out writes packets only for new lines.
+replaced. But a listening that continues after the lines of --out, or adds to them with --append, adds a section with
+the packets of its new lines, after the last whole packet.
 
     tools/listen --type cu8 --rate 2400000 --pcapng - radio.cu8 | wireshark -k -i -
 
@@ -315,12 +316,12 @@ def check_output(options: argparse.Namespace, is_recording: bool, output: Output
 
 
 @contextlib.contextmanager
-def opened_packets(options: argparse.Namespace) -> Iterator[PacketStream | None]:
-    """Yields where packets go, if they are asked for."""
+def opened_packets(options: argparse.Namespace, is_continued: bool) -> Iterator[PacketStream | None]:
+    """Yields where packets go, if they are asked for: to a new file, or after those of a file that is continued."""
     if options.pcapng is None:
         yield None
         return
-    with contextlib.closing(Capture(options.pcapng)) as capture:
+    with contextlib.closing(Capture(options.pcapng, is_continued)) as capture:
         yield PacketStream(capture.write, paging_number(options), options.row or 0)
 
 
@@ -399,7 +400,8 @@ def hear_one(options: argparse.Namespace) -> bool:
     is_json = options.json or (options.out or "").endswith(JSON_LINES)
     with contextlib.closing(open_output(options.out, is_json)) as output:
         check_output(options, isinstance(source, Recording), output, options.out)
-        with opened_packets(options) as packets, notes_on(options, source) as notes:
+        is_continued = options.append or output.already.lines > 0
+        with opened_packets(options, is_continued) as packets, notes_on(options, source) as notes:
             already = output.already if isinstance(source, Recording) else None
             writer = LineWriter(lines_to(options, output), is_json, counts, already)
             writer.packets, writer.notes = packets, notes

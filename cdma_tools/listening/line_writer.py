@@ -99,16 +99,22 @@ class LineWriter:
         if tap is None:
             return
         text = event.counted_from(self.origin)
-        is_there = self.already.stands(event, self.origin, tap)
-        if not is_there:
-            if self.counts[tap] >= self.most.get(tap, sys.maxsize):
-                return
-            self.counts[tap] += 1
-            self.put(text, event)
+        if self.already.stands(event, self.origin, tap):
             if self.packets is not None:
-                self.packets.take(object_of(text), event.chip, self.time)
+                self.packets.learn(object_of(text))
+        elif self.counts[tap] < self.most.get(tap, sys.maxsize):
+            self.add(text, event, tap)
+        else:
+            return
         if self.notes is not None:
             self.notes.take(object_of(text), text, event.chip)
+
+    def add(self, text: str, event: Event, tap: str) -> None:
+        """Writes a line, and its packet."""
+        self.counts[tap] += 1
+        self.put(text, event)
+        if self.packets is not None:
+            self.packets.take(object_of(text), event.chip, self.time)
 
     def put(self, text: str, event: Event | None = None) -> None:
         """Writes a line, that of an event or one of the listening's own."""

@@ -1,6 +1,8 @@
 """The blocks of a pcapng file: a section with its interfaces, and packets with their times in nanoseconds."""
 
+import os
 import struct
+from typing import IO
 
 LINK_TYPE = 147  # USER0, the first of the link types that are left to private use
 SECTION, INTERFACE, PACKET = 0x0A0D0D0A, 1, 6
@@ -9,6 +11,8 @@ APPLICATION, NAME, RESOLUTION, END = 4, 2, 9, 0  # options: shb_userappl, if_nam
 NANOSECONDS = bytes([9])  # the resolution: 10 to the power of -9 s
 MOST_TIME = 2**64 - 1
 ALIGNMENT = 4
+HEAD, TAIL = struct.Struct(">II"), struct.Struct(">I")
+MOST_BLOCK, MOST_NAME = 1 << 20, 1 << 10  # bytes of the longest block, and of a section up to the application's name
 
 
 def padded(data: bytes) -> bytes:
@@ -44,3 +48,35 @@ def packet_block(interface: int, nanoseconds: int, data: bytes) -> bytes:
     """Returns the block of a packet of an interface, with its time in nanoseconds since 1970."""
     fixed = struct.pack(">IQII", interface, nanoseconds, len(data), len(data))
     return block(PACKET, fixed + data)
+
+
+def application_in(head: bytes) -> bytes:
+    """Returns the name of the application in the first bytes of a file, empty if they begin no section of this module.
+    """
+    fixed = len(section_header("")) - len(option(END, b"")) - TAIL.size  # up to the name
+    begin, (length,) = section_header("")[:fixed], struct.unpack_from(">H", head.ljust(fixed), fixed - 2)
+    is_section = head[:4] == begin[:4] and head[8 : fixed - 2] == begin[8 : fixed - 2]
+    return head[fixed : fixed + length] if is_section else b""
+
+
+def whole_size(file: IO[bytes], application: str) -> int:
+    """Returns the number of bytes up to the end of the last whole block of a file that is open for reading.
+
+    Raises ValueError if the file isn't empty, and wasn't written by an application whose name begins so.
+    """
+    place, total = 0, file.seek(0, os.SEEK_END)
+    file.seek(0)
+    if total and not application_in(file.read(MOST_NAME)).startswith(application.encode()):
+        raise ValueError("not of this application")
+    while place + HEAD.size <= total:
+        file.seek(place)
+        kind, length = HEAD.unpack(file.read(HEAD.size))
+        if kind not in (SECTION, INTERFACE, PACKET) or length % ALIGNMENT or not HEAD.size < length <= MOST_BLOCK:
+            raise ValueError(f"no block at {place}")
+        if place + length > total:
+            break
+        file.seek(place + length - TAIL.size)
+        if file.read(TAIL.size) != TAIL.pack(length):
+            raise ValueError(f"no block at {place}")
+        place += length
+    return place

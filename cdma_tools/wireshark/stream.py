@@ -11,7 +11,8 @@ from cdma_tools.radio.air import CHIP_RATE, PERIOD
 from cdma_tools.wireshark.packets import SYNC_ROW, Cell, Channel, Place, content_of, packet_of
 from cdma_tools.wireshark.pcapng import MOST_TIME, interface_block, packet_block, section_header
 
-APPLICATION = f"cdma_replay tools {__version__}"
+MAKER = "cdma_replay tools"
+APPLICATION = f"{MAKER} {__version__}"
 SECOND = 1_000_000_000  # nanoseconds
 MOST_LATE = 256  # the greatest delay of a finger after the reference path, in chips
 Interface = tuple[Cell | None, Channel]
@@ -34,15 +35,19 @@ class PacketStream:
         self.cell: Cell | None = None
         write(section_header(APPLICATION))
 
+    def learn(self, read: dict[str, Any]) -> None:
+        """Takes the cell and the Walsh row of the traffic channel from a line's object, if it has them."""
+        if read["line"] == "sync":
+            self.cell = Cell(read["sid"], read["nid"], read["pn"])
+        elif read["line"] == "sets":
+            self.take_sets(read["active"])
+
     def take(self, read: dict[str, Any], chip: int, time: SystemTime | None) -> None:
         """Writes the packet of a line's object, if it has one.
 
         `chip` is the chip of its `at`, as `time` counts chips.
         """
-        if read["line"] == "sync":
-            self.cell = Cell(read["sid"], read["nid"], read["pn"])
-        elif read["line"] == "sets":
-            self.take_sets(read["active"])
+        self.learn(read)
         if found := content_of(read):
             channel = found[1]
             nanoseconds = time.nanoseconds(chip) if time else read["at"] * SECOND // CHIP_RATE

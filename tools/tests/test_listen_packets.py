@@ -1,6 +1,7 @@
 """tools/listen --pcapng: packets as they arrive, which tshark reads from a pipe, with the times of the cell's script.
 """
 
+import contextlib
 import os
 import re
 import shutil
@@ -8,6 +9,7 @@ import subprocess
 import tempfile
 import unittest
 import unittest.mock
+from collections import Counter
 from collections.abc import Iterator
 from fractions import Fraction
 
@@ -15,9 +17,11 @@ from tools.tests.helping import NO_PROGRAM, PROGRAM, PYTHON, ROOT, made_once, ne
 
 needs("numpy", "scipy")
 
+from cdma_tools.errors import Refused  # noqa: E402
 from cdma_tools.listening.events import Event  # noqa: E402
-from cdma_tools.listening.line_writer import LineWriter  # noqa: E402
+from cdma_tools.listening.line_writer import Already, LineWriter  # noqa: E402
 from cdma_tools.wireshark.capture import Capture  # noqa: E402
+from cdma_tools.wireshark.pcapng import section_header  # noqa: E402
 from cdma_tools.wireshark.stream import PacketStream  # noqa: E402
 from tools.tests.listening_cell import HANDSET, made_cell, script_of, write_cell  # noqa: E402
 from tools.tests.test_packets import DISSECTOR, PACKETS, packets_of  # noqa: E402
@@ -114,6 +118,85 @@ class Files(unittest.TestCase):
         with open(self.path, "rb") as file:
             chips = [int.from_bytes(packet[12:20], "big") for packet in packets_of(file.read())]
         self.assertEqual(chips, [294_848, 299_936])
+
+    def capture_of(self, *events: Event, is_continued: bool = True) -> None:
+        """Writes the packets of some lines, after those that are there."""
+        with contextlib.closing(Capture(self.path, is_continued)) as capture:
+            writer = LineWriter(lambda data: None, False, {})
+            writer.packets = PacketStream(capture.write, 1, 10)
+            for event in events:
+                writer.event(event)
+
+    def test_a_file_that_is_continued(self) -> None:
+        """Wherever it was cut off, its whole packets stay, and a section with the others follows."""
+        events = [Event(294_912, SYNC), Event(300_000, FRAME % 300_000), Event(324_576, FRAME % 324_576)]
+        self.capture_of(*events)
+        with open(self.path, "rb") as file:
+            whole = file.read()
+        packets = packets_of(whole)
+        self.assertEqual(len(packets), 3)
+        for lost in (0, 1, 5, 60, 100, 150):
+            with open(self.path, "wb") as out:
+                out.write(whole[: len(whole) - lost])
+            self.capture_of(events[0], events[2])
+            with open(self.path, "rb") as file:
+                kept = packets_of(file.read())
+            self.assertEqual(kept[-2:], [packets[0], packets[2]])
+            self.assertEqual(kept[:-2], packets[: len(kept) - 2])
+            self.assertIn(len(kept), (3, 4) if lost else (5,), lost)
+        self.capture_of(*events[:2], is_continued=False)
+        with open(self.path, "rb") as file:
+            self.assertEqual(packets_of(file.read()), packets[:2])
+
+    def test_a_cell_that_lines_have_named(self) -> None:
+        """A packet after lines that are there already has the cell of their sync message."""
+        already = Already(counts=Counter(messages=1), at=294_912, same=Counter(messages=1))
+        with contextlib.closing(Capture(self.path)) as capture:
+            writer = LineWriter(lambda data: None, False, {}, already)
+            writer.packets = PacketStream(capture.write, 1, 10)
+            for event in (Event(294_912, SYNC), Event(300_000, FRAME % 300_000)):
+                writer.event(event)
+        with open(self.path, "rb") as file:
+            written = file.read()
+        self.assertEqual(len(packets_of(written)), 1)
+        self.assertIn(b"SID 1 NID 2 PN 511 traffic", written)
+
+    def test_files_that_are_not_continued(self) -> None:
+        """What other programs wrote stays as it was."""
+        with open(self.path, "wb") as file:
+            file.write(section_header("another program"))
+        self.capture_of(Event(294_912, SYNC), is_continued=False)
+        with open(self.path, "rb") as file:
+            own = file.read()
+        damaged = own[:-1] + bytes([own[-1] ^ 1])
+        for data in (section_header("another program"), b"notes", bytes(100), own[:12], own + b"\xff" * 12, damaged):
+            with open(self.path, "wb") as file:
+                file.write(data)
+            with self.assertRaisesRegex(Refused, "it has other packets than those of listen"):
+                Capture(self.path, is_continued=True)
+            with open(self.path, "rb") as file:
+                self.assertEqual(file.read(), data)
+
+    @unittest.skipUnless(shutil.which("tshark"), "no tshark: install the package tshark")
+    def test_tshark_reads_what_was_cut_off(self) -> None:
+        """A file that is cut in a packet is shown up to it, and one that is continued is whole again."""
+        events = [Event(294_912, SYNC), Event(300_000, FRAME % 300_000)]
+        self.capture_of(*events)
+        os.truncate(self.path, os.path.getsize(self.path) - 9)
+        status, count, said = self.shown()
+        self.assertEqual((status, count), (2, 1))
+        self.assertIn("cut short", said)
+        self.capture_of(events[1])
+        self.assertEqual(self.shown(), (0, 2, ""))
+
+    def shown(self) -> tuple[int, int, str]:
+        """Returns the status of tshark for the file, the number of packets that it shows, and what it says."""
+        folder = os.path.dirname(self.path)
+        words = ["tshark", "-n", "-X", f"lua_script:{DISSECTOR}", "-r", self.path]
+        environment = {**os.environ, "HOME": folder, "XDG_CONFIG_HOME": folder}
+        ran = subprocess.run(words, capture_output=True, text=True, timeout=600, env=environment)
+        said = [line for line in ran.stderr.splitlines() if not line.startswith("Running as user")]
+        return ran.returncode, len(ran.stdout.splitlines()), "".join(said)
 
     def test_a_full_disk_keeps_whole_blocks(self) -> None:
         capture = Capture(self.path)
