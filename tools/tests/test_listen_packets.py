@@ -7,6 +7,7 @@ import re
 import shutil
 import subprocess
 import tempfile
+import time
 import unittest
 import unittest.mock
 from collections import Counter
@@ -48,7 +49,7 @@ def make_recording(place: str) -> None:
 class Listened(unittest.TestCase):
     """A recording of some seconds."""
 
-    seconds = 15
+    seconds = 20
 
     def setUp(self) -> None:
         self.recording = made_once(f"packets_{SECONDS}.cu8", make_recording)
@@ -88,6 +89,39 @@ class Listened(unittest.TestCase):
         self.assertEqual((status, said), (0, ""))
         self.assertEqual(len(wrote.splitlines()), len(lines) + wrote.count(b"pilot ") + wrote.count(b"sets "))
         self.assertEqual(self.shown(f"cat {file}"), rows)
+
+    def test_a_reader_that_has_gone(self) -> None:
+        """It ends the listening quietly, with the status of a closed pipe, whether lines have a file or not."""
+        for more in ([], ["--out", os.path.join(self.folder, "lines.txt")]):
+            reader, writer = os.pipe()
+            os.close(reader)
+            words = [f"{ROOT}/tools/listen", *STREAM, self.recording, *HANDSET, *more, "--pcapng", "-"]
+            ran = subprocess.run([PYTHON, "-B", *words], stdout=writer, stderr=subprocess.PIPE, timeout=600)
+            os.close(writer)
+            self.assertEqual((ran.returncode, ran.stderr), (1, b""), more)
+
+    def test_a_listening_that_is_killed(self) -> None:
+        """The file has whole packets; another listening continues it, and then it is as if none was killed."""
+        out, file = os.path.join(self.folder, "lines.txt"), os.path.join(self.folder, "packets.pcapng")
+        words = [*STREAM, self.recording, *HANDSET, "--out", out, "--pcapng", file]
+        run = subprocess.Popen([PYTHON, "-B", f"{ROOT}/tools/listen", *words], stderr=subprocess.DEVNULL)
+        try:
+            while run.poll() is None and not (os.path.exists(file) and os.path.getsize(file) > 1_000):
+                time.sleep(0.001)
+        finally:
+            run.kill()
+            run.wait()
+        before = self.shown(f"cat {file}")
+        self.assertGreater(len(before), 0)
+        status, _, said = run_inside("listen", *words)
+        self.assertEqual((status, said), (0, ""))
+        with open(out, encoding="ascii") as text:
+            lines = [line for line in text if line.split()[0] in PACKETS]
+        rows = self.shown(f"cat {file}")
+        self.assertEqual(rows[: len(before)], before)
+        ats = [re.findall(r" at=(\d+)", line)[0] for line in lines]
+        # A line is written before its packet, so the last one before the kill may lack it.
+        self.assertIn([row[2] for row in rows], (ats, ats[: len(before)] + ats[len(before) + 1 :]))
 
 
 class Files(unittest.TestCase):
