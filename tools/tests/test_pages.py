@@ -3,12 +3,15 @@
 A command is written as `    $ COMMAND` in a page, with its output below; a line of `.. and so on` stands for lines that
 are left out. The folder has links to the files of a checkout, and is otherwise empty, so that each command finds only
 what earlier ones of its page made. An HTML comment before a block marks it: `not run: WHY` is never run here, `by hand:
-WHY` is run if ROLVENST_PAGES=all, and `status: N` is the status of the block's last command. docs/LESSON.md, which
-shows all output of all of its commands, has its own test.
+WHY` is run if ROLVENST_PAGES=all, `needs: NAME` is run if a program or a Python package of that name is there, and
+`status: N` is the status of the block's last command. docs/LESSON.md, which shows all output of all of its commands,
+has its own test.
 """
 
+import importlib.util
 import os
 import re
+import shutil
 import subprocess
 import unittest
 from dataclasses import dataclass, field
@@ -21,7 +24,7 @@ needs("numpy", "scipy", "matplotlib", "plotly", "tqdm", "distributed", "jinja2")
 PAGES = ("README.md", "docs/GUIDE.md", "docs/RADIO.md", "docs/CURVES.md", "docs/FORMATS.md")
 LINKED = ("cdma_model", "cdma_tools", "conformance", "docs", "examples", "model", "share", "tools")
 IS_WHOLE = os.environ.get("ROLVENST_PAGES") == "all"
-MARK = re.compile(r"<!-- (not run|by hand|status): (.+) -->")
+MARK = re.compile(r"<!-- (not run|by hand|needs|status): (.+) -->")
 LEFT_OUT = ".. and "
 SECONDS = 900
 # What the reader's radio records: `-` is standard output; otherwise the last argument is the file.
@@ -78,6 +81,11 @@ def pattern_of(shown: list[str]) -> str:
     return "".join(r"(?:.*\n)+" if line.startswith(LEFT_OUT) else re.escape(line) + "\n" for line in shown)
 
 
+def is_there(name: str) -> bool:
+    """Whether there is a program or a Python package of a name."""
+    return shutil.which(name) is not None or importlib.util.find_spec(name) is not None
+
+
 class Parts(unittest.TestCase):
     """How a page is read."""
 
@@ -99,6 +107,11 @@ class Parts(unittest.TestCase):
             ("five", [], None, 0),
         ]
         self.assertEqual(found, wanted)
+
+    def test_what_is_needed(self) -> None:
+        (command,) = commands_of("text\n\n<!-- needs: numpy -->\n\n    $ one\n")
+        self.assertEqual(command.mark, ("needs", "numpy"))
+        self.assertEqual([is_there(name) for name in ("numpy", "bash", "no_such_thing")], [True, True, False])
 
     def test_lines_that_are_left_out(self) -> None:
         pattern = pattern_of(["a+b", ".. and one more"])
@@ -158,6 +171,8 @@ class Pages(unittest.TestCase):
             if one.mark and (one.mark[0] == "not run" or one.mark[0] == "by hand" and not IS_WHOLE):
                 continue
             with self.subTest(one.text):
+                if one.mark and one.mark[0] == "needs" and not is_there(one.mark[1]):
+                    self.skipTest(f"no {one.mark[1]}: install its package")
                 ended = self.ran(one.text)
                 self.assertEqual(ended.returncode, one.status, ended.stdout)
                 if one.shown:
