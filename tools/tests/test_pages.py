@@ -2,8 +2,8 @@
 
 A command is written as `    $ COMMAND` in a page, with its output below; a line of `.. and so on` stands for lines that
 are left out. The folder has links to the files of a checkout, and is otherwise empty, so that each command finds only
-what earlier ones of its page made. An HTML comment before a block marks it: `not run: WHY` is never run here, `by hand:
-WHY` is run if ROLVENST_PAGES=all, `needs: NAME` is run if a program or a Python package of that name is there, and
+what earlier ones of its page made. An HTML comment before a block marks it: `not run: WHY` is never run here, and `by
+hand: WHY` is run if ROLVENST_PAGES=all. `needs: NAME` is run if a program or a Python package of that name is there.
 `status: N` is the status of the block's last command. docs/LESSON.md, which shows all output of all of its commands,
 has its own test.
 """
