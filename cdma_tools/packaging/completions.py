@@ -1,4 +1,4 @@
-"""Completions for bash and zsh: the options of a command, the choices of an option, otherwise file names."""
+"""Completions for bash and zsh: the options of a command, the choices of an option, its parts, otherwise file names."""
 
 import argparse
 import re
@@ -15,7 +15,7 @@ SCRIPT = """# What bash completes for {name}.
 {choices}    esac
     case $word in
         -*) mapfile -t COMPREPLY < <(compgen -W {options} -- "$word") ;;
-    esac
+{parts}    esac
 }}
 complete -o default -F {function} {name}
 """
@@ -23,6 +23,8 @@ CHOICE = """        {options})
             mapfile -t COMPREPLY < <(compgen -W {words} -- "$word")
             return
             ;;
+"""
+PARTS = """        *) [ "$COMP_CWORD" -ne 1 ] || mapfile -t COMPREPLY < <(compgen -W {words} -- "$word") ;;
 """
 ZSH_SCRIPT = """#compdef {name}
 # What zsh completes for {name}.
@@ -52,6 +54,12 @@ def options_of(parser: argparse.ArgumentParser) -> Iterator[argparse.Action]:
                 yield from (option for option in part._actions if option.option_strings)
 
 
+def parts_of(parser: argparse.ArgumentParser) -> list[str]:
+    """Returns the names of a command's parts, of which the first argument is one; empty if it has none."""
+    parts = (action.choices for action in parser._actions if isinstance(action, argparse._SubParsersAction))
+    return [str(name) for choices in parts for name in choices]
+
+
 def help_of(action: argparse.Action) -> str:
     """The help of an option up to its first semicolon, in one line."""
     told = re.sub(r"\s+", " ", action.help or "").replace("%%", "%")
@@ -79,7 +87,8 @@ def completed(parser: argparse.ArgumentParser) -> list[Option]:
 
 def completion_of(name: str, module: str) -> str:
     """The completion of a command for bash."""
-    options = completed(parser_of(name, module))
+    parser = parser_of(name, module)
+    options, parts = completed(parser), parts_of(parser)
     names = sorted({option for one in options for option in one.names})
     choices = "".join(
         CHOICE.format(options="|".join(one.names), words=shlex.quote(" ".join(one.choices)))
@@ -87,7 +96,11 @@ def completion_of(name: str, module: str) -> str:
         if one.choices
     )
     return SCRIPT.format(
-        name=name, function="_" + name.replace("-", "_"), choices=choices, options=shlex.quote(" ".join(names))
+        name=name,
+        function="_" + name.replace("-", "_"),
+        choices=choices,
+        options=shlex.quote(" ".join(names)),
+        parts=PARTS.format(words=shlex.quote(" ".join(parts))) if parts else "",
     )
 
 
@@ -110,5 +123,8 @@ def zsh_lines(option: Option) -> Iterator[str]:
 
 def zsh_completion_of(name: str, module: str) -> str:
     """The completion of a command for zsh."""
-    lines = [line for option in completed(parser_of(name, module)) for line in zsh_lines(option)]
+    parser = parser_of(name, module)
+    lines = [line for option in completed(parser) for line in zsh_lines(option)]
+    if parts := parts_of(parser):
+        lines.append(shlex.quote(f"1:part:({' '.join(parts)})"))
     return ZSH_SCRIPT.format(name=name, options="".join(f"    {line} \\\n" for line in lines))

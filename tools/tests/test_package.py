@@ -173,6 +173,8 @@ class OfZsh(unittest.TestCase):
             ("cdma-draw survey --ti", "cdma-draw survey --title"),
             ("cdma-curve --path 7:1 --pa", "cdma-curve --path 7:1 --path"),
             ("cdma-scan --all --al", "cdma-scan --all --al"),
+            ("cdma-draw surv", "cdma-draw survey"),
+            ("cdma-script ch", "cdma-script check"),
         ):
             with self.subTest(line):
                 self.assertEqual(self.completed(line), told)
@@ -191,16 +193,32 @@ class OfZsh(unittest.TestCase):
 
 
 class OfBash(unittest.TestCase):
-    """What bash completes for the program, and what it says if nothing can be completed."""
+    """What bash completes for a command, and what it says of the program if nothing can be completed."""
 
-    def completed(self, *words: str) -> tuple[list[str], str]:
+    def completed(self, *words: str, name: str = NAME) -> tuple[list[str], str]:
         """Returns what the Tab key offers for the last word, and what is said."""
-        script = f"""{program_completions.bash_completion()}
+        module = tree.commands().get(name)
+        made = completions.completion_of(name, module) if module else program_completions.bash_completion()
+        script = f"""{made}
             COMP_WORDS=("$@") COMP_CWORD=$(($# - 1)) COMP_LINE="$*"
-            _cdma_replay
+            _{name.replace("-", "_")}
             printf '%s\\n' "${{COMPREPLY[@]}}" """
-        ran = subprocess.run(["bash", "-c", script, "bash", NAME, *words], capture_output=True, text=True, timeout=60)
+        ran = subprocess.run(["bash", "-c", script, "bash", name, *words], capture_output=True, text=True, timeout=60)
         return ran.stdout.split(), ran.stderr.strip().split("\n")[0]
+
+    def test_the_tools(self) -> None:
+        """Options, choices and parts; a word of another kind is left to bash, which completes the names of files."""
+        for name, words, offered in (
+            ("cdma-scan", ["--conjugate", ""], ["yes", "no", "try"]),
+            ("cdma-scan", ["--conj"], ["--conjugate"]),
+            ("cdma-draw", ["survey", "--ti"], ["--title"]),
+            ("cdma-draw", ["surv"], ["survey"]),
+            ("cdma-draw", ["survey", "surv"], []),
+            ("cdma-script", [""], ["check", "show", "new", "words"]),
+            ("cdma-scan", ["radio"], []),
+        ):
+            with self.subTest(name=name, words=words):
+                self.assertEqual(self.completed(*words, name=name), (offered, ""))
 
     def test_what_is_offered(self) -> None:
         for words, offered in (
