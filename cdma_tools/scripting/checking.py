@@ -4,6 +4,7 @@ The verdict is the program's (docs/FORMATS.md, "Faults of a script"): the kinds 
 each over the whole script, and the first decides.
 """
 
+import codecs
 import dataclasses
 import difflib
 import enum
@@ -18,6 +19,8 @@ MOST_BYTES = 1_048_576
 MOST_SAMPLES = {16: 33_554_432, 8: 67_108_864}
 LOUDEST = {16: 32_767, 8: 127}
 PILOT_ROW, SYNC_ROW = 0, 32
+COMMENTS = ("#", ";", "//")  # as comments of other languages begin; no word of a script begins so
+UTF_8_MARK, UTF_16_MARKS = codecs.BOM_UTF8, (codecs.BOM_UTF16_LE, codecs.BOM_UTF16_BE)
 
 
 class Kind(enum.Enum):
@@ -81,7 +84,12 @@ def check(script: bytes, width: int = 16) -> list[Fault]:
         reason = f"the script has more than {MOST_BYTES:,} bytes"
         return [Fault(Kind.TOO_BIG, 1, 1, "", reason, "too big")]
     checker = Checker(width)
-    checker.take_script(script.decode("latin-1"))
+    if script.startswith(UTF_16_MARKS):
+        return [Fault(Kind.LINE, 1, 1, "", "the file is UTF-16: save it as plain ASCII", "line 1")]
+    if script.startswith(UTF_8_MARK):
+        reason = "the file begins with a byte order mark: save it as plain ASCII, without the mark"
+        checker.faults.append(Fault(Kind.LINE, 1, 1, "", reason, "line 1"))
+    checker.take_script(script.removeprefix(UTF_8_MARK).decode("latin-1"))
     return sorted(checker.faults, key=lambda fault: (fault.line, fault.column))
 
 
@@ -103,6 +111,14 @@ def fault_text(fault: Fault, name: str) -> str:
 def words_of(line: str) -> list[Word]:
     """Splits a line at blanks, tabs and carriage returns."""
     return [Word(found[0], found.start() + 1) for found in re.finditer(r"[^ \t\r]+", line)]
+
+
+def as_typed(text: str) -> str:
+    """Returns bytes of a script, given as Latin-1, as an editor shows them that writes UTF-8."""
+    try:
+        return text.encode("latin-1").decode()
+    except UnicodeDecodeError:
+        return text
 
 
 class Checker:
@@ -159,8 +175,12 @@ class Checker:
         if not words:
             self.add(1, line, "empty lines aren't allowed: delete it")
             return
-        if words[0].text[0] in "#;" or words[0].text.startswith("//"):
-            self.add(words[0].column, words[0].text, "a script has no comments: delete the line")
+        comment = next((word for word in words if word.text.startswith(COMMENTS)), None)
+        if comment is not None:
+            what = "the line" if comment is words[0] else "from here to the end of the line"
+            self.add(comment.column, comment.text, f"a script has no comments: delete {what}")
+            line, words = line[: comment.column - 1].rstrip(" \t"), words[: words.index(comment)]
+        if not words:
             return
         self.check_form(line)
         name = words[0].text
@@ -183,9 +203,9 @@ class Checker:
         inner = re.search(r"(?<=[^ \t])(?:[ \t]{2,}|\t)(?=[^ \t])", line)
         if inner:
             self.add(inner.start() + 1, "", "put exactly one space between two words")
-        odd = re.search(r"[^ -~\t]", line)
+        odd = re.search(r"[^ -~\t]+", line)
         if odd:
-            self.add(odd.start() + 1, odd[0], "only printable ASCII characters are allowed")
+            self.add(odd.start() + 1, as_typed(odd[0])[0], "only printable ASCII characters are allowed")
 
     def check_order(self, word: Word) -> None:
         """Checks that a statement may follow the one before."""

@@ -1,5 +1,6 @@
 """The tool `script`: its verdicts are the program's, and its reasons name typical slips."""
 
+import codecs
 import contextlib
 import io
 import json
@@ -155,7 +156,9 @@ class Reasons(unittest.TestCase):
         (3, "pilot gain=99.5", 14, "whole number"),
         (4, "sync gain=30  prev=3 min=1 sid=1 nid=2 lp=13 ltm=0 daylt=0 prat=0 rest=3:00", 13, "exactly one space"),
         (3, "pilot gain=100\r", 15, "carriage return"),
-        (3, "# the pilot", 1, "no comments"),
+        (3, "# the pilot", 1, "no comments: delete the line"),
+        (3, "pilot gain=100  # loud, ä", 17, "no comments: delete from here to the end of the line"),
+        (3, "pilot gäin=100", 8, "only printable ASCII"),
         (3, "sync gain=30 prev=3 min=1 sid=1 nid=2 lp=13 ltm=0 daylt=0 prat=0 rest=3:00", 1, "after link comes pilot"),
         (6, "page half 34:04ff80", 14, "34 bits are written in 10 hex digits, not 6"),
         (8, "frame 4800 81:0000000000000000000000 0101010101010101", 12, "a frame of 4800 has 80 bits, not 81"),
@@ -171,6 +174,27 @@ class Reasons(unittest.TestCase):
             self.assertEqual(len(found), 1, (line, check("\n".join(rows).encode())))
             place = 2 if "32,767" in reason else number
             self.assertEqual((found[0].line, found[0].column), (place, column), line)
+
+    def test_a_character_that_no_script_has(self) -> None:
+        """It is shown as the editor shows it; a byte that is no UTF-8 is shown by itself."""
+        for data, shown in (("pilöt".encode(), "ö"), (b"pil\xf6t", "ö"), (b"pil\x00", "\0")):
+            script = self.HEAD[0].encode() + b"\n" + data + b"\n"
+            self.assertIn(shown, [fault.value for fault in check(script)], data)
+
+    def test_files_of_editors_that_write_no_ascii(self) -> None:
+        """A mark of another encoding is one fault, and what follows a mark of UTF-8 is checked too."""
+        text = script_of("second_of_paging.script")
+        for data, reasons in (
+            (codecs.BOM_UTF8 + text.encode(), ["byte order mark"]),
+            (codecs.BOM_UTF8 + text.replace("gain=30", "gain=x").encode(), ["byte order mark", "whole number"]),
+            (text.encode("utf-16"), ["UTF-16"]),
+            (codecs.BOM_UTF16_BE + text.encode("utf-16-be"), ["UTF-16"]),
+        ):
+            found = check(data)
+            self.assertEqual(verdict(found), by_model(data))
+            self.assertEqual(len(found), len(reasons), found)
+            for fault, reason in zip(found, reasons):
+                self.assertIn(reason, fault.reason)
 
     def test_a_page_without_room(self) -> None:
         # A body of 50 bits and the 38 outside it are 88 of 95: 7 are left.
