@@ -135,7 +135,8 @@ RECIPES: Mapping[str, Recipe] = {
         "the command `survey`",
         (
             *(Variant(enum, "Survey") for enum in ("Command", "Job")),
-            *words("SURVEY_OPTIONS", "survey_entry", "survey_text"),
+            Variant("Findings", "Ranks"),
+            *words("SURVEY_OPTIONS", "survey_entry", "survey_text", "write_ranks"),
         ),
     ),
     "a version of the sample file": Recipe("the width of 8 bits", WIDTH),

@@ -33,6 +33,7 @@ FILES = {
 }
 # Files that have both names of a variant, each for something else.
 OTHERS = {
+    "a command": ["run_replies/specs/Lib.antt"],  # the modules `Findings` and `Ranks`
     "an event": ["heard_events/src/sets_notes.rt"],  # the struct `Sets` of pilot_sets
 }
 LOST = Recipe("a lost pilot", (Variant("Event", "Lost"), Word("lost_line")))
