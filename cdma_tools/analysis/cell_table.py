@@ -159,7 +159,7 @@ def reads_of(text: bytes) -> list[dict[str, Any]]:
     return list(read())
 
 
-def table_of_cells(search: Search, count: int, program: str | None, tell: Callable[[int], None]) -> list[CellFacts]:
+def table_of_cells(search: Search, count: int, program: str | None, tell: Callable[[int], object]) -> list[CellFacts]:
     """Returns up to `count` cells of a recording; without a program no messages are decoded. `tell` gets each cell."""
     while len(search.told) < count and search.next_cell():
         tell(1)
