@@ -1,4 +1,7 @@
-"""The blocks of a pcapng file: a section with its interfaces, and packets with their times in nanoseconds."""
+"""The blocks of a pcapng file: a section with its interfaces, and packets with their times in nanoseconds.
+
+Their numbers are little-endian: Wireshark takes a pipe only in the order of its machine.
+"""
 
 import os
 import struct
@@ -11,7 +14,7 @@ APPLICATION, NAME, RESOLUTION, END = 4, 2, 9, 0  # options: shb_userappl, if_nam
 NANOSECONDS = bytes([9])  # the resolution: 10 to the power of -9 s
 MOST_TIME = 2**64 - 1
 ALIGNMENT = 4
-HEAD, TAIL = struct.Struct(">II"), struct.Struct(">I")
+HEAD, TAIL = struct.Struct("<II"), struct.Struct("<I")
 MOST_BLOCK, MOST_NAME = 1 << 20, 1 << 10  # bytes of the longest block, and of a section up to the application's name
 
 
@@ -23,30 +26,30 @@ def padded(data: bytes) -> bytes:
 def block(kind: int, body: bytes) -> bytes:
     """Returns a block, with its length before and after it."""
     body = padded(body)
-    length = struct.pack(">I", len(body) + 12)
-    return struct.pack(">I", kind) + length + body + length
+    length = struct.pack("<I", len(body) + 12)
+    return struct.pack("<I", kind) + length + body + length
 
 
 def option(code: int, data: bytes) -> bytes:
     """Returns an option of a block."""
-    return struct.pack(">HH", code, len(data)) + padded(data)
+    return struct.pack("<HH", code, len(data)) + padded(data)
 
 
 def section_header(application: str) -> bytes:
     """Returns the block with which a file begins, and which names the application that writes it."""
-    fixed = struct.pack(">IHHq", BYTE_ORDER, MAJOR, MINOR, UNKNOWN_LENGTH)
+    fixed = struct.pack("<IHHq", BYTE_ORDER, MAJOR, MINOR, UNKNOWN_LENGTH)
     return block(SECTION, fixed + option(APPLICATION, application.encode()) + option(END, b""))
 
 
 def interface_block(name: str) -> bytes:
     """Returns the block of an interface of the link type USER0; interfaces are counted from 0 on in their order."""
     options = option(NAME, name.encode()) + option(RESOLUTION, NANOSECONDS) + option(END, b"")
-    return block(INTERFACE, struct.pack(">HHI", LINK_TYPE, 0, 0) + options)
+    return block(INTERFACE, struct.pack("<HHI", LINK_TYPE, 0, 0) + options)
 
 
 def packet_block(interface: int, nanoseconds: int, data: bytes) -> bytes:
     """Returns the block of a packet of an interface, with its time in nanoseconds since 1970."""
-    fixed = struct.pack(">IQII", interface, nanoseconds, len(data), len(data))
+    fixed = struct.pack("<5I", interface, nanoseconds >> 32, nanoseconds & 0xFFFF_FFFF, len(data), len(data))
     return block(PACKET, fixed + data)
 
 
@@ -54,7 +57,7 @@ def application_in(head: bytes) -> bytes:
     """Returns the name of the application in the first bytes of a file, empty if they begin no section of this module.
     """
     fixed = len(section_header("")) - len(option(END, b"")) - TAIL.size  # up to the name
-    begin, (length,) = section_header("")[:fixed], struct.unpack_from(">H", head.ljust(fixed), fixed - 2)
+    begin, (length,) = section_header("")[:fixed], struct.unpack_from("<H", head.ljust(fixed), fixed - 2)
     is_section = head[:4] == begin[:4] and head[8 : fixed - 2] == begin[8 : fixed - 2]
     return head[fixed : fixed + length] if is_section else b""
 

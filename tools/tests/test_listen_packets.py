@@ -223,13 +223,23 @@ class Files(unittest.TestCase):
         self.capture_of(events[1])
         self.assertEqual(self.shown(), (0, 2, ""))
 
-    def shown(self) -> tuple[int, int, str]:
+    @unittest.skipUnless(shutil.which("dumpcap"), "no dumpcap: install the package wireshark-common")
+    def test_a_live_capture(self) -> None:
+        """dumpcap, by which `wireshark -k -i -` takes a pipe, takes only the order of bytes of its machine."""
+        self.capture_of(Event(294_912, SYNC), Event(300_000, FRAME % 300_000))
+        status, count, said = self.shown("-i", "-")
+        self.assertEqual((status, count), (0, 2), said)
+        self.assertIn("2 packets captured", said)
+
+    def shown(self, *source: str) -> tuple[int, int, str]:
         """Returns the status of tshark for the file, the number of packets that it shows, and what it says."""
         folder = os.path.dirname(self.path)
-        words = ["tshark", "-n", "-X", f"lua_script:{DISSECTOR}", "-r", self.path]
+        words = ["tshark", "-n", "-X", f"lua_script:{DISSECTOR}", *(source or ("-r", self.path))]
         environment = {**os.environ, "HOME": folder, "XDG_CONFIG_HOME": folder}
-        ran = subprocess.run(words, capture_output=True, text=True, timeout=600, env=environment)
-        said = [line for line in ran.stderr.splitlines() if not line.startswith("Running as user")]
+        with open(self.path, "rb") as file:
+            data = file.read()
+        ran = subprocess.run(words, input=data, capture_output=True, timeout=600, env=environment)
+        said = [line for line in ran.stderr.decode().splitlines() if not line.startswith("Running as user")]
         return ran.returncode, len(ran.stdout.splitlines()), "".join(said)
 
     def test_a_full_disk_keeps_whole_blocks(self) -> None:

@@ -177,8 +177,8 @@ def blocks_of(capture: bytes) -> Iterator[tuple[int, bytes]]:
     """Returns the type and the body of each block of a capture."""
     place = 0
     while place < len(capture):
-        kind, length = struct.unpack_from(">II", capture, place)
-        assert struct.unpack_from(">I", capture, place + length - 4) == (length,)
+        kind, length = struct.unpack_from("<II", capture, place)
+        assert struct.unpack_from("<I", capture, place + length - 4) == (length,)
         yield kind, capture[place + 8 : place + length - 4]
         place += length
 
@@ -186,7 +186,7 @@ def blocks_of(capture: bytes) -> Iterator[tuple[int, bytes]]:
 def packets_of(capture: bytes) -> list[bytes]:
     """Returns the data of the packets of a capture."""
     bodies = [body for kind, body in blocks_of(capture) if kind == PACKET]
-    return [body[20 : 20 + struct.unpack_from(">I", body, 12)[0]] for body in bodies]
+    return [body[20 : 20 + struct.unpack_from("<I", body, 12)[0]] for body in bodies]
 
 
 def merged(captures: list[bytes]) -> bytes:
@@ -196,8 +196,8 @@ def merged(captures: list[bytes]) -> bytes:
         first = interfaces
         for kind, body in blocks_of(capture):
             if kind == PACKET:
-                (interface,) = struct.unpack_from(">I", body)
-                made += block(PACKET, struct.pack(">I", first + interface) + body[4:])
+                (interface,) = struct.unpack_from("<I", body)
+                made += block(PACKET, struct.pack("<I", first + interface) + body[4:])
             elif kind == INTERFACE:
                 made += block(INTERFACE, body)
                 interfaces += 1
@@ -415,8 +415,8 @@ class Written(unittest.TestCase):
         frame = "frame2 at=1228800 rate=1800 good=1 bits=0: commands=0000000000000000"
         capture = capture_of(["survey pn=211 delta=-6 energy=0", frame])
         self.assertEqual(packets_of(capture)[0][:12], bytes.fromhex("01 04 03 01 0000 0000 0000 00 00"))
-        place = capture.index(struct.pack(">I", HEADER.size), capture.index(b"unknown cell traffic"))
-        self.assertEqual(struct.unpack_from(">Q", capture, place - 8)[0], 1_000_000_000)
+        place = capture.index(struct.pack("<I", HEADER.size), capture.index(b"unknown cell traffic"))
+        self.assertEqual(struct.unpack_from("<II", capture, place - 8), (0, 1_000_000_000))
 
     def test_refusals(self) -> None:
         late = b"frame at=18446744073709551615 rate=1200 good=1 bits=0: commands=0000000000000000\n"
