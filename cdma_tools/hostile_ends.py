@@ -30,6 +30,8 @@ LINES = (
     "explain --sync cell.is95 --picture PICTURE",
     "report cell.is95 --program /bin/true --out OUT",
     "listen --type ci8 --rate 1228800 --program /bin/true input --out OUT",
+    "listen --type ci8 --rate 1228800 --program /bin/true input --paging all --traffic 00c0ffee:12:2 --out-dir heard",
+    "listen --type ci8 --rate 2457600 --program /bin/true - --shift 0 --shift 900000 --paging 1,2 --json",
     f"scan {RAW} --search 600 input",
     "lines survey.txt",
     "listen --type ci8 --rate 1228800 --program /bin/true -",

@@ -151,6 +151,12 @@ OPTIONS: dict[str, tuple[str, str, str, tuple[str, ...]]] = {
     "domain": ("--rate --skip --shift --search", "--type --conjugate --equaliser --json --plot", "--all", ("input",)),
     "draw": ("--top --span --width --phase", "--title", "--log", ("kind", "picture", "input")),
     "explain": ("--paging --offset --rate-set --frame --span --fingers", "--traffic --picture", "--sync", ("input",)),
+    "listen": (
+        "--rate --shift --cells --pn --part --row --offset --fingers --search --frames",
+        "--type --paging --traffic --traffic-file --out-dir --esn --conjugate --equaliser --out",
+        "--json --append --complement-30",
+        ("samples",),
+    ),
     "lines": ("", "", "--back --table", ("input",)),
     "report": ("--rate --span --fingers --row --cells", "--type --import --esn", "", ("input", "page")),
     "curve": (
@@ -169,6 +175,7 @@ GIVEN: dict[str, list[str]] = {
     "import_capture": ["--type", "ci8", "--rate", "2457600"],
     "channel": ["--seconds", "0.01"],
     "scan": ["--type", "ci8", "--rate", "2457600", "--search", "600"],
+    "listen": ["--type", "ci8", "--rate", "2457600", "--search", "600"],
     "explain": ["--sync"],
     "curve": ["--from", "1", "--to", "1", "--step", "1", "--frames", "1"],
     "agree": ["--seed", "1", "--count", "1", "--print"],
@@ -263,6 +270,7 @@ class Room:
         draw = self.draw
         choices: dict[str, Callable[[], list[str]]] = {
             "input": lambda: [self.at(draw.choice(INPUTS))],
+            "samples": lambda: [self.at(draw.choice(INPUTS)), "--program", draw.choice(["/bin/true", "/bin/false", "/none"])],
             "cell": lambda: [self.at("cell.is95") + draw.choice(["", "", ":", ":1", f":{draw.choice(NUMBERS)}"])],
             "output": lambda: [
                 draw.choice([self.at("output"), self.at("output"), "/dev/null", self.folder, self.at("none/x"), "-"])

@@ -47,7 +47,16 @@ cell1-paging2.txt, with the lines of a listening to it on its own, those of sync
 those of a paging channel as well. Without it all lines go to standard output. Objects of --json have `cell`, `carrier`
 and `channel`.
 
+With --cells K the K strongest cells of a file of samples are listened to, with --pn P the one with that PILOT_PN. Each
+is freed of the others first, as import_capture does it. That takes longer than the recording lasts, and files of
+floating point in $TMPDIR: 8 bytes per sample, and as much again for each cell. `cell` counts them by their strength.
+
+With --shift, repeated, several carriers of a wide recording or stream are listened to. `carrier` is the HZ that was
+given, and names of files begin with it, as carrier+1250000-cell1-paging1.txt.
+
     tools/listen day.sigmf-meta --paging all --traffic 00c0ffee:12:2 --traffic 00c0fff0:13:0 --json --out-dir day
+    tools/listen wide.sigmf-meta --shift -1250000 --shift 0 --shift 1250000 --out-dir day
+    tools/listen day.sigmf-meta --cells 3 --json
 
 A file of samples is processed in parts of --part seconds, by --workers processes of this machine, or by the workers of
 a --scheduler of dask.distributed, which need the same file and program at the same paths. The output is the same, byte
@@ -65,13 +74,15 @@ Exit status: 0 a pilot was found, 1 none was, or the samples can't be read or th
 import argparse
 import contextlib
 import os
-from collections.abc import Iterator, Sequence
+from collections.abc import Iterator
 from contextlib import AbstractContextManager
 from dataclasses import replace
 from fractions import Fraction
 
 from cdma_tools.arguments import Parser, Within, number_within, rational, whole_within, wrong
+from cdma_tools.cell_options import MOST_RANK, OFFSETS
 from cdma_tools.errors import Refused, WrongArguments
+from cdma_tools.listening.cells import CellsWanted
 from cdma_tools.listening.channel_options import (
     SERIAL,
     SYNC_ROW,
@@ -83,14 +94,14 @@ from cdma_tools.listening.channel_options import (
     paging_of,
     traffic_channels,
 )
-from cdma_tools.listening.channels import ChannelOutputs, Trial, Wanted, sent_channels, wanted_channels
+from cdma_tools.listening.channels import ChannelOutputs, Wanted, wanted_channels
+from cdma_tools.listening.everything import Place, Sharing, Writers, hear_file, hear_live, places_on
 from cdma_tools.listening.follow_run import Handset
 from cdma_tools.listening.line_writer import LineWriter, Write
-from cdma_tools.listening.live import LiveListening, hear_stream, heard_all
+from cdma_tools.listening.live import hear_stream
 from cdma_tools.listening.output import Output, open_output
 from cdma_tools.listening.notes import Notes, noted
 from cdma_tools.listening.parts import PART, Recording
-from cdma_tools.listening.relays import Followed
 from cdma_tools.listening.sharing import Channel, hear_recording
 from cdma_tools.listening.stream_lock import LockOptions
 from cdma_tools.overwriting import STANDARD, InputFile, OutputFile, UpdatedFile
@@ -159,11 +170,21 @@ def add_source(words: argparse.ArgumentParser) -> None:
 def add_lock(words: argparse.ArgumentParser) -> None:
     """The arguments that say where the pilot is searched."""
     lock = words.add_argument_group("the lock")
-    middle = "search the first carrier around one that lies HZ above the middle (default 0)"
-    lock.add_argument("--shift", type=number_within(-MOST_SHIFT, MOST_SHIFT), default=0.0, metavar="HZ", help=middle)
+    middle = "search the first carrier around one that lies HZ above the middle (default 0); may be repeated"
+    shift = number_within(-MOST_SHIFT, MOST_SHIFT)
+    lock.add_argument("--shift", type=shift, action="append", metavar="HZ", help=middle)
     add_search_options(lock)
     sent = "whether the base station has a phase equaliser (default try)"
     lock.add_argument("--equaliser", choices=TRIES, default="try", help=sent)
+
+
+def add_cells(words: argparse.ArgumentParser) -> None:
+    """The arguments that name cells of a file of samples."""
+    cells = words.add_argument_group("several cells of a file of samples").add_mutually_exclusive_group()
+    strongest = "listen to the K strongest cells, each without the others, which are decoded and subtracted"
+    cells.add_argument("--cells", type=whole_within(1, MOST_RANK), metavar="K", help=strongest)
+    one = "listen only to the cell with PILOT_PN P, without the stronger ones"
+    cells.add_argument("--pn", type=whole_within(0, OFFSETS - 1), metavar="P", help=one)
 
 
 def parser() -> Parser:
@@ -186,6 +207,7 @@ def parser() -> Parser:
     add_radio_options(words)
     add_handset(words)
     add_channel_options(words)
+    add_cells(words)
     add_lock(words)
     shared = words.add_argument_group("files of samples")
     lasts = f"seconds of a part (default {PART:.0f})"
@@ -211,13 +233,21 @@ def check_handset(words: argparse.ArgumentParser, options: argparse.Namespace) -
         words.error("--offset needs --esn and --row")
     if fault := channels_fault(options):
         words.error(fault)
+    if len(set(shifts_of(options))) != len(shifts_of(options)):
+        words.error("--shift: a carrier is given twice")
     if options.row in (SYNC_ROW, paging_number(options)):
         words.error(f"--row {options.row} is the row of the sync channel or of the paging channel")
 
 
 def has_channels(options: argparse.Namespace) -> bool:
-    """Whether channels are listened to by their names: several of them, or one into a folder."""
-    return is_several(options) or options.out_dir is not None
+    """Whether channels are listened to by their names: several of them, of cells or carriers, or one into a folder."""
+    has_cells = options.cells is not None or options.pn is not None
+    return is_several(options) or has_cells or len(shifts_of(options)) > 1 or options.out_dir is not None
+
+
+def shifts_of(options: argparse.Namespace) -> list[float]:
+    """Returns the places around which carriers are searched, in Hz above the middle."""
+    return options.shift or [0.0]
 
 
 def paging_number(options: argparse.Namespace) -> int:
@@ -257,7 +287,7 @@ def lock_options(options: argparse.Namespace, kind: str, rate: Fraction, is_live
     if rate < CHIP_RATE:
         raise Refused(f"{float(rate):.0f} samples a second are fewer than the chip rate, {CHIP_RATE}")
     return LockOptions(
-        kind, float(rate), options.fingers, options.shift, options.search, policy_of(options).conjugate,
+        kind, float(rate), options.fingers, shifts_of(options)[0], options.search, policy_of(options).conjugate,
         options.equaliser, is_live,
     )  # fmt: skip
 
@@ -344,54 +374,49 @@ def listen(options: argparse.Namespace) -> int:
     is_heard = hear_channels(options) if has_channels(options) else hear_one(options)
     if not is_heard:
         policy = policy_of(options)
-        raise Refused(f"no pilot stands out anywhere {policy.searched(options.shift)}{policy.advice}")
+        raise Refused(f"no pilot stands out anywhere {policy.searched(shifts_of(options)[0])}{policy.advice}")
     return 0
 
 
+def places_of(options: argparse.Namespace) -> list[Place]:
+    """Returns the places of a stream that the options name."""
+    return places_on(shifts_of(options))
+
+
 def channels_wanted(options: argparse.Namespace) -> list[Wanted]:
-    """Returns the channels that the options name."""
+    """Returns the channels that the options name, without a name if there is only one handset."""
     base = handset_of(options)
+    if not has_channels(options):
+        return [Wanted(base)]
     if options.esn is not None:
         return [Wanted(replace(base, name=Traffic(options.esn, options.row, options.offset or 0).name))]
     return wanted_channels(base, options.paging, traffic_channels(options))
 
 
+def cells_wanted(options: argparse.Namespace) -> CellsWanted | None:
+    """Returns the cells that the options name, None if it is the strongest one of all."""
+    if options.cells is None and options.pn is None:
+        return None
+    return CellsWanted(options.cells, options.pn, find_program(options.program))
+
+
 def hear_channels(options: argparse.Namespace) -> bool:
     """Listens to the channels that the options name, and returns whether a pilot was found."""
-    wanted, source = channels_wanted(options), source_of(options)
+    wanted, cells, source = channels_wanted(options), cells_wanted(options), source_of(options)
+    is_recording = isinstance(source, Recording)
+    if cells is not None and not is_recording:
+        raise WrongArguments("--cells and --pn go with a file of samples")
+
+    def check(output: Output, path: str) -> None:
+        check_output(options, is_recording, output, path)
+
     with ChannelOutputs(options.out_dir, options.json) as outputs:
+        writers = Writers(outputs, counts_of(options), is_recording, check)
         if isinstance(source, Recording):
-            handsets = sent_channels(source, wanted)
-            channels = [Channel(one, channel_writer(options, outputs, Wanted(one), True)) for one in handsets]
-            return hear_recording(source, channels, options.part, options.workers, options.scheduler)
-        return hear_live_channels(options, source, wanted, outputs)
-
-
-def hear_live_channels(
-    options: argparse.Namespace, stream: Stream, wanted: Sequence[Wanted], outputs: ChannelOutputs
-) -> bool:
-    """Listens to channels of a stream, and returns whether a pilot was found."""
-    writers = [channel_writer(options, outputs, one, False) for one in wanted]
-    others = [
-        Trial(writer).followed(one.handset) if one.is_tried else Followed(one.handset, writer)
-        for one, writer in zip(wanted[1:], writers[1:])
-    ]
-    lock = lock_options(options, stream.kind, stream.rate, is_live=True)
-    live = LiveListening(lock, wanted[0].handset, writers[0], writers[0].is_appended, others, writers[1:])
-    return heard_all(live, stream, outputs)
-
-
-def channel_writer(
-    options: argparse.Namespace, outputs: ChannelOutputs, wanted: Wanted, is_recording: bool
-) -> LineWriter:
-    """Returns what writes the lines of a channel; refuses a file with lines that can't be gone on with."""
-    name = wanted.handset.name
-    output = outputs.of(f"cell1-{name}", wanted.is_tried)
-    check_output(options, is_recording, output, outputs.path(f"cell1-{name}"))
-    writer = LineWriter(output.write, options.json, counts_of(options), output.already if is_recording else None)
-    writer.is_appended = output.already.lines > 0
-    writer.place = {"cell": 1, "carrier": options.shift, "channel": name}
-    return writer
+            sharing = Sharing(options.part, options.workers, options.scheduler)
+            return hear_file(source, shifts_of(options), cells, wanted, writers, sharing)
+        lock = lock_options(options, source.kind, source.rate, is_live=True)
+        return hear_live(source, lock, places_of(options), wanted, writers)
 
 
 def hear_one(options: argparse.Namespace) -> bool:

@@ -9,12 +9,18 @@ pilot, the code domain, the symbols of the pilot, sync and paging channels, figu
 station, and each message and frame. A click on a line shows its fields. It can be paused, and saves the lines so far, a
 report of them, and the last 27 seconds as a sample file. It needs no network, and several browsers may show it.
 
+Several channels are followed at once with --paging 1,2 or all, --traffic and --traffic-file, and several carriers of a
+wide recording with --shift, repeated. The table of lines then has the cell and the channel of each, and can be filtered
+by them. The other panels show the strongest cell of the first carrier. What all channels of a cell have, as its sync
+messages, is shown once.
+
 `listen` runs in its own process, and doesn't wait for a browser: a page gets at most ten updates a second, and
 says how many lines and spectra it missed if it is too slow.
 
     tools/view radio.sigmf-meta
     tools/view --rate 2.4M --channel 283 --band 800 rtl_tcp://radio:1234
     rtl_sdr -f 878490000 -s 2400000 - | tools/view --type cu8 --rate 2400000 -
+    tools/view radio.sigmf-meta --paging all --traffic 00c0ffee:12:2 --traffic 00c0fff0:13:0
     tools/view call.jsonl --no-browser --port 8080
 
 The server is bound to 127.0.0.1. With --listen ADDRESS others can reach it too, but only by the whole printed address:
@@ -34,6 +40,7 @@ from functools import partial
 
 from cdma_tools.arguments import Parser, number_within, whole_within
 from cdma_tools.commands import listen
+from cdma_tools.listening.channel_options import add_channel_options
 from cdma_tools.program import find_program
 from cdma_tools.sources.options import add_radio_options
 from cdma_tools.view.chip_store import ChipStore
@@ -63,7 +70,8 @@ def parser() -> Parser:
     pages.add_argument("--speed", type=number_within(*SPEEDS), default=1.0, metavar="N", help=paced)
     add_radio_options(words)
     listen.add_handset(words)
-    words.set_defaults(traffic=None, traffic_file=None)
+    add_channel_options(words)
+    words.set_defaults(out_dir=None, cells=None, pn=None)
     listen.add_lock(words)
     return words
 
@@ -73,8 +81,8 @@ def check(words: argparse.ArgumentParser, options: argparse.Namespace) -> None:
     if shows_lines(options):
         return
     listen.check_source(words, options)
-    if options.paging is not None and len(options.paging) != 1:
-        words.error("--paging names one channel here")
+    if options.raw and listen.has_channels(options):
+        words.error("--raw goes with one channel")
     listen.check_handset(words, options)
     find_program(options.program)
     listen.check_there(options)

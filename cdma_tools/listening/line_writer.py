@@ -78,6 +78,7 @@ class LineWriter:
         self.origin = 0
         self.began = ""  # the time from which lines count, if a line must give it
         self.is_appended = False  # whether lines of another stream come before
+        self.title = ""  # of remarks, if several cells or carriers are listened to
         self.place: dict[str, Any] = {}  # cell, carrier and channel, which each object has if several are followed
         self.written = 0  # lines
         self.time: SystemTime | None = None
@@ -132,4 +133,4 @@ class LineWriter:
         """Says a remark on standard error, and notes a loss."""
         if self.notes is not None and remark.lost_chips:
             self.notes.take_loss(remark.seconds, remark.lost_chips)
-        said(called("listen"), f"at {remark.seconds:.4f} s: {remark.text}")
+        said(called("listen"), f"at {remark.seconds:.4f} s: {self.title}{remark.text}")

@@ -105,11 +105,7 @@ def hear_stream(
     stream: Stream, lock: LockOptions, handset: Handset, writer: LineWriter, output: Reopened, is_appended: bool = False
 ) -> bool:
     """Listens to a stream up to its end, or to an interrupt; returns whether a pilot was found."""
-    return heard_all(LiveListening(lock, handset, writer, is_appended), stream, output)
-
-
-def heard_all(live: LiveListening, stream: Stream, output: Reopened) -> bool:
-    """Listens to a stream up to its end, or to an interrupt; returns whether a pilot was found."""
+    live = LiveListening(lock, handset, writer, is_appended)
     live.hear(stream, output)
     if live.is_stopped or live.lost:
         said(called("listen"), live.summary())

@@ -10,10 +10,10 @@ import tempfile
 from collections import Counter, deque
 from collections.abc import Iterator
 from dataclasses import dataclass, field
-from typing import Any, Generic, TypeVar
+from typing import Any, Generic, NamedTuple, TypeVar
 
 from cdma_tools.heard_run import CHIP_RATE
-from cdma_tools.lines import BY_WORDS, ORIGIN, TIME_NAME, Field, Group, NoLine, Shape, spell_line
+from cdma_tools.lines import BY_WORDS, ORIGIN, PLACE_NAMES, TIME_NAME, Field, Group, NoLine, Shape, spell_line
 from cdma_tools.listening.events import Event
 from cdma_tools.report.heard_lines import Thinned
 from cdma_tools.report.meaning import MEANINGS, rows_of
@@ -26,6 +26,7 @@ MOST_SYNCS = 400
 IDENTITY = {("sync", None): "Sync message", ("paging", "system"): "System Parameters"}
 # Figures that are shown over time.
 FIGURES = ("ec_io_db", "carrier_hz", "clock_ppm", "rho")
+FRAMES = ("frame", "frame2")
 
 Thing = TypeVar("Thing")
 
@@ -59,20 +60,44 @@ class Numbered(Generic[Thing]):
             yield place, self.kept[place - self.first]
 
 
+class Place(NamedTuple):
+    """The cell, the carrier in Hz above the middle and the channel of a line, if several are listened to."""
+
+    cell: Any
+    carrier: Any
+    channel: str
+
+    @classmethod
+    def taken_from(cls, read: dict[str, Any]) -> "Place | None":
+        """Returns the place in an object, which loses it; None if it has none."""
+        if not all(name in read for name in PLACE_NAMES) or read["line"] == "raw":
+            return None
+        cell, carrier, channel = (read.pop(name) for name in PLACE_NAMES)
+        return cls(cell, carrier, str(channel))
+
+    @property
+    def cell_text(self) -> str:
+        """Returns the cell, and the carrier unless that is the first one around the middle."""
+        return f"{self.cell} at {self.carrier} Hz" if self.carrier else str(self.cell)
+
+
 @dataclass(frozen=True)
 class KeptLine:
-    """A line: its kind in words, the second at which it was known, its text, its time in UTC, and its object."""
+    """A line: its kind in words, the second at which it was known, its text, its time in UTC, its object, its place."""
 
     kind: str
     seconds: float
     text: str
     utc: str
     read: dict[str, Any] = field(repr=False)
+    place: Place | None = None
 
     def shown(self, number: int) -> dict[str, Any]:
         """Returns what a table shows of it."""
         told = {"n": number, "kind": self.kind, "seconds": round(self.seconds, 4), "text": self.text, "utc": self.utc}
-        if self.kind == "frame":
+        if self.place is not None:
+            told |= {"cell": self.place.cell_text, "channel": self.place.channel}
+        if self.kind in FRAMES:
             told |= {"rate": self.read["rate"], "good": self.read["good"]}
         return told
 
@@ -136,7 +161,8 @@ class Kept:
         self.pilot: int | None = None  # PILOT_PN of the last sync message
         self.has_pages = False
         self.syncs: deque[Event] = deque(maxlen=MOST_SYNCS)  # by chips from the recording's start
-        self.row: int | None = None  # of the traffic channel, by the last pilot sets
+        self.main: tuple[Any, Any] | None = None  # the cell and the carrier that the panels show, if there are others
+        self.rows: dict[str, int | None] = {}  # of traffic channels by their names, by the last pilot sets
 
     def take(self, data: bytes) -> None:
         """Takes a message of the listening: a line, or another one."""
@@ -165,18 +191,28 @@ class Kept:
         at = self.base + read.get("at", 0)
         self.end = max(self.end, at)
         kind = " ".join([read["line"], *([read["message"]] if "message" in read else [])])
-        self.counts[kind if kind != "frame" else f"frame {read['rate']}{'' if read['good'] else ' bad'}"] += 1
-        self.lines.add(KeptLine(kind, at / CHIP_RATE, text, read.pop(TIME_NAME, ""), read))
-        self.learn(read, text)
+        self.counts[kind if kind not in FRAMES else f"{kind} {read['rate']}{'' if read['good'] else ' bad'}"] += 1
+        place = Place.taken_from(read)
+        self.lines.add(KeptLine(kind, at / CHIP_RATE, text, read.pop(TIME_NAME, ""), read, place))
+        if self.is_main(place):
+            self.learn(read, text, "" if place is None else place.channel)
 
-    def learn(self, read: dict[str, Any], text: str) -> None:
+    def is_main(self, place: Place | None) -> bool:
+        """Whether a line is one of the cell that the panels show: the first that has any."""
+        if place is None:
+            return True
+        self.main = self.main or (place.cell, place.carrier)
+        return self.main == (place.cell, place.carrier)
+
+    def learn(self, read: dict[str, Any], text: str, channel: str) -> None:
         """Notes what a line says about the base station, of its time, and of the traffic channel's row."""
         words = read["line"], read.get("message")
         if words[0] == "sync":
             self.pilot = read["pn"]
             self.syncs.append(Event(read["at"], text))
         if words[0] == "sets":
-            self.row = next((row for pn, row, _ in read["active"] if pn == self.pilot), self.row)
+            rows = (row for pn, row, _ in read["active"] if pn == self.pilot)
+            self.rows[channel] = next(rows, self.rows.get(channel))
         self.has_pages = self.has_pages or words[0] == "paging"
         if name := IDENTITY.get(words):
             self.identity[name] = [list(row) for row in rows_of(BY_WORDS[words], read)]

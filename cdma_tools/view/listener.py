@@ -7,6 +7,7 @@ import signal
 import sys
 import time
 from collections.abc import Iterator
+from dataclasses import replace
 
 from cdma_tools.commands import listen
 from cdma_tools.errors import Refused, printable, text_of
@@ -14,6 +15,7 @@ from cdma_tools.frequencies import frequency_given
 from cdma_tools.interrupts import INTERRUPTS
 from cdma_tools.json_lines import LONGEST, as_json, as_line
 from cdma_tools.lines import NoLine
+from cdma_tools.listening.everything import CarrierListening, live_listening
 from cdma_tools.listening.line_writer import Already
 from cdma_tools.listening.parts import Recording
 from cdma_tools.radio.search_policy import policy_of
@@ -24,7 +26,7 @@ from cdma_tools.starting import INTERRUPTED, break_off
 from cdma_tools.view.chip_store import ChipKeeper, ChipStore
 from cdma_tools.view.outbox import Outbox
 from cdma_tools.view.paced import PacedRecording
-from cdma_tools.view.watched import PageWriter, WatchedStream
+from cdma_tools.view.watched import PageWriters, WatchedStream
 
 FAILED = 1
 
@@ -84,8 +86,7 @@ def middle_of(options: argparse.Namespace) -> float | None:
 
 def tell_listening(options: argparse.Namespace, outbox: Outbox, store: ChipStore) -> str:
     """Listens, and returns how it ended in words; refuses a source in which no pilot was found."""
-    source = listen.source_of(options)
-    handset, counts = listen.handset_of(options), listen.counts_of(options)
+    wanted, source = listen.channels_wanted(options), listen.source_of(options)
     is_live = not isinstance(source, Recording)
     stream: Stream
     if isinstance(source, Recording):
@@ -93,13 +94,16 @@ def tell_listening(options: argparse.Namespace, outbox: Outbox, store: ChipStore
     else:
         lock, stream = listen.lock_options(options, source.kind, source.rate, is_live=is_live), source
     outbox.may_wait = not is_live
-    writer = PageWriter(outbox, counts)
     outbox.tell("source", rate=float(stream.rate), type=stream.kind, frequency=middle_of(options))
-    watched = WatchedStream(lock, handset, writer, outbox, ChipKeeper(store))
-    watched.hear(stream, NoOutput())
-    if not watched.listening.is_heard:
+    writers = PageWriters(outbox, listen.counts_of(options))
+    first, *others = listen.places_of(options)
+    watched = WatchedStream(lock, first, wanted, outbox, ChipKeeper(store), writers)
+    lives = [live_listening(replace(lock, shift=place.carrier), place, wanted, writers) for place in others]
+    everything: CarrierListening | WatchedStream = CarrierListening([watched, *lives]) if lives else watched
+    everything.hear(stream, NoOutput())
+    if not any(live.listening.is_heard for live in (watched, *lives)):
         policy = policy_of(options)
-        raise Refused(f"no pilot stands out anywhere {policy.searched(options.shift)}{policy.advice}")
+        raise Refused(f"no pilot stands out anywhere {policy.searched(listen.shifts_of(options)[0])}{policy.advice}")
     return watched.summary()
 
 

@@ -31,7 +31,7 @@ from cdma_tools.view.kept import Kept, KeptLine, field_rows
 from cdma_tools.view.listener import ListenerProcess
 from cdma_tools.view.outbox import message_of
 from cdma_tools.view.safety import Door
-from cdma_tools.view.steps import WHY_NONE, FrameAsked, Handset, MarkTold, steps_text
+from cdma_tools.view.steps import WHY_NONE, FrameAsked, Handset, MarkTold, of_channel, steps_text
 from cdma_tools.view.waveform import WHOLE, Measured, Wanted, measured
 
 HERE = os.path.dirname(os.path.abspath(__file__))
@@ -117,12 +117,14 @@ class Hub:
         """Returns the steps of the frame in which a line ends, or why there are none."""
         origin = self.kept.figures.get("origin", 0)
         asked = FrameAsked.of(line.read, line.read.get("at", 0) + origin)
-        if asked is None or not self.extent.end:
+        if asked is None or not self.extent.end or not self.kept.is_main(line.place):
             return WHY_NONE
         told = [MarkTold.of(Event(sync.chip + origin, sync.line)) for sync in self.kept.syncs]
         marks = [mark for mark in told if mark is not None]
         loop = asyncio.get_running_loop()
-        words = self.store, self.extent, asked, marks, self.handset, self.kept.row or self.row
+        channel = "" if line.place is None else line.place.channel
+        handset, row = of_channel(self.handset, self.row, channel)
+        words = self.store, self.extent, asked, marks, handset, self.kept.rows.get(channel) or row
         return await loop.run_in_executor(self.explainer, steps_text, *words)
 
     def measure_chips(self, extent: Extent, wanted: Wanted) -> Measured | None:

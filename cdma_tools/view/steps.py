@@ -4,7 +4,7 @@ The search and the mark of a handset are not made again: the chips' numbers give
 sync message gives the system time and the state of the long code.
 """
 
-from dataclasses import dataclass
+from dataclasses import dataclass, replace
 from typing import Any
 
 import numpy
@@ -14,6 +14,7 @@ from cdma_model.handset import Assigned, Mark
 from cdma_model.search import Found
 from cdma_tools.explaining.frame_steps import NoFrame, Steps, paging_steps, sync_steps, traffic_steps
 from cdma_tools.explaining.frame_text import text_of
+from cdma_tools.listening.channel_options import traffic_of
 from cdma_tools.listening.events import Event
 from cdma_tools.listening.notes import FRAME
 from cdma_tools.listening.system_time import SUPERFRAME, fields_of, time_told
@@ -36,6 +37,18 @@ class Handset:
     esn: str | None
     offset: int
     flags: int  # of sample files: whether checks of messages are sent complemented
+    rate_set: int = 1  # of the traffic channel
+
+
+def of_channel(handset: Handset, row: int | None, channel: str) -> tuple[Handset, int | None]:
+    """Returns the handset that listened to a channel of a name, and the row of its traffic channel; without a name
+    they are as they are."""
+    kind, _, rest = channel.partition(":")
+    if kind == "traffic":
+        traffic = traffic_of(rest)
+        given = replace(handset, esn=traffic.esn, offset=traffic.offset, rate_set=traffic.rate_set)
+        return given, traffic.row
+    return (replace(handset, paging=int(kind.removeprefix("paging"))), row) if kind else (handset, row)
 
 
 @dataclass(frozen=True)
@@ -70,7 +83,7 @@ class FrameAsked:
 
         Frames of the sync and paging channels are known when the next one has come.
         """
-        lengths = {"sync": 2 * PERIOD, "paging": 2 * FRAME, "frame": FRAME, "traffic": FRAME}
+        lengths = {"sync": 2 * PERIOD, "paging": 2 * FRAME, "frame": FRAME, "frame2": FRAME, "traffic": FRAME}
         return cls(read["line"], chip - lengths[read["line"]]) if read["line"] in lengths else None
 
 
@@ -130,7 +143,7 @@ def steps_of(
     if handset.esn is None or row is None:
         return None
     assigned = Assigned(int(handset.esn, 16), row, handset.offset)
-    return traffic_steps(capture, found, own, assigned, nearest(since - GROUP * handset.offset, FRAME), rate_set=1)
+    return traffic_steps(capture, found, own, assigned, nearest(since - GROUP * handset.offset, FRAME), handset.rate_set)
 
 
 def nearest(chips: int, length: int) -> int:

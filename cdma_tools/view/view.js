@@ -5,9 +5,10 @@
 const MOST_LINES = 2000, MOST_ROWS = 200, MOST_SPECTRA = 100, MOST_POINTS = 1200;
 const DRAW_EVERY = 250, RETRY_AFTER = 2000;  // milliseconds
 const TIME_SHOWN = 30;  // seconds of the time line
+const MOST_CHANNELS = 500;
 const LOWEST = -45;  // dB, of a row of the code domain
 const HALF_CHANNEL = 614.4;  // kHz
-const WITH_STEPS = ["sync", "paging", "frame", "traffic"];  // lines that end in a frame
+const WITH_STEPS = ["sync", "paging", "frame", "frame2", "traffic"];  // lines that end in a frame
 const COLORS = { "pilot": "#1f6fb2", "sync": "#d9822b", "paging": "#2a8c4a", "other": "#6b7a89", "not in use": "#d5dae0" };
 const LANES = ["frame", "traffic", "paging", "sync", "sets"];
 const FIGURES = [["Ec/Io, dB", "ec_io_db"], ["Carrier, Hz", "carrier_hz"], ["Clock, ppm", "clock_ppm"], ["rho", "rho"]];
@@ -18,7 +19,7 @@ const place = (name) => document.getElementById(name);
 let held, socket, isPaused = false, dirty = new Set();
 
 function emptied() {
-  return { run: "", source: {}, lines: [], kinds: new Set(), spectra: [], points: [], figures: {}, quality: {}, ended: null,
+  return { run: "", source: {}, lines: [], kinds: new Set(), channels: new Set(), spectra: [], points: [], figures: {}, quality: {}, ended: null,
            serial: 0, drawn: 0 };
 }
 
@@ -50,6 +51,9 @@ function take(told) {
     place("name").textContent = told.hello.name;
     document.title = told.hello.name;
     place("kind").replaceChildren(new Option("all types", ""));
+    place("channel").replaceChildren(new Option("all channels", ""));
+    place("channel").hidden = true;
+    place("lines").className = "";
     for (const name of ["lines", "cells", "station"]) fill(place(name), []);
     dirty = new Set(["lines", "history", "spectrum", "waterfall", "timeline"]);
   }
@@ -84,13 +88,26 @@ function take(told) {
 
 function addLine(line) {
   held.serial += 1;
-  held.lines.push({ ...line, serial: held.serial });
+  held.lines.push({ ...line, serial: held.serial, where: line.channel === undefined ? "" : `cell ${line.cell}, ${line.channel}` });
   if (held.lines.length > MOST_LINES) held.lines.splice(0, held.lines.length - MOST_LINES);
   if (!held.kinds.has(line.kind)) {
     held.kinds.add(line.kind);
     place("kind").append(new Option(line.kind, line.kind));
   }
+  addChannel(held.lines[held.lines.length - 1].where);
   mark("lines", "timeline");
+}
+
+// Shows the columns and the choice of channels once a line has one; several thousand of them would be no choice.
+function addChannel(where) {
+  if (!where || held.channels.has(where) || held.channels.size >= MOST_CHANNELS) return;
+  held.channels.add(where);
+  place("channel").append(new Option(where, where));
+  if (held.channels.size > 1) return;
+  place("channel").hidden = false;
+  place("lines").className = "several";
+  fill(place("lines"), []);
+  held.drawn = 0;
 }
 
 function mark(...names) {
@@ -204,8 +221,8 @@ draw.history = () => {
 
 draw.timeline = () => {
   const end = Math.max(held.figures.seconds || 0, ...held.lines.slice(-MOST_ROWS).map((line) => line.seconds)), begin = Math.max(0, end - TIME_SHOWN);
-  const shown = held.lines.filter((line) => line.n >= 0 && line.seconds >= begin && LANES.includes(line.kind.split(" ")[0]));
-  const lane = (line) => LANES.indexOf(line.kind.split(" ")[0]);
+  const lane = (line) => LANES.indexOf(line.kind.split(" ")[0].replace("frame2", "frame"));
+  const shown = held.lines.filter((line) => line.n >= 0 && line.seconds >= begin && lane(line) >= 0);
   const color = (line) => (line.good === 0 ? "#c0392b" : ["#6b7a89", "#0f7f86", "#2a8c4a", "#d9822b", "#6a4fb3"][lane(line)]);
   plot("timeline", [{ type: "scatter", mode: "markers", x: shown.map((line) => line.seconds), y: shown.map(lane), customdata: shown.map((line) => line.n),
                       marker: { size: 7, symbol: "line-ns-open", color: shown.map(color) }, hovertemplate: "%{x:.3f} s<extra></extra>" }],
@@ -216,12 +233,15 @@ draw.timeline = () => {
 // Tables
 
 function isShown(line) {
-  const kind = place("kind").value, words = place("text").value.toLowerCase().split(/\s+/).filter((word) => word);
-  return (!kind || line.kind === kind) && words.every((word) => `${line.kind} ${line.text}`.toLowerCase().includes(word));
+  const kind = place("kind").value, channel = place("channel").value;
+  const words = place("text").value.toLowerCase().split(/\s+/).filter((word) => word);
+  const text = `${line.kind} ${line.where} ${line.text}`.toLowerCase();
+  return (!kind || line.kind === kind) && (!channel || line.where === channel) && words.every((word) => text.includes(word));
 }
 
 function lineRow(line) {
-  const made = row([line.seconds.toFixed(3), line.kind, line.text]);
+  const where = held.channels.size ? [line.cell === undefined ? "" : line.cell, line.channel || ""] : [];
+  const made = row([line.seconds.toFixed(3), line.kind, ...where, line.text]);
   made.className = line.kind === "remark" ? "remark" : line.good === 0 ? "bad" : "";
   made.title = line.utc || "";
   if (line.n >= 0) made.dataset.line = line.n;
@@ -312,6 +332,7 @@ place("pause").addEventListener("click", () => {
 });
 place("filter").addEventListener("submit", (event) => event.preventDefault());
 place("kind").addEventListener("change", () => held && drawLinesAnew());
+place("channel").addEventListener("change", () => held && drawLinesAnew());
 place("text").addEventListener("input", () => held && drawLinesAnew());
 place("lines").addEventListener("click", (event) => {
   const chosen = event.target.closest("tr[data-line]");

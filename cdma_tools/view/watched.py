@@ -2,17 +2,21 @@
 
 import threading
 import time
-from collections.abc import Callable, Iterable
+from collections.abc import Callable, Iterable, Sequence
 from typing import Any
 
 from cdma_tools.errors import said
-from cdma_tools.listening.events import Remark
+from cdma_tools.listening.channels import Wanted
+from cdma_tools.listening.events import Event, Remark
+from cdma_tools.listening.everything import Place, followed_channels
 from cdma_tools.listening.follow_run import Handset
 from cdma_tools.listening.line_writer import LineWriter
 from cdma_tools.listening.listening import Listening
 from cdma_tools.listening.live import LiveListening
 from cdma_tools.listening.pieces import Break, Chips, Lost, Piece
+from cdma_tools.listening.relays import Followed
 from cdma_tools.listening.stream_lock import LockOptions, State, StreamLock
+from cdma_tools.listening.system_time import time_told
 from cdma_tools.radio.air import CHIP_RATE
 from cdma_tools.radio.strength import emptied
 from cdma_tools.recordings import TYPES
@@ -24,6 +28,8 @@ from cdma_tools.view.spectrum_rows import SpectrumRows
 
 # Seconds from one spectrum to the next, and from one report of figures to the next.
 SPECTRUM_EVERY, FIGURES_EVERY = 0.1, 0.25
+# The lines that only a listening to a channel has.
+PAGING_LINES, TRAFFIC_LINES = ("paging",), ("frame", "frame2", "traffic", "sets")
 # What a lock is doing, in words.
 STATES = {
     State.SEARCHING: "searching a pilot",
@@ -54,23 +60,59 @@ class Every:
 class PageWriter(LineWriter):
     """Writes lines to the page, and remarks to the page and to standard error."""
 
-    def __init__(self, outbox: Outbox, most: dict[str, int]) -> None:
-        """No line has come yet; for each option of TAPS at most its limit is passed on."""
+    def __init__(self, outbox: Outbox, most: dict[str, int], kinds: Sequence[str] = ()) -> None:
+        """No line has come yet; for each option of TAPS at most its limit is passed on, and only lines of `kinds`, if
+        there are some."""
         super().__init__(outbox.line, True, most)
-        self.outbox = outbox
+        self.outbox, self.kinds = outbox, kinds
+
+    def event(self, event: Event) -> None:
+        """Passes a line on, unless another channel of the cell has it too."""
+        if not self.kinds or event.kind in self.kinds:
+            super().event(event)
+        elif time := time_told(event):
+            self.time = time
 
     def remark(self, remark: Remark) -> None:
         """Passes a remark on."""
-        self.outbox.tell("remark", seconds=round(remark.seconds, 4), text=remark.text)
-        said(called("view"), f"at {remark.seconds:.4f} s: {remark.text}")
+        text = self.title + remark.text
+        self.outbox.tell("remark", seconds=round(remark.seconds, 4), text=text)
+        said(called("view"), f"at {remark.seconds:.4f} s: {text}")
+
+
+class PageWriters:
+    """Makes the writers of channels: the first of a cell passes on all lines, each other one only those of its channel.
+    """
+
+    def __init__(self, outbox: Outbox, most: dict[str, int]) -> None:
+        """No channel is known yet; see `PageWriter`."""
+        self.outbox, self.most = outbox, most
+        self.places = set[Place]()
+
+    def of(self, place: Place, wanted: Wanted) -> LineWriter:
+        """Returns what writes the lines of a channel."""
+        own = TRAFFIC_LINES if wanted.handset.esn is not None else PAGING_LINES
+        writer = PageWriter(self.outbox, self.most, own if place in self.places else ())
+        self.places.add(place)
+        writer.title = place.title
+        if wanted.handset.name:
+            writer.place = place.names(wanted.handset.name)
+        return writer
 
 
 class WatchedListening(Listening):
     """A listening that keeps its last chips, and counts those that were lost."""
 
-    def __init__(self, lock: LockOptions, handset: Handset, writer: PageWriter, keeper: ChipKeeper) -> None:
+    def __init__(
+        self,
+        lock: LockOptions,
+        handset: Handset,
+        writer: LineWriter,
+        keeper: ChipKeeper,
+        others: Sequence[Followed],
+    ) -> None:
         """Nothing has come yet."""
-        super().__init__(lock, handset, writer)
+        super().__init__(lock, handset, writer, others=others)
         self.keeper = keeper
         self.lost_chips = 0
 
@@ -89,11 +131,13 @@ class WatchedStream(LiveListening):
     """Listening to a stream that reports to the page what arrives."""
 
     def __init__(
-        self, lock: LockOptions, handset: Handset, writer: PageWriter, outbox: Outbox, keeper: ChipKeeper
+        self, lock: LockOptions, place: Place, wanted: Sequence[Wanted], outbox: Outbox, keeper: ChipKeeper, made: PageWriters
     ) -> None:
-        """Nothing has come yet."""
-        super().__init__(lock, handset, writer, is_appended=False)
-        self.watched = self.listening = WatchedListening(lock, handset, writer, keeper)
+        """Nothing has come yet of the channels of a place."""
+        followed, writers = followed_channels(place, wanted, made)
+        handset = wanted[0].handset
+        super().__init__(lock, handset, writers[0], False, followed[1:], writers[1:])
+        self.watched = self.listening = WatchedListening(lock, handset, writers[0], keeper, followed[1:])
         self.outbox, self.keeper = outbox, keeper
         self.size = TYPES[lock.kind].size
         self.spectra = SpectrumRows(lock.kind)

@@ -16,7 +16,7 @@ from typing import Any, ClassVar
 from tools.tests.helping import (
     HEADER, NO_PROGRAM, PROGRAM, PYTHON, ROOT, made_once, needs, run_inside, temporary_folder,
 )  # fmt: skip
-from tools.tests.listening_cell import FRAME_BITS, PN, drawn, script_of, text_of, traffic_frames
+from tools.tests.listening_cell import FRAME_BITS, PN, bits_of, drawn, script_of, text_of, traffic_frames
 
 needs("numpy", "scipy")
 
@@ -27,6 +27,7 @@ from cdma_tools.lines import read_line, spell_line
 from cdma_tools.listening.channel_options import Traffic, traffic_in, traffic_of
 from cdma_tools.listening.channels import TRIAL, ChannelOutputs, Trial, wanted_channels
 from cdma_tools.listening.events import Collected, Event
+from cdma_tools.listening.everything import CarrierListening, CarrierThread
 from cdma_tools.listening.follow_run import FollowRun, Handset, RunEnded
 from cdma_tools.listening.line_writer import LineWriter
 from cdma_tools.listening.parts import Recording
@@ -37,6 +38,7 @@ from cdma_tools.listening.sharing import Channel, hear_recording
 from cdma_tools.listening.stream_lock import LockOptions
 from cdma_tools.radio.air import CHIP_RATE, PERIOD
 from cdma_tools.recordings import sample_count
+from cdma_tools.sources.backlog import Backlog, Item, Skipped
 
 SECONDS, RATE = 7.0, 1_500_000
 TOOL = [PYTHON, "-B", os.path.join(ROOT, "tools", "listen")]
@@ -255,7 +257,8 @@ class Together(unittest.TestCase):
         run.stdin.write(data)
         run.stdin.flush()
         path, until = os.path.join(folder, file_of("paging2")), time.monotonic() + 300
-        while not (os.path.exists(path) and os.path.getsize(path) > 2_500) and time.monotonic() < until and run.poll() is None:
+        while not (os.path.exists(path) and os.path.getsize(path) > 2_500) and time.monotonic() < until:
+            self.assertIsNone(run.poll())
             time.sleep(0.05)
         run.send_signal(signal.SIGINT)
         said = run.stderr.read().decode()
@@ -269,6 +272,132 @@ class Together(unittest.TestCase):
             wrote = found[file_of(name)].splitlines()
             self.assertGreater(len(wrote), 20)
             self.assertEqual(wrote[:-3], lines.splitlines()[: len(wrote) - 3], name)
+
+
+WIDE_RATE, WIDE_SECONDS = 4_000_000, 2.6
+CARRIERS = {1_250_000: 300, -1_250_000: 100}  # the carriers of a wide recording, and PILOT_PN on each
+
+
+def cell_script(pn: int, seconds: float) -> str:
+    """Returns the script of a cell with a PILOT_PN."""
+    return script_of(pn, 1, 0, int(seconds * CHIP_RATE)).replace(f"pn={PN}", f"pn={pn}")
+
+
+def pages_of(script: str) -> set[str]:
+    """Returns the bits of the pages that a script sends, after their type."""
+    bodies = [bits_of(line.split()[2]) for line in script.splitlines() if line.startswith("page ")]
+    return {text_of(body[8:]) for body in bodies}
+
+
+@unittest.skipUnless(PROGRAM, NO_PROGRAM)
+class Elsewhere(unittest.TestCase):
+    """Several carriers of a wide recording, and several cells of one carrier."""
+
+    parted, seconds = True, 25
+    folder: ClassVar[str]
+
+    @classmethod
+    def setUpClass(cls) -> None:
+        cls.folder = temporary_folder(cls.addClassCleanup)
+        for pn in CARRIERS.values():
+            with open(os.path.join(cls.folder, f"{pn}.is95"), "wb") as file:
+                file.write(made(cell_script(pn, WIDE_SECONDS).encode("ascii")))
+
+    def at(self, name: str) -> str:
+        """Returns the path of a file."""
+        return os.path.join(self.folder, name)
+
+    def recorded(self, out: str, *words: str) -> str:
+        """Returns the path of a recording, written by tools/channel."""
+        channel = [PYTHON, "-B", os.path.join(ROOT, "tools", "channel"), "--ec-io", "-8", *words, self.at(out)]
+        subprocess.run(channel, check=True, capture_output=True, env=ENVIRONMENT)
+        return self.at(out)
+
+    def check_cell(self, lines: bytes, pn: int) -> None:
+        """Checks that lines are those of a cell: its sync messages, and only pages that it sends."""
+        reads = [read_line(line) for line in lines.decode().splitlines()]
+        pages = [one["bits"] for one in reads if one["line"] == "paging"]
+        self.assertGreater(len(pages), 4)
+        self.assertLessEqual(set(pages), pages_of(cell_script(pn, WIDE_SECONDS)))
+        self.assertEqual({one["pn"] for one in reads if one["line"] == "sync"}, {pn})
+
+    def wide(self) -> str:
+        """Returns the path of a recording with two carriers."""
+        rate = ["--type", "cf32", "--rate", str(WIDE_RATE)]
+        samples = [
+            numpy.fromfile(self.recorded(f"{pn}.cf32", *rate, "--carrier", str(hertz), self.at(f"{pn}.is95")), "<c8")
+            for hertz, pn in CARRIERS.items()
+        ]
+        count = min(map(len, samples))
+        both = sum(one[:count] / numpy.sqrt(numpy.mean(numpy.abs(one) ** 2)) for one in samples)
+        parts = numpy.asarray(both, dtype="<c8").view("<f4")
+        (parts * 25 + 127.5).clip(0, 255).astype(numpy.uint8).tofile(self.at("wide.cu8"))
+        return self.at("wide.cu8")
+
+    def test_carriers(self) -> None:
+        path, rate = self.wide(), ["--rate", WIDE_RATE]
+        shifts = [word for hertz in CARRIERS for word in ("--shift", hertz)]
+        alone = {}
+        for hertz, pn in CARRIERS.items():
+            status, alone[hertz], said = listen(path, *rate, "--shift", hertz)
+            self.assertEqual((status, said), (0, ""))
+            self.check_cell(alone[hertz], pn)
+        folder = self.at("carriers")
+        status, wrote, said = listen(path, *rate, *shifts, "--shift", 0, "--out-dir", folder)
+        self.assertEqual((status, wrote), (0, b""))
+        self.assertEqual(said.splitlines()[-1], "listen: carrier +0 Hz: no pilot stands out")
+        found = files_in(folder)
+        self.assertEqual(found.pop("carrier+0-cell1-paging1.txt"), b"")
+        self.assertEqual(found, {f"carrier{hertz:+}-cell1-paging1.txt": lines for hertz, lines in alone.items()})
+        with open(path, "rb") as file:
+            status, wrote, said = listen("-", *rate, *shifts, "--json", data=file.read())
+        self.assertEqual((status, said), (0, ""))
+        told: dict[int, list[str]] = defaultdict(list)
+        for line in wrote.decode().splitlines():
+            read = json.loads(line)
+            told[read["carrier"]].append(spell_line(read))
+        for hertz, lines in alone.items():
+            self.assertEqual(told[hertz], lines.decode().splitlines())
+
+    def test_cells(self) -> None:
+        words = [*STREAM, "--carrier", "1000", self.at("300.is95"), self.at("100.is95") + ":-3:40"]
+        path, folder = self.recorded("two.cu8", *words), self.at("cells")
+        status, wrote, said = listen(path, "--cells", 2, "--out-dir", folder)
+        self.assertEqual((status, wrote, said.count("\n")), (0, b"", 2), said)
+        found = files_in(folder)
+        self.assertEqual(set(found), {"cell1-paging1.txt", "cell2-paging1.txt"})
+        for number, pn in ((1, 300), (2, 100)):
+            self.check_cell(found[f"cell{number}-paging1.txt"], pn)
+
+
+class Threads(unittest.TestCase):
+    """What comes of a stream, handed to several carriers."""
+
+    seconds = 3
+
+    def test_each_gets_everything(self) -> None:
+        items: list[Item] = [b"x" * 1_000_000] * 90
+        took: list[list[Any]] = [[], []]
+        fault = Refused("it went away")
+        feeder = Backlog(1 << 30)
+        for item in [*items, Skipped(4, "lost"), fault]:
+            feeder.put(item)
+        lives = [unittest.mock.Mock(take_all=one.extend) for one in took]
+        with self.assertRaisesRegex(Refused, "it went away"):
+            CarrierListening(lives).share(feeder, [CarrierThread(live) for live in lives])
+        self.assertEqual(took, 2 * [[*items, Skipped(4, "lost")]])
+
+    def test_a_carrier_that_fails_ends_all(self) -> None:
+        def fail(backlog: Backlog) -> None:
+            next(iter(backlog))
+            raise Refused("the disk is full")
+
+        feeder = Backlog(1 << 30)
+        for _ in range(90):
+            feeder.put(b"x" * 1_000_000)
+        lives = [unittest.mock.Mock(take_all=fail), unittest.mock.Mock(take_all=list)]
+        with self.assertRaisesRegex(Refused, "the disk is full"):
+            CarrierListening(lives).share(feeder, [CarrierThread(live) for live in lives])
 
 
 class Words(unittest.TestCase):
@@ -303,6 +432,12 @@ class Words(unittest.TestCase):
         self.check("--raw has a channel of its own", "--paging", "1,2", "--raw", "1", "--json")
         self.check("is not a folder", "--out-dir", __file__)
         self.check("--append needs --out", "--append", "--paging", "all")
+        self.check("--shift: a carrier is given twice", "--shift", "5", "--shift", "5.0")
+        self.check("--out goes with one channel", "--cells", "2", "--out", "x.txt")
+        self.check("not allowed with argument", "--cells", "2", "--pn", "2")
+        for words in (("--cells", "2"), ("--pn", "9")):
+            status, _, said = run_inside("listen", *STREAM, "--program", "/bin/true", "-", *words)
+            self.assertEqual((status, said), (2, "listen: --cells and --pn go with a file of samples\n"))
 
     def test_a_file_of_channels(self) -> None:
         folder = temporary_folder(self.addCleanup)

@@ -14,10 +14,13 @@ import time
 import unittest
 import urllib.error
 import urllib.request
+from collections import Counter
 from collections.abc import Callable
 from typing import Any, ClassVar
 
-from tools.tests.helping import HEADER, PROGRAM, PYTHON, ROOT, example, is_gone, needs, run_inside, temporary_folder
+from tools.tests.helping import (
+    HEADER, NO_PROGRAM, PROGRAM, PYTHON, ROOT, example, is_gone, made_once, needs, run_inside, temporary_folder,
+)  # fmt: skip
 
 needs("numpy", "scipy", "tornado", "plotly")
 
@@ -36,10 +39,11 @@ from cdma_tools.view.feed import Feed  # noqa: E402
 from cdma_tools.view.kept import MOST_LINES, Kept, Numbered  # noqa: E402
 from cdma_tools.view.safety import Door  # noqa: E402
 from cdma_tools.view.spectrum_rows import SpectrumRows  # noqa: E402
-from cdma_tools.view.steps import WHY_NONE, FrameAsked, Handset, MarkTold, steps_text  # noqa: E402
+from cdma_tools.view.steps import WHY_NONE, FrameAsked, Handset, MarkTold, of_channel, steps_text  # noqa: E402
 from cdma_tools.view.waveform import WHOLE, Measured, Wanted, measured  # noqa: E402
 from tools.tests.radio_helping import code, whole_cell  # noqa: E402
 from tools.tests.report_fixture import FOLLOWED  # noqa: E402
+from tools.tests.test_listen_channels import STREAM, TRAFFIC, made_recording  # noqa: E402
 
 SECONDS = 120  # that a server may take to start on a busy machine
 TOOL = [PYTHON, "-B", os.path.join(ROOT, "tools", "view")]
@@ -211,6 +215,20 @@ class WhatIsKept(unittest.TestCase):
         self.assertEqual(list(things.since(0, 2)), [(7, 17), (8, 18)])
         self.assertEqual((things.at(6), things.at(9), things.at(10)), (None, 19, None))
 
+    def test_the_place_of_a_line(self) -> None:
+        """Lines have their cell and channel; only those of the first cell describe the base station."""
+        kept = Kept("x")
+        self.addCleanup(kept.file.file.close)
+        place = {"cell": 1, "carrier": 0, "channel": "paging1"}
+        first, other = FOLLOWED[1], FOLLOWED[1].replace("sid=4139", "sid=7")
+        for line, cell in ((first, 1), (other, 2)):
+            kept.take(json.dumps({**read_line(line), **place, "cell": cell}).encode())
+        told = [line.shown(number) for number, line in kept.lines.since(0, 9)]
+        found = [(one["cell"], one["channel"], one["text"]) for one in told]
+        self.assertEqual(found, [("1", "paging1", first), ("2", "paging1", other)])
+        self.assertEqual([row[1] for row in kept.identity["Sync message"] if row[0] == "SID"], ["4139"])
+        self.assertFalse(any(name in line.read for name in place for line in kept.lines.kept))
+
     def test_memory_is_bounded(self) -> None:
         """However many lines, spectra, remarks and figures come, a fixed number of each is kept."""
         kept = Kept("x")
@@ -315,6 +333,12 @@ class TheSteps(unittest.TestCase):
         found = re.search(r"from sample (\d+) on", title)
         assert found is not None
         return int(found[1]), steps
+
+    def test_the_handset_of_a_channel(self) -> None:
+        handset = Handset(1, None, 0, 2)
+        self.assertEqual(of_channel(handset, 9, ""), (handset, 9))
+        self.assertEqual(of_channel(handset, None, "paging3"), (Handset(3, None, 0, 2), None))
+        self.assertEqual(of_channel(handset, None, "traffic:00c0ffee:12:4:2"), (Handset(1, "00c0ffee", 4, 2, 2), 12))
 
     def test_pages(self) -> None:
         """A page's frame begins two frames before the chip at which it is known; some frames are tried."""
@@ -586,6 +610,30 @@ class TheServer(Server):
         many = self.keep("many.jsonl", FOLLOWED[0] + "\n" + (FOLLOWED[2] + "\n") * 30_000)
         _, url = self.start(many)
         self.assertLessEqual(self.watch(url, count), 3 * PAGE_MOST + 1)
+
+
+@unittest.skipUnless(PROGRAM, NO_PROGRAM)
+class Channels(Server):
+    """Several channels of a recording."""
+
+    parted, seconds = True, 8
+
+    def test_channels(self) -> None:
+        """The page gets each message once: what all channels have comes from the first one."""
+        path = made_once("channels.cu8", made_recording)
+        words = [*STREAM, "--program", str(PROGRAM), "--speed", "1000", "--paging", "all"]
+        process, url = self.start(path, *words, *(word for call in TRAFFIC for word in ("--traffic", call)))
+        told = self.watch(url, lambda connection: told_until(connection, "ended"))
+        self.assertEqual(told["ended"]["status"], 0)
+        saved = [json.loads(line) for line in self.fetched(url + "save/lines.jsonl")[0].splitlines()]
+        found = Counter((one["channel"], one["line"]) for one in saved)
+        names = [f"traffic:{call}" for call in TRAFFIC]
+        self.assertEqual({name for name, _ in found}, {"paging1", "paging2", *names})
+        self.assertEqual({name for name, kind in found if kind == "sync"}, {"paging1"})
+        self.assertEqual({name for name, kind in found if kind == "paging"}, {"paging1", "paging2"})
+        self.assertEqual({name for name, kind in found if kind == "frame"}, set(names))
+        self.assertTrue(all(found[name, "frame"] > 50 for name in names), found)
+        self.assertEqual(self.ended(process)[0], 0)
 
 
 class Streams(Server):

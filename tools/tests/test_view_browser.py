@@ -23,6 +23,7 @@ from selenium.webdriver.common.by import By  # noqa: E402
 from selenium.webdriver.support.select import Select  # noqa: E402
 from selenium.webdriver.support.wait import WebDriverWait  # noqa: E402
 
+from cdma_tools.lines import read_line  # noqa: E402
 from tools.tests.drawn_cells import DrawnCell, drawn_cell  # noqa: E402
 from tools.tests.radio_helping import figures, run_main  # noqa: E402
 from tools.tests.report_fixture import FOLLOWED  # noqa: E402
@@ -236,6 +237,34 @@ class Lines(Watched):
         self.wait_text("lines-note", "2 of the last 2")
         refused = [line for line in self.driver.get_log("browser") if "ERR_CONNECTION_REFUSED" not in line["message"]]
         self.assertEqual(refused, [])
+
+    def test_channels(self) -> None:
+        """Lines of several channels have columns for cell and channel, a choice of these, and are found by them."""
+        lines = [line for line in FOLLOWED if not line.startswith("raw")]
+        places = [(1, 0, "paging1"), (1, 0, "traffic:00c0ffee:12:2"), (2, 1_250_000, "paging1")]
+        objects = [
+            json.dumps({**read_line(line), "cell": cell, "carrier": carrier, "channel": channel})
+            for line, (cell, carrier, channel) in zip(lines, 99 * places)
+        ]
+        self.driver.get(self.start(self.keep("channels.jsonl", "\n".join(objects) + "\n"))[1])
+        self.wait_text("state", "lines were read")
+        self.until("return document.querySelectorAll('#lines tbody tr').length === arguments[0]", len(lines))
+        shown = self.rows("lines")[::-1]
+        found = [(cell, channel) for _, _, cell, channel, _ in shown]
+        wanted = [("1", "paging1"), ("1", "traffic:00c0ffee:12:2"), ("2 at 1250000 Hz", "paging1")]
+        self.assertEqual(found, (99 * wanted)[: len(lines)])
+        self.assertEqual([row[4] for row in shown], lines)
+        choice = Select(self.driver.find_element(By.ID, "channel"))
+        choice.select_by_visible_text("cell 1, traffic:00c0ffee:12:2")
+        self.assertEqual([row[4] for row in self.rows("lines")[::-1]], lines[1::3])
+        choice.select_by_visible_text("all channels")
+        self.driver.find_element(By.ID, "text").send_keys("1250000")
+        self.assertEqual([row[4] for row in self.rows("lines")[::-1]], lines[2::3])
+        self.driver.get(self.start(self.lines)[1])
+        self.wait_text("state", "lines were read")
+        self.assertFalse(self.driver.find_element(By.ID, "channel").is_displayed())
+        self.assertFalse(self.driver.find_element(By.CSS_SELECTOR, "#lines th.place").is_displayed())
+        self.quiet()
 
     def test_nothing_hostile_runs(self) -> None:
         """A file's name and a line that are markup are shown as text."""
