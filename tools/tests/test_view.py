@@ -463,11 +463,12 @@ class Server(unittest.TestCase):
         with urllib.request.urlopen(url, timeout=SECONDS) as answer:
             return answer.read(), answer.headers
 
-    def watch(self, url: str, act: Callable[[WebSocketClientConnection], Any]) -> Any:
-        """What something makes of a connection, as the page has it."""
+    def watch(self, url: str, act: Callable[[WebSocketClientConnection], Any], origin: str | None = None) -> Any:
+        """What something makes of a connection, as the page has it, or one of another origin."""
 
         async def run() -> Any:
-            asked = HTTPRequest(url.replace("http:", "ws:") + "events", headers={"Origin": url.rstrip("/")})
+            headers = {"Origin": url.rstrip("/") if origin is None else origin}
+            asked = HTTPRequest(url.replace("http:", "ws:") + "events", headers=headers)
             connection = await websocket_connect(asked)
             try:
                 return await act(connection)
@@ -475,6 +476,17 @@ class Server(unittest.TestCase):
                 connection.close()
 
         return asyncio.run(run())
+
+
+def outer_address() -> str | None:
+    """Returns the address by which this machine would reach a network; None if it reaches none. Nothing is sent."""
+    with socket.socket(socket.AF_INET, socket.SOCK_DGRAM) as asked:
+        try:
+            asked.connect(("198.51.100.1", 9))
+        except OSError:
+            return None
+        address = str(asked.getsockname()[0])
+    return None if address.startswith("127.") else address
 
 
 async def told_until(connection: WebSocketClientConnection, name: str) -> dict[str, Any]:
@@ -550,6 +562,29 @@ class TheServer(Server):
         self.assertEqual(self.status(f"{start}view.js"), 404)
         self.assertEqual(self.status(f"{start}{token}/"), 200)
         self.assertEqual(self.status(f"{start}{token}/view.js"), 200)
+
+    def test_another_address(self) -> None:
+        """Bound to an address of the network it answers only there, below the secret path, and only its own page."""
+        address = outer_address()
+        if address is None:
+            self.skipTest("this machine has no address of a network")
+        _, url = self.start(self.lines, "--listen", address)
+        start, token = url.rsplit("/", 2)[0] + "/", url.rsplit("/", 2)[1]
+        host = f"{address}:{start.rstrip('/').rsplit(':', 1)[1]}"
+        self.assertEqual(start, f"http://{host}/")
+        self.assertEqual([self.status(path) for path in (url, f"{url}view.js", f"{url}save/lines.jsonl")], [200] * 3)
+        self.assertEqual([self.status(start + path) for path in ("", "view.js", f"{token[:-1]}/")], [404] * 3)
+        for name, value in (("Host", "evil.example"), ("Host", "127.0.0.1"), ("Origin", "http://evil.example")):
+            self.assertEqual(self.status(url, **{name: value}), 403, (name, value))
+        self.assertEqual(self.status(url, Host=host, Origin=f"http://{host}"), 200)
+        told = self.watch(url, lambda connection: told_until(connection, "ended"), origin=f"http://{host}")
+        self.assertEqual(told["ended"]["status"], 0)
+        for origin in ("http://127.0.0.1", "null", "http://evil.example"):
+            with self.subTest(origin), self.assertRaises(HTTPClientError) as why:
+                self.watch(url, lambda connection: told_until(connection, "ended"), origin=origin)
+            self.assertEqual(why.exception.code, 403)
+        with self.assertRaises(urllib.error.URLError):
+            self.status(url.replace(address, "127.0.0.1"))
 
     def test_a_client_of_nonsense(self) -> None:
         """A request that isn't the page's ends the connection, and the server stays."""
