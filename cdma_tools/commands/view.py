@@ -41,7 +41,6 @@ from functools import partial
 from cdma_tools.arguments import Parser, number_within, whole_within
 from cdma_tools.commands import listen
 from cdma_tools.listening.channel_options import add_channel_options
-from cdma_tools.program import find_program
 from cdma_tools.sources.options import add_radio_options
 from cdma_tools.view.chip_store import ChipStore
 from cdma_tools.view.listener import ListenerProcess, shows_lines
@@ -84,7 +83,7 @@ def check(words: argparse.ArgumentParser, options: argparse.Namespace) -> None:
     if options.raw and listen.has_channels(options):
         words.error("--raw goes with one channel")
     listen.check_handset(words, options)
-    find_program(options.program)
+    listen.channels_wanted(options)
     listen.check_there(options)
 
 

@@ -609,11 +609,16 @@ class TheServer(Server):
         self.assertEqual(said, f"view: 127.0.0.1 port {port}: Address already in use\n")
 
     def test_what_is_no_source(self) -> None:
+        raw = ("--type", "cu8", "--rate", "2M", self.lines)
         for words, status, told in (
             ((os.path.join(self.folder, "none.jsonl"),), 2, "give --type and --rate"),
             (("--type", "cu8", "--rate", "2M", os.path.join(self.folder, "none")), 1, "No such file"),
             ((self.lines, "--port", "70000"), 2, "--port"),
             ((self.lines, "--speed", "0"), 2, "--speed"),
+            ((*raw, "--traffic-file", os.path.join(self.folder, "none")), 1, "none: No such file"),
+            ((*raw, "--traffic", "00c0ffee:32:0"), 2, "no traffic channel on row 32"),
+            ((*raw, "--shift", "1", "--shift", "1"), 2, "a carrier is given twice"),
+            ((*raw, "--paging", "all", "--raw", "1"), 2, "--raw goes with one channel"),
         ):
             with self.subTest(words=words):
                 ended, wrote, said = run_inside("view", *words, "--no-browser", "--program", "/bin/true")
