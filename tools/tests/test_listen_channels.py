@@ -194,20 +194,35 @@ class Together(unittest.TestCase):
         begin = reads[0]["at"]
         self.assertTrue(all(abs(one["at"] - begin - 24_576 * number) < 32 for number, one in enumerate(reads)))
 
-    def test_seams_of_rate_set_two(self) -> None:
-        """Each frame is reported once over two seams."""
-        script = channels_script(9 * CHIP_RATE).encode("ascii")
-        parts = numpy.frombuffer(made(script)[HEADER.size :], dtype=">i2")
+    def relayed(self, seams: tuple[float, ...], killed: dict[int, str]) -> tuple[Relay, Collected, int]:
+        """Returns what is decoded of 9 seconds with seams, and the first chip; at pieces of chips a process is killed.
+        """
+        parts = numpy.frombuffer(made(channels_script(9 * CHIP_RATE).encode("ascii"))[HEADER.size :], dtype=">i2")
         first, heard = -64 * PN % PERIOD, Collected()
         handset = wanted_channels(Handset(PROGRAM or ""), None, [traffic_of(RATE_TWO)])[0].handset
-        relay = Relay(handset, heard, first, LEAST_OVERLAP, [first + int(second * CHIP_RATE) for second in (4.9, 6.9)])
+        relay = Relay(handset, heard, first, LEAST_OVERLAP, [first + int(second * CHIP_RATE) for second in seams])
         try:
-            for place in range(0, len(parts), 1 << 17):
+            for number, place in enumerate(range(0, len(parts), 1 << 17)):
+                if number in killed:
+                    getattr(relay.current, killed[number]).process.kill()
                 relay.feed(Chips(first + place // 2, parts[place : place + (1 << 17)].tobytes()))
             relay.finish()
         finally:
             relay.kill()
+        return relay, heard, first
+
+    def test_seams_of_rate_set_two(self) -> None:
+        """Each frame is reported once over two seams."""
+        relay, heard, first = self.relayed((4.9, 6.9), {})
         self.assertEqual((len(relay.seams), heard.remarks), (2, []))
+        lines = [event.counted_from(first) for event in heard.events]
+        self.check_frames([line for line in lines if line.startswith("frame2 ")], 300)
+
+    def test_killed_runs_of_rate_set_two(self) -> None:
+        """Whichever of its two processes is killed, another run takes its place, and no frame is missing."""
+        _, heard, first = self.relayed((), {60: "frames", 110: "guide"})
+        text = f"traffic:{RATE_TWO}: a run of cdma_replay follow was ended by SIGKILL: another one replaces it"
+        self.assertEqual([remark.text for remark in heard.remarks], [text, text])
         lines = [event.counted_from(first) for event in heard.events]
         self.check_frames([line for line in lines if line.startswith("frame2 ")], 300)
 
