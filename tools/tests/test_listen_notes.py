@@ -6,12 +6,14 @@ import re
 import subprocess
 import tempfile
 import unittest
+import unittest.mock
 from typing import Any
 
 from tools.tests.helping import NO_PROGRAM, PROGRAM, PYTHON, ROOT, made_once, needs, run_inside, temporary_folder
 
-needs("numpy", "scipy")
+needs("numpy", "scipy", "matplotlib", "plotly", "jinja2")
 
+from cdma_tools.commands import report  # noqa: E402
 from cdma_tools.listening.listening import Anchor  # noqa: E402
 from cdma_tools.listening.notes import time_at  # noqa: E402
 from cdma_tools.listening.parts import chip_at  # noqa: E402
@@ -93,6 +95,11 @@ class Noted(unittest.TestCase):
             self.assertGreaterEqual(begun, skipped)
             near = [start for start in starts[note["core:label"], note["core:comment"]] if abs(start - begun) < 3]
             self.assertEqual(len(near), 1, note)
+        os.unlink(meta)
+        with unittest.mock.patch.object(report, "MOST_SECONDS", 1.0):
+            self.assertEqual(run_inside("report", *words)[0], 0)
+        with open(meta, encoding="utf-8") as file:
+            self.assertEqual(json.load(file)["annotations"], notes, "a long recording has the notes of a listening")
 
     def check_rules(self, notes: list[dict[str, Any]], count: int) -> None:
         """Checks SigMF 1.0's rules for annotations: whole numbers, within the samples, ordered by their beginnings."""

@@ -8,7 +8,7 @@ from typing import Any
 
 from tools.tests.helping import NO_PROGRAM, PROGRAM, needs, run_inside, run_program, temporary_folder
 
-needs("numpy", "scipy")
+needs("numpy", "scipy", "matplotlib", "plotly", "jinja2")
 
 import cdma  # noqa: E402
 from cdma_tools import sigmf  # noqa: E402
