@@ -92,7 +92,7 @@ class Listened(unittest.TestCase):
 
     def test_a_reader_that_has_gone(self) -> None:
         """It ends the listening quietly, with the status of a closed pipe, whether lines have a file or not."""
-        for more in ([], ["--out", os.path.join(self.folder, "lines.txt")]):
+        for more in (list[str](), ["--out", os.path.join(self.folder, "lines.txt")]):
             reader, writer = os.pipe()
             os.close(reader)
             words = [f"{ROOT}/tools/listen", *STREAM, self.recording, *HANDSET, *more, "--pcapng", "-"]

@@ -86,7 +86,7 @@ class Stopped(unittest.TestCase):
         for is_gone in (False, True):
             with self.subTest(is_gone=is_gone), zmq.Context() as context:
                 publisher = context.socket(zmq.PUB)
-                port, sent = publisher.bind_to_random_port("tcp://127.0.0.1"), []
+                port, sent = publisher.bind_to_random_port("tcp://127.0.0.1"), list[Any]()
 
                 def publish() -> None:
                     sent.append(publisher.send(PIECE))
