@@ -164,11 +164,9 @@ def lock(
     }  # fmt: skip
     if bits not in (8, 16):
         raise ParameterError("bits", f"8 or 16 is needed, not {bits!r}")
-    with as_path(recording, given) as (path, source), contextlib.ExitStack() as stack:
-        if pn is not None:
-            given["program"] = stack.enter_context(script_of_model())
-        elif cells is not None:
-            given["program"] = path_or_none()
+    there = contextlib.nullcontext(path_or_none() if cells is not None else None)
+    with as_path(recording, given) as (path, source), there if pn is None else script_of_model() as program:
+        given["program"] = program
         parser = import_capture.parser()
         options = parsed(parser, [*words_of(given), "--lock", "--", path, "-"])
         import_capture.check_words(parser, options)
