@@ -27,12 +27,16 @@ NEEDED = {"rate2": ("esn", "row"), "list": ("esn", "row", "k"), "idle": ("key",)
 SYNC_ROW = 32
 FIRST_PAGING = 1
 MOST_DIGITS = 20
+HELP = ("--help", "-h", "help")  # words by which other programs show their arguments
 
 
 def faults(words: list[str]) -> list[str]:
     """Returns all faults of arguments in words; none if the program accepts them."""
     if not words:
         return [f"a command is missing: {', '.join(COMMANDS)}"]
+    if words[0] in HELP:
+        page = "man cdma_replay has its arguments, in a checkout man docs/cdma_replay.1"
+        return [f"cdma_replay has no {words[0]}: {page}"]
     if words[0] not in COMMANDS:
         return [f"{quoted(words[0])} is not a command{meant(words[0], COMMANDS)} ({', '.join(COMMANDS)})"]
     found, given = option_faults(words[1:], words[0])

@@ -249,6 +249,8 @@ class Arguments(unittest.TestCase):
         self.assertIn("did you mean --fingers?", argument_faults(["follow", "--finger", "2"])[0])
         self.assertIn("--esn needs --row", argument_faults(["follow", "--esn", "0000abcd"])[0])
         self.assertIn("option of idle", argument_faults(["follow", "--key", "00000000"])[0])
+        for word in ("--help", "-h", "help"):
+            self.assertIn(f"cdma_replay has no {word}: man cdma_replay has", argument_faults([word])[0])
 
 
 class Tool(unittest.TestCase):
