@@ -127,7 +127,7 @@ LATE = "import __main__\n__main__.interrupt()\n__main__.show('loaded')\n"
 class UnfitPlaces(unittest.TestCase):
     """An interrupt in places in which an exception would be lost, or leave something half done: it waits."""
 
-    seconds = 10
+    seconds = 8
 
     def ended(self, *function: str) -> tuple[int, str, str]:
         """Returns the status, the output and the standard error of a command with this `main`."""
@@ -195,6 +195,14 @@ class UnfitPlaces(unittest.TestCase):
                     "        os.kill(os.getpid(), signal.SIGINT)", f"        return super().{end}(*given)",
                     "def main(_):", "    with Interrupted():", "        pass", "    wait()",
                 )  # fmt: skip
+
+    def test_held_interrupts(self) -> None:
+        """One that comes again is held back as the first time."""
+        self.broken_off(
+            "whole", "import time", "from cdma_tools.interrupts import noted_interrupts", "def main(_):",
+            "    with noted_interrupts(signal.SIGINT):", "        starting.send_again(signal.SIGINT)",
+            "        time.sleep(0.2)", "        show('whole')", "    wait()",
+        )  # fmt: skip
 
     def test_a_temporary_folder(self) -> None:
         """It is made, and removed at the end."""
