@@ -12,8 +12,8 @@ from cdma_tools.conformance.cases import Case
 class Source(enum.Enum):
     """Where a rule comes from."""
 
-    STANDARD = "the standard"
-    OWN = "this project"
+    STANDARD = "standard"
+    OWN = "project"
 
 
 class Rule(NamedTuple):
