@@ -22,6 +22,7 @@ from cdma.domains import CodeDomain, code_domain
 from cdma.errors import Error, FileError, NoProgramError, ParameterError, ScriptError
 from cdma.events import Event, Frame, Page, Pilot, PilotSets, Rank, RawMessage, Sync, Table, TrafficMessage
 from cdma.explaining import Explanation, explain, margin
+from cdma.importing import Imported, import_capture
 from cdma.listening import Listening, ListenSource, listen
 from cdma.locking import Lock, RecordedPath, lock
 from cdma.programs import use_model, use_program
@@ -29,7 +30,9 @@ from cdma.receiving import Run, find, follow, survey
 from cdma.recordings import Recording, record
 from cdma_tools import __version__
 from cdma_tools.analysis.cell_table import CellFacts
+from cdma_tools.analysis.limits import Limit
 from cdma_tools.margins import Margin
+from cdma_tools.signs import Signs
 
 __all__ = [
     "Bits",
@@ -42,6 +45,8 @@ __all__ = [
     "Explanation",
     "FileError",
     "Frame",
+    "Imported",
+    "Limit",
     "ListenSource",
     "Listening",
     "Lock",
@@ -57,6 +62,7 @@ __all__ = [
     "Recording",
     "Run",
     "ScriptError",
+    "Signs",
     "Sync",
     "Table",
     "TrafficMessage",
@@ -67,6 +73,7 @@ __all__ = [
     "explain",
     "find",
     "follow",
+    "import_capture",
     "listen",
     "load",
     "lock",

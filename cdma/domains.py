@@ -1,5 +1,6 @@
 """The code domain: the power of each Walsh row, and how well a cell sends (docs/RADIO.md, "Code domain")."""
 
+import argparse
 import contextlib
 import os
 import tempfile
@@ -10,12 +11,15 @@ import numpy
 from numpy.typing import NDArray
 
 from cdma.chips import Source, save
-from cdma.errors import as_errors
-from cdma.events import html_table
+from cdma.errors import ParameterError, as_errors
+from cdma.events import Table, html_table
 from cdma.locking import Lock
+from cdma.parameters import parsed, words_of
 from cdma.programs import path_or_none
+from cdma_tools.analysis.limits import Limit, limits_of
 from cdma_tools.analysis.measuring import Analysis, analysis_of_chips, analysis_of_file, seen_lock
 from cdma_tools.analysis.telling import figures_of, levels_of
+from cdma_tools.frequencies import add_frequency_options, frequency_fault, frequency_given
 from cdma_tools.recordings import Recording
 
 
@@ -32,7 +36,8 @@ class CodeDomain:
     `frames`, shape (n, 64), has the power of each row in each frame of 20 ms in dB of the frame's power. `kinds` are
     `pilot`, `sync`, `paging`, `other` and `none`; a row is called paging if the program decodes a message on it.
     `rho` is the cell's share of all power, and `error_vector` the root mean square of the error relative to what is
-    sent. `figures` has all figures of `tools/domain` by their names.
+    sent. `figures` has all figures of `tools/domain` by their names. `limits` compares the cell with the standard's
+    limits, if that was asked for.
     """
 
     rho: float
@@ -46,6 +51,7 @@ class CodeDomain:
     degrees: NDArray[numpy.float64]
     chips: NDArray[numpy.float64]
     frames: NDArray[numpy.float64]
+    limits: Table[Limit]
     analysis: Analysis
 
     def rows(self) -> list[dict[str, Any]]:
@@ -67,28 +73,64 @@ class CodeDomain:
         return f"<p>rho {self.rho:.4f}</p>" + html_table(rows, len(rows))
 
 
-def code_domain(source: Lock | Source) -> CodeDomain:
+def code_domain(
+    source: Lock | Source,
+    *,
+    limits: bool = False,
+    frequency: float | None = None,
+    channel: int | None = None,
+    band: int | None = None,
+) -> CodeDomain:
     """Returns the code domain of a lock, of chips, or of the sample file at a path.
 
     For a lock to the strongest cell, the figures also have what the radio adds: carrier, clock, paths and imbalance.
-    Raises `cdma.Error` if there are too few chips, or no pilot stands out.
+    With `limits` the cell is compared with the standard's limits (C.S0010): each has a `value`, its `bound`, and
+    whether it `is_met`. That of the carrier needs the frequency of the recording's middle: its own, `frequency` in Hz,
+    or that of a `channel` of a `band`, 800 (default) or 1900.
+
+    Raises `cdma.Error` if there are too few chips, or no pilot stands out, and `cdma.ParameterError` for a wrong
+    parameter.
 
     >>> cell = cdma.Cell(pn=3, gain=100, samples=122_880)
     >>> cell.add_sync(gain=50)
-    >>> domain = cdma.code_domain(cdma.make(cell))
+    >>> domain = cdma.code_domain(cdma.make(cell), limits=True)
     >>> domain.kinds[0], domain.kinds[32], domain.used.nonzero()[0].tolist()
     ('pilot', 'sync', [0, 32])
     >>> round(float(domain.db[0] - domain.db[32]), 1)  # 20 log(100 / 50)
     6.0
+    >>> [limit.name for limit in domain.limits if limit.is_met and not limit.left_out]
+    ['rho', 'unused', 'time', 'phase']
     """
-    with tempfile.TemporaryDirectory(prefix="domain-") as folder, as_errors():
-        if isinstance(source, (str, os.PathLike)):
-            return domain_of(analysis_of_file(os.fspath(source), path_or_none(), lambda part, text: None))
+    middle = middle_of(source, {"frequency": frequency, "channel": channel, "band": band})
+    with as_errors():
+        analysis = analysed(source)
+        return domain_of(analysis, limits_of(analysis, middle) if limits else [])
+
+
+def middle_of(source: Lock | Source, given: dict[str, object]) -> float | None:
+    """Returns the frequency of a recording's middle in Hz: the given one, or that of a lock; None if it isn't known."""
+    parser = argparse.ArgumentParser(add_help=False)
+    add_frequency_options(parser, "")
+    options = parsed(parser, words_of(given))
+    if fault := frequency_fault(options):
+        parser.error(fault)
+    found = frequency_given(options)
+    if found is not None and not isinstance(source, Lock):
+        name = "frequency" if given["frequency"] is not None else "channel"
+        raise ParameterError(name, "it goes with a lock to a recording")
+    return source.kept.frequency if found is None and isinstance(source, Lock) else found
+
+
+def analysed(source: Lock | Source) -> Analysis:
+    """Returns the analysis of a lock, of chips or of a file."""
+    if isinstance(source, (str, os.PathLike)):
+        return analysis_of_file(os.fspath(source), path_or_none(), lambda part, text: None)
+    with tempfile.TemporaryDirectory(prefix="domain-") as folder:
         path = os.path.join(folder, "cell.is95")
         save(source.chips if isinstance(source, Lock) else source, path)
         if isinstance(source, Lock) and source.kept.held is not None:
-            return domain_of(analysis_of_lock(source, path))
-        return domain_of(analysis_of_file(path, path_or_none(), lambda part, text: None))
+            return analysis_of_lock(source, path)
+        return analysis_of_file(path, path_or_none(), lambda part, text: None)
 
 
 def analysis_of_lock(lock: Lock, path: str) -> Analysis:
@@ -103,8 +145,8 @@ def analysis_of_lock(lock: Lock, path: str) -> Analysis:
     return analysis_of_chips(path, seen, path_or_none())
 
 
-def domain_of(analysis: Analysis) -> CodeDomain:
-    """Returns an analysis as arrays."""
+def domain_of(analysis: Analysis, limits: list[Limit]) -> CodeDomain:
+    """Returns an analysis as arrays, with limits to which it was compared."""
     rows = sorted(analysis.domain.rows, key=lambda row: row.row)
 
     def column(name: str) -> NDArray[Any]:
@@ -122,5 +164,6 @@ def domain_of(analysis: Analysis) -> CodeDomain:
         degrees=column("degrees"),
         chips=column("chips"),
         frames=levels_of(analysis.domain.frames),
+        limits=Table(limits),
         analysis=analysis,
     )

@@ -1,6 +1,7 @@
 """Events: what a handset hears, each as a dataclass whose fields have the names of the lines (docs/FORMATS.md)."""
 
 import dataclasses
+import enum
 import html
 from collections.abc import Callable, Iterable
 from typing import TYPE_CHECKING, Any, ClassVar, TypeVar
@@ -282,7 +283,12 @@ class Table(list[RowType]):
 def rows_of(rows: Iterable[Any]) -> list[dict[str, Any]]:
     """Returns the fields of rows by their names; those of events are without the line's first word."""
     found = [row.to_dict() if isinstance(row, Event) else dataclasses.asdict(row) for row in rows]
-    return [{name: value for name, value in fields.items() if name != "line"} for fields in found]
+    return [{name: worth(value) for name, value in fields.items() if name != "line"} for fields in found]
+
+
+def worth(value: Any) -> Any:
+    """Returns a value of a table, that of an enumeration by what it stands for."""
+    return value.value if isinstance(value, enum.Enum) else value
 
 
 def html_table(rows: list[dict[str, Any]], count: int, shown: Callable[[Any], str] = str) -> str:

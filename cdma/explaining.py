@@ -3,6 +3,7 @@
 import html
 from collections.abc import Collection
 from dataclasses import dataclass
+from typing import overload
 
 import numpy
 from numpy.typing import NDArray
@@ -17,14 +18,16 @@ from cdma_model.handset import Assigned
 from cdma_model.script import read_script as read_cell
 from cdma_tools.explaining.frame_steps import TRAFFIC_ROWS, NoFrame, Steps, Wanted, steps_of
 from cdma_tools.explaining.frame_text import text_of
-from cdma_tools.margins import Margin, margins, search_margin
+from cdma_tools.margins import Margin, all_margins, name_of, rows_sent
 from cdma_tools.scripting.arguments import number_of
 from cdma_tools.scripting.values import Wrong
 from cdma_tools.scripts import read_script
+from cdma_tools.signs import Signs, signs
 
 CHANNELS = ("sync", "paging", "traffic")
 HEX_DIGITS = "eight hex digits"
 FIRST_SPAN = 2_048
+Rows = Collection[int] | None  # Walsh rows, None for all
 
 
 @dataclass(frozen=True, repr=False)
@@ -95,9 +98,7 @@ def explain(
     number = number_within("paging", paging, 1, 7)
     assigned = assigned_of(esn, row, offset) if channel == "traffic" else None
     wanted = Wanted(channel, index, number, assigned, number_within("rate_set", rate_set, 1, 2))
-    capture = capture_of(chips)
-    if capture.count < searched:
-        raise FileError("too few", 8)
+    capture = capture_of(chips, searched)
     with as_errors():
         try:
             return explanation_of(steps_of(capture, wanted, searched, paths))
@@ -120,9 +121,11 @@ def assigned_of(esn: HexNumber | None, row: Number | None, offset: Number) -> As
     return Assigned(serial, place, number_within("offset", offset, 0, 15))
 
 
-def capture_of(source: Source) -> Capture:
-    """Returns chips as the model has them."""
+def capture_of(source: Source, span: int) -> Capture:
+    """Returns chips as the model has them; raises FileError if there are fewer than a search takes."""
     chips = chips_of(load(source) if not isinstance(source, numpy.ndarray) else source)
+    if len(chips) < span:
+        raise FileError("too few", 8)
     return Capture(bool(chips.checks & 1), bool(chips.checks & 2), len(chips), chips.as_complex(), None)
 
 
@@ -141,21 +144,43 @@ def explanation_of(steps: Steps) -> Explanation:
     )
 
 
-def margin(cell: Cell, *, span: Number = FIRST_SPAN, rows: Collection[int] | None = None) -> Table[Margin]:
+@overload
+def margin(cell: Cell, *, file: None = None, span: Number = ..., rows: Rows = ...) -> Table[Margin]:
+    """Returns margins."""
+
+
+@overload
+def margin(cell: Cell, *, file: Source, span: Number = ..., rows: Rows = ...) -> Table[Signs]:
+    """Returns what is covered of a file."""
+
+
+def margin(
+    cell: Cell, *, file: Source | None = None, span: Number = FIRST_SPAN, rows: Collection[int] | None = None
+) -> Table[Margin] | Table[Signs]:
     """Returns the greatest noise that the search and the channels of a cell bear, whatever the noise is.
 
     The first row is the search over `span` samples; then each channel but the pilot follows, or those on some Walsh
     `rows`. A row has the channel's `name`, `row`, `gain` and `amplitude`, its `margin` in units of a sample's parts,
     and the margin's shares of the channel's amplitude and of the whole signal's.
 
-    Raises `cdma.Error` if a channel bears no noise or isn't sent, and `cdma.ParameterError` for a wrong span.
+    With `file`, chips or the path of a sample file, the rows say instead which frames of these chips come back in any
+    case: how many there are, how many are `covered`, and the `least` soft value times its sent sign.
+
+    Raises `cdma.Error` if a channel bears no noise or isn't sent, or if chips aren't the cell's, and
+    `cdma.ParameterError` for a wrong span.
 
     >>> cell = cdma.read_script(examples / "second_of_paging.script")
     >>> [(row.name, row.margin) for row in cdma.margin(cell)][1:]
     [('sync', 89), ('paging 1', 179)]
+    >>> short = cdma.Cell(samples=40_000)
+    >>> short.add_sync()
+    >>> [(row.name, row.frames, row.covered) for row in cdma.margin(short, file=cdma.make(short))]
+    [('sync', 1, 1)]
     """
     searched = number_within("span", span, 64, 32_768)
     script, text = read_script(cell.script(), "the cell"), cell.script().encode()
     with as_errors():
-        found = margins(script, rows)
-        return Table([search_margin(script, read_cell(text), searched), *found])
+        if file is None:
+            return Table(all_margins(script, read_cell(text), searched, rows))
+        names = {row: name_of(script, row) for row in rows_sent(script, rows)}
+        return Table(signs(capture_of(file, searched), read_cell(text), searched, names)[1])

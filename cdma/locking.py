@@ -1,29 +1,18 @@
 """Locks: from a radio's recording to chips, and what was found on the way (docs/RADIO.md)."""
 
-import contextlib
-import os
 import tempfile
 from dataclasses import dataclass, field
 from fractions import Fraction
 from typing import Any
 
-import numpy
-from numpy.typing import NDArray
-
 from cdma.chips import Chips, read_samples
-from cdma.errors import ParameterError, as_errors
 from cdma.events import Table, html_table
-from cdma.parameters import parsed, words_of
-from cdma.programs import path_or_none, script_of_model
-from cdma.recordings import Recording
+from cdma.importing import RecordingSource, import_options
 from cdma_tools.analysis.capture_chips import cells_of, lock_options, write_locked
 from cdma_tools.analysis.cell_table import CellFacts
-from cdma_tools.commands import import_capture
 from cdma_tools.errors import Refused
 from cdma_tools.radio import locking
 from cdma_tools.sources.taking import take
-
-RecordingSource = Recording | NDArray[Any] | str | os.PathLike[str]  # an array of complex numbers, or a path
 
 
 @dataclass(frozen=True)
@@ -41,6 +30,7 @@ class Held:
     path: str
     options: locking.Options
     held: locking.Held | None
+    frequency: float | None  # of the recording's middle in Hz, if it is known
     source: object  # keeps a temporary file open
 
 
@@ -88,38 +78,20 @@ class Lock:
         return html_table(rows, len(rows))
 
 
-@contextlib.contextmanager
-def as_path(recording: RecordingSource, given: dict[str, object]) -> Any:
-    """Yields the path of a recording, with what keeps it; adds its type and its rate to the parameters."""
-    if isinstance(recording, (str, os.PathLike)):
-        yield os.fspath(recording), None
-        return
-    if given["type"] is not None:
-        raise ParameterError("type", "a path needs it; other recordings have their own")
-    if isinstance(recording, Recording):
-        given |= {"type": recording.type, "rate": recording.exact_rate}
-        yield recording.path, recording
-        return
-    array = numpy.asarray(recording)
-    if array.ndim != 1 or array.dtype.kind != "c":
-        shape = f"{array.dtype} of shape {array.shape}"
-        raise ParameterError("recording", f"a row of complex numbers is needed, not {shape}")
-    if given["rate"] is None:
-        raise ParameterError("rate", "an array needs it")
-    file = tempfile.TemporaryFile()
-    array.astype("<c8").tofile(file)
-    file.flush()
-    given["type"] = "cf32_le"
-    kept = Recording(file, "cf32_le", Fraction(1), 0, "", {})
-    yield kept.path, kept
-
-
 def lock(
     recording: RecordingSource,
     *,
     type: str | None = None,
     rate: float | Fraction | None = None,
     capture: int | None = None,
+    seconds: float | None = None,
+    frequency: float | None = None,
+    channel: int | None = None,
+    band: int | None = None,
+    gain: float | None = None,
+    ppm: int | None = None,
+    bias_tee: bool = False,
+    agc: bool = False,
     skip: int = 0,
     shift: float | None = None,
     search: float | None = None,
@@ -131,6 +103,7 @@ def lock(
     bits: int = 16,
     complement_30: bool = False,
     complement_16: bool = False,
+    checks: str | None = None,
     cell: int | None = None,
     pn: int | None = None,
     cells: int | None = None,
@@ -138,13 +111,16 @@ def lock(
     """Returns the lock to the strongest pilot of a recording, or to another cell of it.
 
     `recording` is a `cdma.Recording`, or the path of a `.sigmf-meta`, a `.sigmf`, a `.wav`, or of raw samples of `type`
-    and `rate`. It may also be an array of complex numbers, shape (n,), with `rate`. The other parameters are the
-    options of `tools/import_capture --lock`:
+    and `rate`. It may also be an array of complex numbers, shape (n,), with `rate`, or the address of a live source, as
+    `cdma.listen` takes it, with `rate`. The other parameters are the options of `tools/import_capture --lock`:
 
+    - `seconds` is how much is taken of a live source, 28 by default. A radio is tuned by `frequency` in Hz, or by a
+      `channel` of a `band`, and by `gain` in dB, `ppm`, `bias_tee` and `agc`.
     - `capture` chooses one of several captures. `skip` leaves out samples, and `count` is the greatest number of chips.
     - The carrier is searched `search` Hz to each side of `shift`. `conjugate` and `equaliser` are `yes`, `no` or `try`.
     - `fingers`, 1 to 3, is the number of paths for which the instants are chosen.
     - `scale` multiplies the samples, and `bits` is 16 or 8. `complement_30` and `complement_16` are flags of the chips.
+      With `checks="auto"` the program follows the chips both ways, and the first flag is taken by what passes.
     - `cell`, from 1 on, takes the cell of that rank without the stronger ones; `pn` takes the one of a pilot offset.
     - `cells` also fills the table of that many cells, which takes longer.
 
@@ -157,21 +133,14 @@ def lock(
     (1500, 3, -6)
     """
     given: dict[str, object] = {
-        "type": type, "rate": rate, "capture": capture, "skip": skip, "shift": shift, "search": search,
-        "conjugate": conjugate, "equaliser": equaliser, "fingers": fingers, "count": count, "scale": scale,
-        "format": {16: 1, 8: 2}.get(bits, bits), "complement_30": complement_30, "complement_16": complement_16,
-        "cell": cell, "pn": pn, "cells": cells,
+        "type": type, "rate": rate, "capture": capture, "seconds": seconds, "frequency": frequency, "channel": channel,
+        "band": band, "gain": gain, "ppm": ppm, "bias_tee": bias_tee, "agc": agc, "skip": skip, "shift": shift,
+        "search": search, "conjugate": conjugate, "equaliser": equaliser, "fingers": fingers, "count": count,
+        "scale": scale, "complement_30": complement_30, "complement_16": complement_16, "checks": checks, "cell": cell,
+        "pn": pn, "cells": cells,
     }  # fmt: skip
-    if bits not in (8, 16):
-        raise ParameterError("bits", f"8 or 16 is needed, not {bits!r}")
-    there = contextlib.nullcontext(path_or_none() if cells is not None else None)
-    with as_path(recording, given) as (path, source), there if pn is None else script_of_model() as program:
-        given["program"] = program
-        parser = import_capture.parser()
-        options = parsed(parser, [*words_of(given), "--lock", "--", path, "-"])
-        import_capture.check_words(parser, options)
-        with as_errors():
-            return locked(options, source)
+    with import_options(recording, given, bits, "--lock") as (options, source):
+        return locked(options, source)
 
 
 def locked(options: Any, source: object) -> Lock:
@@ -204,5 +173,5 @@ def locked(options: Any, source: object) -> Lock:
         remarks=tuple(found.remarks()),
         cells=Table(rows),
         line=found.line(),
-        kept=Held(recording.path, lock_options(options, recording), first, (source, recording)),
+        kept=Held(recording.path, lock_options(options, recording), first, recording.frequency, (source, recording)),
     )

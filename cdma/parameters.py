@@ -65,8 +65,9 @@ def parsed(parser: Any, words: list[str]) -> argparse.Namespace:
     """Returns the options that a command's parser reads; raises ParameterError instead of ending the process."""
 
     def refuse(message: str) -> NoReturn:
-        named = re.search(r"--([a-z][a-z0-9-]*)", message)
-        name = named[1].replace("-", "_") if named else "arguments"
+        given = "|".join(word[2:].partition("=")[0] for word in words if word.startswith("--") and word != "--")
+        named = re.search(r"--([a-z][a-z0-9-]*)", message) or re.search(rf"\b({given})\b", message)
+        name = named[1].replace("-", "_") if named and named[1] else "arguments"
         raise ParameterError(name, re.sub(r"^argument [^:]*: ", "", message))
 
     parser.error = refuse

@@ -95,6 +95,15 @@ def margins(script: Script, rows: Collection[int] | None = None) -> list[Margin]
     return [channel_margin(script, row) for row in rows_sent(script, rows)]
 
 
+def all_margins(script: Script, cell: Cell, span: int, rows: Collection[int] | None = None) -> list[Margin]:
+    """Returns the margin of the search over the first `span` samples, and then those of channels, as `margins` does.
+
+    `cell` is the cell of the script.
+    """
+    channels = margins(script, rows)
+    return [search_margin(script, cell, span), *channels]
+
+
 def channel_margin(script: Script, row: int) -> Margin:
     """Returns the margin of the channel on a row; Refused if it bears no noise."""
     gain, name = script.gains[row], name_of(script, row)

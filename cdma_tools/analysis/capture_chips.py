@@ -100,7 +100,7 @@ def cells_of(
     recording: TakenSource,
     program: str | None,
     first: "Held | None",
-    tell: Callable[[int], object] = lambda count: None,
+    tell: Callable[[int], None] = lambda count: None,
 ) -> "list[CellFacts]":
     """Returns the table of as many cells of a recording as are asked for.
 

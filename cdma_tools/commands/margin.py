@@ -55,7 +55,7 @@ from cdma_model.script import read_script as read_cell
 from cdma_tools.arguments import Parser, Within, whole_within
 from cdma_tools.captures import read_whole
 from cdma_tools.errors import Refused, WrongArguments
-from cdma_tools.margins import Margin, margins, name_of, rows_sent, search_margin
+from cdma_tools.margins import Margin, all_margins, name_of, rows_sent
 from cdma_tools.overwriting import InputFile
 from cdma_tools.scripts import SYNC_ROW, Script, read_script
 from cdma_tools.signs import Signs, signs
@@ -203,19 +203,13 @@ def report(path: str, command: list[str], options: argparse.Namespace, is_json: 
     heard = heard_by(command, options.span, script)
     try:
         names = {row: name_of(script, row) for row in rows_sent(script, heard.rows)}
-        found = [] if options.file else rows_of(script, cell, heard)
+        found = [] if options.file else all_margins(script, cell, heard.span, heard.rows)
     except Refused as why:
         raise Refused(f"{name}: {why}") from None
     if not options.file:
         return objects(found) if is_json else table(found)
     mark, covered = signs_in(options.file, cell, name, heard, names)
     return objects(covered) if is_json else signs_table(mark, covered)
-
-
-def rows_of(script: Script, cell: Cell, heard: Heard) -> list[Margin]:
-    """Returns the margins of the received channels, after that of the search; raises Refused if one bears no noise."""
-    channels = margins(script, heard.rows)
-    return [search_margin(script, cell, heard.span), *channels]
 
 
 def signs_in(path: str, cell: Cell, name: str, heard: Heard, names: dict[int, str]) -> tuple[Mark | None, list[Signs]]:

@@ -26,8 +26,11 @@ GROUPS = {
     "Events": (
         "Event", "Pilot", "Rank", "Sync", "Page", "Frame", "TrafficMessage", "PilotSets", "RawMessage", "Table",
     ),
-    "Radios": ("record", "Recording", "lock", "Lock", "RecordedPath", "CellFacts", "code_domain", "CodeDomain"),
-    "Frames and margins": ("explain", "Explanation", "margin", "Margin"),
+    "Radios": (
+        "record", "Recording", "lock", "Lock", "RecordedPath", "CellFacts", "import_capture", "Imported",
+        "code_domain", "CodeDomain", "Limit",
+    ),
+    "Frames and margins": ("explain", "Explanation", "margin", "Margin", "Signs"),
     "Plots": ("plot.correlation", "plot.code_domain", "plot.run", "plot.constellation"),
     "The program": ("use_model", "use_program"),
     "Errors": ("Error", "ParameterError", "FileError", "ScriptError", "NoProgramError"),
@@ -71,8 +74,8 @@ def found(name: str) -> tuple[Any, ModuleType]:
 
 
 def definition(value: Any, module: ModuleType) -> ast.ClassDef | ast.FunctionDef:
-    """Returns the statement that defines a function or a class."""
-    for node in ast.parse(inspect.getsource(module)).body:
+    """Returns the statement that defines a function or a class, the last one if a function has several signatures."""
+    for node in reversed(ast.parse(inspect.getsource(module)).body):
         if isinstance(node, (ast.ClassDef, ast.FunctionDef)) and node.name == value.__name__:
             return node
     raise LookupError(value.__name__)
