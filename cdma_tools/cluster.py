@@ -10,7 +10,9 @@ only on loopback addresses.
 import asyncio
 import contextlib
 import fcntl
+import functools
 import logging
+import multiprocessing.spawn
 import os
 import shutil
 import tempfile
@@ -28,6 +30,7 @@ FIRST_WORKER = LAST_WORKER = 60
 # freed memory. By dask's setting it returns each large array, and takes as long again to get new pages.
 KEEP_FREED = {"distributed.nanny.pre-spawn-environ.MALLOC_TRIM_THRESHOLD_": 1 << 28}
 LOOPBACK = "127.0.0.1"
+WORKER = "Dask Worker process"  # the beginning of the name that dask gives to a worker's process
 # The address of a status page: dask starts one in each process, by default on all interfaces.
 STATUS_PAGE = f"{LOOPBACK}:0"
 # The beginning of the name of a folder for workers, and the name of the file in it that its run holds.
@@ -46,6 +49,20 @@ def quiet() -> Any:
         if name.split(".")[0] in ("distributed", "tornado", "asyncio"):
             logging.getLogger(name).setLevel(SILENT)
     return distributed
+
+
+@functools.cache
+def leave_out_main() -> None:
+    """Lets dask's workers start without the main module of this process: a script that isn't made for that would run
+    again in each of them."""
+    prepared = multiprocessing.spawn.get_preparation_data
+
+    def without_main(name: str) -> dict[str, Any]:
+        data: dict[str, Any] = prepared(name)
+        kept = {key: value for key, value in data.items() if not key.startswith("init_main_from_")}
+        return kept if name.startswith(WORKER) else data
+
+    multiprocessing.spawn.get_preparation_data = without_main
 
 
 # The folders of this process's clusters.
@@ -105,6 +122,7 @@ def connected(address: str | None, workers: int) -> Iterator[Any]:
     with contextlib.ExitStack() as stack:
         try:
             if address is None:
+                leave_out_main()
                 folder = stack.enter_context(worker_folder())
                 stack.enter_context(dask.config.set(KEEP_FREED))
                 cluster = distributed.LocalCluster(
