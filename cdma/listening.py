@@ -16,7 +16,7 @@ from numpy.typing import NDArray
 
 from cdma.errors import Error, ParameterError, as_errors
 from cdma.events import Event, event_of
-from cdma.parameters import HexNumber, Number, hex_text, parsed, words_of
+from cdma.parameters import HexNumber, Number, hex_text, number_within, parsed, words_of
 from cdma.programs import script_of_model
 from cdma_tools.commands import listen as command
 from cdma_tools.errors import Refused, text_of
@@ -24,10 +24,12 @@ from cdma_tools.listening import events as heard
 from cdma_tools.listening.follow_run import Handset
 from cdma_tools.listening.line_writer import LineWriter
 from cdma_tools.listening.live import LiveListening
-from cdma_tools.listening.parts import Joiner, Recording, parts_of
-from cdma_tools.listening.sharing import Alone, joined_parts
+from cdma_tools.listening.options import counts_of, handset_of, lock_options, shifts_of, source_of
+from cdma_tools.listening.parts import Recording
+from cdma_tools.listening.sharing import Channel, hear_recording
 from cdma_tools.listening.stream_lock import LockOptions
 from cdma_tools.overwriting import STANDARD
+from cdma_tools.progress import Silent
 from cdma_tools.radio.search_policy import policy_of
 from cdma_tools.sources.backlog import LOOK_AGAIN, PIECE_BYTES, Backlog, Item
 from cdma_tools.sources.live import Stream
@@ -236,18 +238,16 @@ def hear_stream(
     return live.listening.is_heard
 
 
-def hear_file(box: Mailbox, recording: Recording, handset: Handset, most: dict[str, int], seconds: float) -> bool:
+def hear_file(box: Mailbox, recording: Recording, handset: Handset, most: dict[str, int], options: Any) -> bool:
     """Listens to a file of samples in parts, and returns whether a pilot was found."""
-    writer, parts, is_heard = EventWriter(box, most), parts_of(recording, seconds), False
-    workers = Alone(recording, handset, parts, box.look)
-    for joined in joined_parts(workers, parts, Joiner(handset.row), 0):
-        writer.begin(joined.origin)
-        for remark in joined.remarks:
-            writer.remark(remark)
-        for event in joined.events:
-            writer.event(event)
-        is_heard = is_heard or joined.is_heard
-    return is_heard
+
+    def no_bar(**words: object) -> Silent:
+        return Silent()
+
+    channels = [Channel(handset, EventWriter(box, most))]
+    return hear_recording(
+        recording, channels, options.part, options.workers, options.scheduler, box.look, no_bar
+    )
 
 
 def work(box: Mailbox, hear: Callable[[], bool], no_pilot: str, kept: contextlib.ExitStack) -> None:
@@ -274,6 +274,8 @@ def listen(
     rate: float | Fraction | None = None,
     capture: int | None = None,
     frequency: float | None = None,
+    channel: int | None = None,
+    band: int | None = None,
     gain: float | None = None,
     ppm: int | None = None,
     bias_tee: bool = False,
@@ -294,6 +296,8 @@ def listen(
     conjugate: str | None = None,
     equaliser: str | None = None,
     part: float | None = None,
+    workers: Number | None = None,
+    scheduler: str | None = None,
 ) -> Listening:
     """Returns an iterator over what a handset hears of a source, as the samples come.
 
@@ -304,9 +308,10 @@ def listen(
     - an open file that gives bytes of `type` at `rate`
     - a callable that gives the next samples at `rate`: a row of complex numbers, or None at the end
 
-    A radio is tuned by `frequency` in Hz, `gain` in dB, `ppm`, `bias_tee` and `agc`. The other parameters are those of
-    `cdma.follow` and `cdma.lock`, and count over the whole source. A file of samples is listened to in parts of `part`
-    seconds (default 600), whose events come at their ends.
+    A radio is tuned by `frequency` in Hz, or by a `channel` of a `band`, and by `gain` in dB, `ppm`, `bias_tee` and
+    `agc`. The other parameters are those of `cdma.follow` and `cdma.lock`, and count over the whole source. A file of
+    samples is listened to in parts of `part` seconds (default 600), whose events come at their ends. Parts are shared
+    by `workers` processes, 1 to 64 (default 1), or by those of a `scheduler` of dask.distributed.
 
     Events are those of `cdma.follow`, with two differences: `at` counts chips from the start of the source, and
     `time_utc` has the time. A source that can't wait loses samples if the events aren't taken in time; a remark says
@@ -324,11 +329,13 @@ def listen(
     1
     """
     given: dict[str, object] = {
-        "type": type, "rate": rate, "capture": capture, "frequency": frequency, "gain": gain, "ppm": ppm,
-        "bias_tee": bias_tee, "agc": agc, "esn": None if esn is None else hex_text("esn", esn, 8).lower(), "row": row,
-        "offset": offset, "paging": paging, "fingers": fingers, "pilots": pilots, "messages": messages,
+        "type": type, "rate": rate, "capture": capture, "frequency": frequency, "channel": channel, "band": band,
+        "gain": gain, "ppm": ppm, "bias_tee": bias_tee, "agc": agc,
+        "esn": None if esn is None else hex_text("esn", esn, 8).lower(), "row": row, "offset": offset,
+        "paging": number_within("paging", paging, 1, 7), "fingers": fingers, "pilots": pilots, "messages": messages,
         "frames": frames, "raw": raw, "complement_30": complement_30, "complement_16": complement_16, "shift": shift,
-        "search": search, "conjugate": conjugate, "equaliser": equaliser, "part": part,
+        "search": search, "conjugate": conjugate, "equaliser": equaliser, "part": part, "workers": workers,
+        "scheduler": scheduler,
     }  # fmt: skip
     is_path = isinstance(source, (str, os.PathLike))
     if not is_path and rate is None:
@@ -349,7 +356,7 @@ def listen(
             box = Mailbox()
             hear = hearing_of(box, source, options)
         policy = policy_of(options)
-        no_pilot = f"no pilot stands out anywhere {policy.searched(options.shift)}{policy.advice}"
+        no_pilot = f"no pilot stands out anywhere {policy.searched(shifts_of(options)[0])}{policy.advice}"
         thread = threading.Thread(target=work, args=(box, hear, no_pilot, stack.pop_all()), daemon=True)
     thread.start()
     return Listening(box, thread)
@@ -357,16 +364,16 @@ def listen(
 
 def hearing_of(box: Mailbox, source: ListenSource, options: Any) -> Callable[[], bool]:
     """Returns what listens to a source, in a thread of its own."""
-    handset, most = command.handset_of(options), command.counts_of(options)
+    handset, most = handset_of(options), counts_of(options)
     if not isinstance(source, (str, os.PathLike)):
-        lock = command.lock_options(options, options.type, options.rate, is_live=True)
+        lock = lock_options(options, options.type, options.rate, is_live=True)
         opened = filled(source)
         return lambda: hear_stream(box, opened, lock, handset, most)
-    found = command.source_of(options)
+    found = source_of(options)
     if isinstance(found, Recording):
         recording = found
-        return lambda: hear_file(box, recording, handset, most, options.part)
-    stream, lock = found, command.lock_options(options, found.kind, found.rate, is_live=True)
+        return lambda: hear_file(box, recording, handset, most, options)
+    stream, lock = found, lock_options(options, found.kind, found.rate, is_live=True)
     return lambda: hear_stream(box, opened_here(stream), lock, handset, most)
 
 

@@ -41,6 +41,16 @@ from functools import partial
 from cdma_tools.arguments import Parser, number_within, whole_within
 from cdma_tools.commands import listen
 from cdma_tools.listening.channel_options import add_channel_options
+from cdma_tools.listening.options import (
+    add_handset,
+    add_lock,
+    add_source,
+    check_handset,
+    check_source,
+    check_there,
+    flags_of,
+    paging_number,
+)
 from cdma_tools.sources.options import add_radio_options
 from cdma_tools.view.chip_store import ChipStore
 from cdma_tools.view.listener import ListenerProcess, shows_lines
@@ -56,7 +66,7 @@ DISPLAYS = ("DISPLAY", "WAYLAND_DISPLAY")  # variables of which one is set if a 
 def parser() -> Parser:
     """The arguments of the command line."""
     words = Parser("view", __doc__)
-    listen.add_source(words)
+    add_source(words)
     pages = words.add_argument_group("the page")
     pages.add_argument(
         "--port", type=whole_within(LEAST_PORT, MOST_PORT), metavar="N", help="port of the page (default a free one)"
@@ -68,10 +78,10 @@ def parser() -> Parser:
     paced = "play a file of samples N times as fast as it was recorded (default 1)"
     pages.add_argument("--speed", type=number_within(*SPEEDS), default=1.0, metavar="N", help=paced)
     add_radio_options(words)
-    listen.add_handset(words)
+    add_handset(words)
     add_channel_options(words)
     words.set_defaults(out_dir=None, cells=None, pn=None)
-    listen.add_lock(words)
+    add_lock(words)
     return words
 
 
@@ -79,12 +89,12 @@ def check(words: argparse.ArgumentParser, options: argparse.Namespace) -> None:
     """Ends with status 2 if arguments don't go together; refuses a source or a program that isn't there."""
     if shows_lines(options):
         return
-    listen.check_source(words, options)
+    check_source(words, options)
     if options.raw and listen.has_channels(options):
         words.error("--raw goes with one channel")
-    listen.check_handset(words, options)
+    check_handset(words, options)
     listen.channels_wanted(options)
-    listen.check_there(options)
+    check_there(options)
 
 
 def open_browser(url: str) -> None:
@@ -105,7 +115,7 @@ def main(arguments: list[str] | None = None) -> int:
     print(door.url, flush=True)
     if not options.no_browser:
         open_browser(door.url)
-    handset = Handset(listen.paging_number(options), options.esn, options.offset or 0, listen.flags_of(options))
+    handset = Handset(paging_number(options), options.esn, options.offset or 0, flags_of(options))
     hub = Hub(os.path.basename(options.source), store, handset, options.row)
     begin = partial(ListenerProcess, options, store, [one.fileno() for one in sockets])
     return serve(hub, begin, sockets, door, options.exit)

@@ -5,6 +5,7 @@ import concurrent.futures
 import contextlib
 import heapq
 import itertools
+import time
 from collections.abc import Callable, Iterable, Iterator, Sequence
 from dataclasses import dataclass
 from typing import Any, Protocol
@@ -17,15 +18,15 @@ from cdma_tools.listening.parts import Joined, Joiner, Part, PartHeard, Recordin
 from cdma_tools.progress import bar
 
 
+LOOK_AGAIN = 0.1  # seconds after which it is looked whether a part that workers do is still wanted
+
+
+def nothing() -> None:
+    """Does nothing."""
+
+
 class Workers(Protocol):
-    """Who listens to parts."""
-
-    def heard(self, number: int, row: int | None) -> PartHeard:
-        """Returns what is received in a part whose traffic channel begins on a row, as those of later parts seem to."""
-
-
-class ChannelWorkers(Protocol):
-    """Who listens to several channels of parts."""
+    """Who listens to channels of parts."""
 
     def heard_by(self, number: int, handsets: tuple[Handset, ...]) -> list[PartHeard]:
         """Returns what each handset receives in a part, which later parts seem to begin with too."""
@@ -34,16 +35,10 @@ class ChannelWorkers(Protocol):
 class Alone:
     """This process."""
 
-    def __init__(
-        self, recording: Recording, handset: Handset, parts: list[Part], look: Callable[[], None] = lambda: None
-    ) -> None:
+    def __init__(self, recording: Recording, parts: list[Part], look: Callable[[], None] = nothing) -> None:
         """The parts of a recording; `look` is called now and then, and may raise to break a part off."""
-        self.recording, self.handset, self.parts, self.look = recording, handset, parts, look
+        self.recording, self.parts, self.look = recording, parts, look
         self.last: tuple[tuple[int, tuple[Handset, ...]], list[PartHeard]] | None = None
-
-    def heard(self, number: int, row: int | None) -> PartHeard:
-        """Returns what is received in a part."""
-        return self.heard_by(number, (self.handset.on_row(row),))[0]
 
     def heard_by(self, number: int, handsets: tuple[Handset, ...]) -> list[PartHeard]:
         """Returns what each handset receives in a part."""
@@ -56,14 +51,12 @@ class Alone:
 class Handed:
     """The workers of a scheduler."""
 
-    def __init__(self, recording: Recording, handset: Handset, parts: list[Part], client: Any) -> None:
-        """The parts of a recording, and a client of the scheduler."""
-        self.recording, self.handset, self.parts, self.client = recording, handset, parts, client
+    def __init__(
+        self, recording: Recording, parts: list[Part], client: Any, look: Callable[[], None] = nothing
+    ) -> None:
+        """The parts of a recording, and a client of the scheduler; `look` is that of one process."""
+        self.recording, self.parts, self.client, self.look = recording, parts, client, look
         self.under_way: dict[tuple[int, tuple[Handset, ...]], Any] = {}
-
-    def heard(self, number: int, row: int | None) -> PartHeard:
-        """Returns what is received in a part; those after it are handed out meanwhile."""
-        return self.heard_by(number, (self.handset.on_row(row),))[0]
 
     def heard_by(self, number: int, handsets: tuple[Handset, ...]) -> list[PartHeard]:
         """Returns what each handset receives in a part; those after it are handed out meanwhile."""
@@ -77,6 +70,9 @@ class Handed:
             self.under_way.pop(key).cancel()
         future = self.under_way[number, handsets]
         try:
+            while self.look is not nothing and not future.done():
+                self.look()
+                time.sleep(LOOK_AGAIN)
             some_ended(self.client, [future])
             heard: list[PartHeard] = result_of(future, "part")
         except (OSError, concurrent.futures.CancelledError, asyncio.CancelledError):
@@ -87,15 +83,6 @@ class Handed:
         """Cancels what is under way."""
         with contextlib.suppress(Exception):
             self.client.cancel(list(self.under_way.values()), force=True)
-
-
-def joined_parts(workers: Workers, parts: list[Part], joiner: Joiner, first: int) -> Iterator[Joined]:
-    """Yields what each part adds, from one of them on."""
-    for part in parts[first:]:
-        heard = workers.heard(part.number, joiner.row_before(part))
-        if not joiner.is_on_row(heard):
-            heard = workers.heard(part.number, joiner.row)
-        yield joiner.join(part, heard, part is parts[-1])
 
 
 @dataclass(frozen=True)
@@ -111,7 +98,7 @@ def on_rows(channels: Sequence[Channel], rows: Iterable[int | None]) -> tuple[Ha
     return tuple(channel.handset.on_row(row) for channel, row in zip(channels, rows))
 
 
-def start_of(parts: list[Part], channels: Sequence[Channel], workers: ChannelWorkers) -> tuple[list[Joiner], int]:
+def start_of(parts: list[Part], channels: Sequence[Channel], workers: Workers) -> tuple[list[Joiner], int]:
     """Returns the beginning of a listening: the part in which the last existing line of a channel lies, if that part
     has the time too. The earliest of such parts counts. If notes are wanted, it is the first part: those have the
     samples of all lines."""
@@ -132,7 +119,7 @@ def start_of(parts: list[Part], channels: Sequence[Channel], workers: ChannelWor
 
 
 def joined_channels(
-    workers: ChannelWorkers, parts: list[Part], channels: Sequence[Channel], joiners: list[Joiner], first: int
+    workers: Workers, parts: list[Part], channels: Sequence[Channel], joiners: list[Joiner], first: int
 ) -> Iterator[list[Joined]]:
     """Yields what each part adds to each channel, from one of them on."""
     for part in parts[first:]:
@@ -145,19 +132,16 @@ def joined_channels(
         yield [joiner.join(part, one, part is parts[-1]) for joiner, one in zip(joiners, heard)]
 
 
-Both = Alone | Handed
-
-
 @contextlib.contextmanager
 def workers_for(
-    recording: Recording, handset: Handset, parts: list[Part], count: int, scheduler: str | None
-) -> Iterator[Both]:
+    recording: Recording, parts: list[Part], count: int, scheduler: str | None, look: Callable[[], None] = nothing
+) -> Iterator[Workers]:
     """Yields `count` workers of this machine, this process if it is 1, or those of a scheduler."""
     if scheduler is None and count == 1:
-        yield Alone(recording, handset, parts)
+        yield Alone(recording, parts, look)
         return
     with connected(scheduler, count) as client:
-        handed = Handed(recording, handset, parts, client)
+        handed = Handed(recording, parts, client, look)
         try:
             yield handed
         finally:
@@ -165,14 +149,23 @@ def workers_for(
 
 
 def hear_recording(
-    recording: Recording, channels: Sequence[Channel], seconds: float, count: int, scheduler: str | None
+    recording: Recording,
+    channels: Sequence[Channel],
+    seconds: float,
+    count: int,
+    scheduler: str | None,
+    look: Callable[[], None] = nothing,
+    show: Callable[..., Any] = bar,
 ) -> bool:
-    """Listens to channels of a recording, in parts of `seconds`; returns whether a pilot was found."""
+    """Listens to channels of a recording, in parts of `seconds`; returns whether a pilot was found.
+
+    `look` is called now and then, and may raise to break the listening off. `show` makes the bar of progress.
+    """
     parts, is_heard = parts_of(recording, seconds), False
-    with workers_for(recording, channels[0].handset, parts, count, scheduler) as workers:
+    with workers_for(recording, parts, count, scheduler, look) as workers:
         joiners, first = start_of(parts, channels, workers)
         is_heard = first > 0
-        with bar(total=len(parts) - first, text="parts", unit="") as shown:
+        with show(total=len(parts) - first, text="parts", unit="") as shown:
             for joined in joined_channels(workers, parts, channels, joiners, first):
                 write_joined(channels, joiners, joined)
                 is_heard = is_heard or joined[0].is_heard

@@ -17,6 +17,7 @@ from cdma_tools.json_lines import LONGEST, as_json, as_line
 from cdma_tools.lines import NoLine
 from cdma_tools.listening.everything import CarrierListening, live_listening
 from cdma_tools.listening.line_writer import Already
+from cdma_tools.listening.options import counts_of, lock_options, shifts_of, source_of
 from cdma_tools.listening.parts import Recording
 from cdma_tools.radio.search_policy import policy_of
 from cdma_tools.report.heard_lines import is_lines
@@ -86,16 +87,16 @@ def middle_of(options: argparse.Namespace) -> float | None:
 
 def tell_listening(options: argparse.Namespace, outbox: Outbox, store: ChipStore) -> str:
     """Listens, and returns how it ended in words; refuses a source in which no pilot was found."""
-    wanted, source = listen.channels_wanted(options), listen.source_of(options)
+    wanted, source = listen.channels_wanted(options), source_of(options)
     is_live = not isinstance(source, Recording)
     stream: Stream
     if isinstance(source, Recording):
         lock, stream = source.lock, PacedRecording.of(source, options.speed)
     else:
-        lock, stream = listen.lock_options(options, source.kind, source.rate, is_live=is_live), source
+        lock, stream = lock_options(options, source.kind, source.rate, is_live=is_live), source
     outbox.may_wait = not is_live
     outbox.tell("source", rate=float(stream.rate), type=stream.kind, frequency=middle_of(options))
-    writers = PageWriters(outbox, listen.counts_of(options))
+    writers = PageWriters(outbox, counts_of(options))
     first, *others = listen.places_of(options)
     watched = WatchedStream(lock, first, wanted, outbox, ChipKeeper(store), writers)
     lives = [live_listening(replace(lock, shift=place.carrier), place, wanted, writers) for place in others]
@@ -103,7 +104,7 @@ def tell_listening(options: argparse.Namespace, outbox: Outbox, store: ChipStore
     everything.hear(stream, NoOutput())
     if not any(live.listening.is_heard for live in (watched, *lives)):
         policy = policy_of(options)
-        raise Refused(f"no pilot stands out anywhere {policy.searched(listen.shifts_of(options)[0])}{policy.advice}")
+        raise Refused(f"no pilot stands out anywhere {policy.searched(shifts_of(options)[0])}{policy.advice}")
     return watched.summary()
 
 

@@ -7,6 +7,7 @@ import json
 import os
 import socket
 import struct
+import subprocess
 import threading
 import time
 import unittest
@@ -15,7 +16,7 @@ from datetime import datetime, timedelta, timezone
 from pathlib import Path
 from typing import Any
 
-from tools.tests.helping import needs, run_tool, temporary_folder
+from tools.tests.helping import PYTHON, ROOT, needs, run_tool, temporary_folder
 
 needs("numpy", "scipy")
 
@@ -33,12 +34,22 @@ SECONDS = 15  # for which something that has to happen is waited for
 
 
 def processes() -> set[int]:
-    """Returns the processes that this one has begun and that aren't gone."""
+    """Returns the processes that this one has begun and that aren't gone.
+
+    Python's own resource tracker is left out: it lives as long as a process that once began others.
+    """
     found: set[int] = set()
     for task in os.listdir("/proc/self/task"):
         with contextlib.suppress(OSError):
             found |= set(map(int, Path(f"/proc/self/task/{task}/children").read_text().split()))
-    return found
+    return {process for process in found if b"resource_tracker" not in command_line(process)}
+
+
+def command_line(process: int) -> bytes:
+    """Returns the command line of a process, none if it is gone."""
+    with contextlib.suppress(OSError):
+        return Path(f"/proc/{process}/cmdline").read_bytes()
+    return b""
 
 
 class Heard(unittest.TestCase):
@@ -92,6 +103,25 @@ class Heard(unittest.TestCase):
             told = EPOCH + timedelta(seconds=0.08 * one["time"] - one["lp"])
             self.assertLess(timedelta(), told - datetime.fromisoformat(one["time_utc"]))
             self.assertLess(told - datetime.fromisoformat(one["time_utc"]), timedelta(seconds=0.5))
+        self.assert_nothing_is_left()
+
+    def test_workers(self) -> None:
+        """Two processes give the same events, to a script that isn't made for processes too, and end when closed."""
+        needs("distributed")
+        script = self.folder / "script.py"
+        with cdma.programs.script_of_model() as program:
+            script.write_text(
+                f"import cdma\ncdma.use_program({program!r})\n"
+                f"print(*cdma.listen({str(self.meta)!r}, workers=2, **{NEAR}), sep='\\n')\n"
+            )
+            ran = subprocess.run([PYTHON, "-B", script], env={**os.environ, "PYTHONPATH": ROOT}, capture_output=True)
+        with cdma.listen(self.meta, **NEAR) as alone:
+            wanted = [str(event) for event in alone]
+        self.assertEqual((ran.stdout.decode().splitlines(), ran.stderr), (wanted, b""))
+        closed = cdma.listen(self.meta, workers=2, **NEAR)
+        threading.Timer(0.5, closed.close).start()
+        self.assertLessEqual(len(list(closed)), 4)
+        closed.close()  # waits until the other thread has closed it
         self.assert_nothing_is_left()
 
     def test_streams(self) -> None:
@@ -187,8 +217,11 @@ class Heard(unittest.TestCase):
             "type": lambda: cdma.listen(self.blocks(), rate=RATE, type="cu8"),
             "row": lambda: cdma.listen(self.meta, esn=1, row=32),
             "esn": lambda: cdma.listen(self.meta, esn="xyz", row=3),
-            "paging": lambda: cdma.listen(self.meta, paging=8),
+            "paging": lambda: cdma.listen(self.meta, paging="all"),  # type: ignore[arg-type]
             "gain": lambda: cdma.listen(self.meta, gain=3),
+            "workers": lambda: cdma.listen(self.meta, workers=65),
+            "channel": lambda: cdma.listen("rtl_tcp://127.0.0.1:1", rate=RATE, channel=1_199),
+            "band": lambda: cdma.listen("rtl_tcp://127.0.0.1:1", rate=RATE, band=800),
             "source": lambda: cdma.listen("-", type="cu8", rate=RATE),
         }.items():
             with self.subTest(name), self.assertRaises(cdma.ParameterError) as caught:

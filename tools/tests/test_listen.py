@@ -39,7 +39,7 @@ from cdma_tools.listening.line_writer import Already, LineWriter
 from cdma_tools.listening.listening import Anchor, Listening
 from cdma_tools.listening.parts import Joiner, Part, PartHeard, Recording, part_at, parts_of
 from cdma_tools.listening.pieces import Unheard
-from cdma_tools.listening.sharing import joined_parts
+from cdma_tools.listening.sharing import Channel, joined_channels
 from cdma_tools.sources.backlog import Backlog, Skipped
 from cdma_tools.sources.rtl_tcp import Server as RadioServer
 from cdma_tools.sources.rtl_tcp import ServerReader
@@ -507,6 +507,10 @@ class FakeWorkers:
         """Returns the number that a part gives to the chip at a second."""
         return round(second * CHIP_RATE * (1 - 5e-6)) - 32_768 * 37 * number + 5
 
+    def heard_by(self, number: int, handsets: tuple[Handset, ...]) -> list[PartHeard]:
+        """Returns what each handset receives."""
+        return [self.heard(number, handset.row) for handset in handsets]
+
     def heard(self, number: int, row: int | None) -> PartHeard:
         """Returns sync messages and frames; the bits of each frame give the row and the second."""
         self.asked.append((number, row))
@@ -569,7 +573,8 @@ class RuleTest(unittest.TestCase):
     def joined(self, workers: FakeWorkers) -> list[Event]:
         """Returns the lines of all parts, with numbers from the recording's start."""
         events = []
-        for joined in joined_parts(workers, workers.parts, Joiner(10), 0):
+        channels = [Channel(Handset("-", esn="00c0ffee", row=10), LineWriter(lambda data: None, False, {}))]
+        for (joined,) in joined_channels(workers, workers.parts, channels, [Joiner(10)], 0):
             events += [Event(event.chip - joined.origin, event.line) for event in joined.events]
         self.assertEqual([event.chip for event in events], sorted(event.chip for event in events))
         return events
