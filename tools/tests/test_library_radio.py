@@ -1,8 +1,11 @@
 """What `cdma` does with recordings and frames: the same as the commands, with parameters that are checked."""
 
+import contextlib
 import json
 import os
+import socket
 import subprocess
+import threading
 import unittest
 from collections.abc import Callable
 from pathlib import Path
@@ -15,6 +18,7 @@ needs("numpy", "scipy")
 import numpy  # noqa: E402
 
 import cdma  # noqa: E402
+import cdma.programs  # noqa: E402
 from tools.tests.test_library import choose  # noqa: E402
 
 LINK = [
@@ -98,6 +102,69 @@ class Radio(Recorded):
         self.assertAlmostEqual(lock.carrier_hz, 1_500, delta=3)
         self.assertEqual((len(lock.chips), lock.chips.dtype), (100_000, numpy.dtype(numpy.int8)))
 
+    def test_lock_with_checks(self) -> None:
+        """The flags are those that the command tries, and so is its remark."""
+        path = self.folder / "checked.is95"
+        with cdma.programs.script_of_model() as program:
+            words = ("--lock", "--count", 400_000, "--checks", "auto", "--program", program, self.meta, path)
+            status, _, said = run_inside("import_capture", *words)
+        self.assertEqual(status, 0, said)
+        lock = cdma.lock(self.meta, count=400_000, checks="auto")
+        self.assertEqual(said.splitlines()[1:], [f"import_capture: {remark}" for remark in lock.remarks])
+        self.assertRegex(lock.remarks[-1], "30-bit checks are assumed to be plain: 1 messages pass")
+        self.assertEqual(lock.chips.tolist(), cdma.load(path).tolist())
+
+    def test_lock_to_a_live_source(self) -> None:
+        """Some seconds are taken of a server, and stay there for the code domain."""
+        data = self.meta.with_suffix(".sigmf-data").read_bytes()
+        with socket.create_server(("127.0.0.1", 0)) as server:
+
+            def serve() -> None:
+                with server.accept()[0] as connection, contextlib.suppress(OSError):
+                    connection.sendall(data)
+
+            threading.Thread(target=serve, daemon=True).start()
+            address = f"tcp://127.0.0.1:{server.getsockname()[1]}"
+            lock = cdma.lock(address, type="cu8", rate=2_400_000, seconds=0.2)
+        self.assertAlmostEqual(len(lock.chips) / 1_228_800, 0.2, delta=0.001)
+        self.assertAlmostEqual(cdma.code_domain(lock).figures["carrier_hz"], 1_500, delta=5)
+
+    def test_import(self) -> None:
+        """The chips, the scale and the remarks are those of the command without a lock."""
+        path, samples = self.folder / "plain.is95", self.folder / "plain.ci16"
+        cdma.record(self.chips[:2_000], rate=2 * 1_228_800).save(samples)
+        cases: list[tuple[list[object], dict[str, Any]]] = [
+            (["--sum", "--offset", 1, "--scale", 0.5], {"sum": True, "offset": 1, "scale": 0.5}),
+            (["--scale", "fit", "--format", 2, "--complement-16"], {"scale": "fit", "bits": 8, "complement_16": True}),
+            (["--shift", "1e5", "--count", 900], {"shift": 1e5, "count": 900}),
+        ]
+        for words, given in cases:
+            with self.subTest(words):
+                told = ("--type", "ci16_le", "--rate", 2 * 1_228_800, samples, path)
+                status, _, said = run_inside("import_capture", *words, *told)
+                self.assertEqual(status, 0, said)
+                found = cdma.import_capture(samples, type="ci16_le", rate=2 * 1_228_800, **given)
+                found.chips.save(self.folder / "copy.is95")
+                self.assertEqual((self.folder / "copy.is95").read_bytes(), path.read_bytes())
+                self.assertIn(f" scale {found.scale:.9g}, ", said)
+                self.assertEqual(found.remarks, ())
+
+    def test_limits(self) -> None:
+        """The standard's limits are those of the command; the carrier's needs the frequency of the middle."""
+        words = (self.meta, "--limits", "--channel", 283, "--json", "-")
+        status, text, said = run_inside("domain", *words)
+        self.assertEqual(status, 1, said)
+        wanted = json.loads(text)["limits"]
+        found = cdma.code_domain(self.locked, limits=True, channel=283).limits
+        self.assertEqual([limit.name for limit in found], [one["name"] for one in wanted])
+        self.assertEqual([limit.is_met for limit in found], [not one["said"] for one in wanted])
+        self.assertIn(False, [limit.is_met for limit in found])
+        for limit, one in zip(found, wanted):
+            self.assertAlmostEqual(limit.value, one["value"], places=6)
+        left_out = cdma.code_domain(self.locked, limits=True).limits[-1].left_out
+        self.assertIn("the recording's frequency isn't known", left_out)
+        self.assertEqual(list(cdma.code_domain(self.chips).limits), [])
+
     def test_code_domain(self) -> None:
         """The figures are those of the command's JSON, of a recording and of a sample file."""
         sources: list[tuple[cdma.Lock | cdma.Chips, Path]] = [
@@ -133,6 +200,15 @@ class Radio(Recorded):
             ("conjugate", lambda: cdma.lock(self.meta, conjugate="perhaps")),
             ("bits", lambda: cdma.lock(self.meta, bits=9)),
             ("fingers", lambda: cdma.lock(self.meta, fingers=4)),
+            ("checks", lambda: cdma.lock(self.meta, checks="plain")),
+            ("recording", lambda: cdma.lock("-", type="cu8", rate=2e6)),
+            ("frequency", lambda: cdma.lock(self.meta, frequency=1e9)),
+            ("scale", lambda: cdma.import_capture(self.recording, scale="best")),
+            ("offset", lambda: cdma.import_capture(self.recording, offset=-1)),
+            ("bits", lambda: cdma.import_capture(self.recording, bits=9)),
+            ("frequency", lambda: cdma.code_domain(self.chips, frequency=1e9)),
+            ("channel", lambda: cdma.code_domain(self.locked, channel=800)),
+            ("band", lambda: cdma.code_domain(self.locked, channel=1, band=900)),
         ]
         for name, call in calls:
             with self.subTest(name), self.assertRaises(cdma.ParameterError) as caught:
@@ -229,6 +305,19 @@ class Frames(unittest.TestCase):
         self.assertEqual(sync.name, "sync")
         with self.assertRaisesRegex(cdma.Error, "no channel is sent on row 7"):
             cdma.margin(self.cell, rows=[7])
+
+    def test_margin_of_a_file(self) -> None:
+        """Which frames of chips are covered, from chips and from their file."""
+        status, text, said = run_inside("margin", "--json", "--file", self.path, self.folder / "call.script")
+        self.assertEqual(status, 0, said)
+        wanted = [json.loads(line) for line in text.decode().splitlines()]
+        files: tuple[Path | cdma.Chips, ...] = (self.path, self.chips)
+        for file in files:
+            found = cdma.margin(self.cell, file=file)
+            self.assertEqual([vars(row) for row in found], wanted)
+            self.assertTrue(all(row.frames == row.covered > 0 for row in found))
+        with self.assertRaisesRegex(cdma.Error, "100,000 samples, but the script's cell sends 860,160"):
+            cdma.margin(self.cell, file=self.chips[:100_000])
 
 
 class Plots(unittest.TestCase):
