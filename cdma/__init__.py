@@ -9,7 +9,8 @@
 
 The functions run the program `cdma_replay`, which is found as the tools find it, or the Python model after
 `cdma.use_model()`. They print nothing and set no signal handlers. Parameters have the names and bounds of the options
-(docs/FORMATS.md). Each error is a `cdma.Error`, whose text is the line that a tool prints.
+(docs/FORMATS.md). Each error is a `cdma.Error`, whose text is the line that a tool prints. A wrong parameter is a
+`cdma.ParameterError`.
 
 Names without an underscore here are public, and change only with the major version.
 """

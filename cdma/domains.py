@@ -36,8 +36,8 @@ class CodeDomain:
     `frames`, shape (n, 64), has the power of each row in each frame of 20 ms in dB of the frame's power. `kinds` are
     `pilot`, `sync`, `paging`, `other` and `none`; a row is called paging if the program decodes a message on it.
     `rho` is the cell's share of all power, and `error_vector` the root mean square of the error relative to what is
-    sent. `figures` has all figures of `tools/domain` by their names. `limits` compares the cell with the standard's
-    limits, if that was asked for.
+    sent. `figures` has all figures of `tools/domain` by their names. `limits` has the
+    standard's, if they were asked for.
     """
 
     rho: float
@@ -85,11 +85,10 @@ def code_domain(
 
     For a lock to the strongest cell, the figures also have what the radio adds: carrier, clock, paths and imbalance.
     With `limits` the cell is compared with the standard's limits (C.S0010): each has a `value`, its `bound`, and
-    whether it `is_met`. That of the carrier needs the frequency of the recording's middle: its own, `frequency` in Hz,
-    or that of a `channel` of a `band`, 800 (default) or 1900.
+    whether it `is_met`. The carrier's needs the recording's middle, unless a .sigmf-meta has it: `frequency` in Hz, or
+    a `channel` of a `band`, 800 (default) or 1900.
 
-    Raises `cdma.Error` if there are too few chips, or no pilot stands out, and `cdma.ParameterError` for a wrong
-    parameter.
+    Raises `cdma.Error` if there are too few chips, or no pilot stands out.
 
     >>> cell = cdma.Cell(pn=3, gain=100, samples=122_880)
     >>> cell.add_sync(gain=50)

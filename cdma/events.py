@@ -27,8 +27,7 @@ class Event(Unread):
     `time_utc` is the time of its `at` in UTC, such as 2026-11-29T18:43:11.123456Z. Only events of `cdma.listen` have
     it, from the first message with a time on.
 
-    An event that comes from a run keeps its line, and reads all fields when one of them is asked for the first time:
-    that raises `cdma.Error` if the line is none of the program's.
+    The fields of a line are read when one is first asked for, which raises `cdma.Error` if the program wrote no line.
     """
 
     first: ClassVar[str]

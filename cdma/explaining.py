@@ -81,7 +81,7 @@ def explain(
     2). Frames of the sync channel are counted from the first that begins in the chips, the others from the mark, which
     the first sync message sets. The model computes the steps, so no program is needed.
 
-    Raises `cdma.ParameterError` for a wrong parameter, and `cdma.Error` if there is no such frame.
+    Raises `cdma.Error` if there is no such frame.
 
     >>> cell = cdma.Cell(pn=511, samples=204_800)
     >>> cell.add_sync()
@@ -163,11 +163,10 @@ def margin(
     `rows`. A row has the channel's `name`, `row`, `gain` and `amplitude`, its `margin` in units of a sample's parts,
     and the margin's shares of the channel's amplitude and of the whole signal's.
 
-    With `file`, chips or the path of a sample file, the rows say instead which frames of these chips come back in any
-    case: how many there are, how many are `covered`, and the `least` soft value times its sent sign.
+    With `file`, chips or the path of a sample file, a row is a `cdma.Signs`: which frames of these chips come back in
+    any case.
 
-    Raises `cdma.Error` if a channel bears no noise or isn't sent, or if chips aren't the cell's, and
-    `cdma.ParameterError` for a wrong span.
+    Raises `cdma.Error` if a channel bears no noise or isn't sent, or if chips aren't the cell's.
 
     >>> cell = cdma.read_script(examples / "second_of_paging.script")
     >>> [(row.name, row.margin) for row in cdma.margin(cell)][1:]

@@ -113,12 +113,11 @@ def import_capture(
 ) -> Imported:
     """Returns the chips of a recording whose carrier and clock are right, without a lock.
 
-    `recording`, `type`, `rate`, `capture`, `skip`, `count`, `bits`, the flags and what tunes a radio are those of
-    `cdma.lock`. At a multiple of the chip rate one sample of each chip is taken, number `offset`, or with `sum` the sum
-    of the chip's samples. At any other rate above it the recording is resampled. `shift` removes a carrier. `scale`
-    multiplies the samples: a number, or `fit` for the greatest one that fits.
+    Parameters that `cdma.lock` has too are the same. At a multiple of the chip rate one sample of each chip is taken,
+    number `offset`, or with `sum` the sum of the chip's samples. At any other rate above it the recording is resampled.
+    `shift` removes a carrier. `scale` multiplies the samples: a number, or `fit` for the greatest one that fits.
 
-    Raises `cdma.ParameterError` for a wrong parameter, and `cdma.Error` if the recording can't be taken.
+    Raises `cdma.Error` if the recording can't be taken.
 
     >>> chips = cdma.make(cdma.Cell(pn=3, samples=2_048))
     >>> samples = numpy.repeat(chips.as_complex(), 2)  # two samples for each chip

@@ -109,9 +109,8 @@ class EventWriter(LineWriter):
 class Listening:
     """An iterator over what is heard; a thread listens meanwhile.
 
-    It may be iterated in one thread and closed in another. `close()` breaks the listening off, as do the end of a
-    `with` block, an interrupt, and dropping it. `finish()` takes no more samples and decodes those that have come.
-    `remarks` has what the tool would say on standard error, such as losses of samples; the last 1,000 are kept.
+    It may be iterated in one thread and closed in another. The end of a `with` block, an interrupt, and dropping it
+    close it too.
     """
 
     def __init__(self, box: Mailbox, thread: threading.Thread) -> None:
@@ -150,7 +149,7 @@ class Listening:
 
     @property
     def remarks(self) -> list[str]:
-        """What the tool would say on standard error, each with the second of the recording."""
+        """What the tool would say on standard error, such as losses of samples; the last 1,000 are kept."""
         return [f"at {remark.seconds:.4f} s: {remark.text}" for remark in list(self._remarks)]
 
     def finish(self) -> None:
@@ -308,17 +307,16 @@ def listen(
     - an open file that gives bytes of `type` at `rate`
     - a callable that gives the next samples at `rate`: a row of complex numbers, or None at the end
 
-    A radio is tuned by `frequency` in Hz, or by a `channel` of a `band`, and by `gain` in dB, `ppm`, `bias_tee` and
-    `agc`. The other parameters are those of `cdma.follow` and `cdma.lock`, and count over the whole source. A file of
-    samples is listened to in parts of `part` seconds (default 600), whose events come at their ends. Parts are shared
-    by `workers` processes, 1 to 64 (default 1), or by those of a `scheduler` of dask.distributed.
+    The other parameters are those of `cdma.follow` and `cdma.lock`, and count over the whole source. A file of samples
+    is listened to in parts of `part` seconds (default 600), whose events come at their ends. Parts are shared by
+    `workers` processes, 1 to 64 (default 1), or by those of a `scheduler` of dask.distributed.
 
     Events are those of `cdma.follow`, with two differences: `at` counts chips from the start of the source, and
     `time_utc` has the time. A source that can't wait loses samples if the events aren't taken in time; a remark says
     how many. With `cdma.use_model()` events come only when a run of the model ends.
 
-    Raises `cdma.ParameterError` for a wrong parameter, and `cdma.Error` if the source can't be opened. Iterating raises
-    `cdma.Error` if the source fails or no pilot stands out, and what a callable raises.
+    Raises `cdma.Error` if the source can't be opened, and while it is iterated if the source fails or no pilot stands
+    out. What a callable raises comes through.
 
     >>> cell = cdma.Cell(pn=3, samples=983_040)
     >>> cell.add_sync()

@@ -111,8 +111,8 @@ def lock(
     """Returns the lock to the strongest pilot of a recording, or to another cell of it.
 
     `recording` is a `cdma.Recording`, or the path of a `.sigmf-meta`, a `.sigmf`, a `.wav`, or of raw samples of `type`
-    and `rate`. It may also be an array of complex numbers, shape (n,), with `rate`, or the address of a live source, as
-    `cdma.listen` takes it, with `rate`. The other parameters are the options of `tools/import_capture --lock`:
+    and `rate`. It may also be an array of complex numbers, shape (n,), or the address of a live source, both with
+    `rate`. The other parameters are the options of `tools/import_capture --lock`:
 
     - `seconds` is how much is taken of a live source, 28 by default. A radio is tuned by `frequency` in Hz, or by a
       `channel` of a `band`, and by `gain` in dB, `ppm`, `bias_tee` and `agc`.
@@ -124,7 +124,7 @@ def lock(
     - `cell`, from 1 on, takes the cell of that rank without the stronger ones; `pn` takes the one of a pilot offset.
     - `cells` also fills the table of that many cells, which takes longer.
 
-    Raises `cdma.ParameterError` for a wrong parameter, and `cdma.Error` if no pilot stands out or a file can't be read.
+    Raises `cdma.Error` if no pilot stands out or a file can't be read.
 
     >>> cell = cdma.Cell(pn=3, samples=614_400)
     >>> recording = cdma.record(cdma.make(cell), type="cu8", carrier=1500, clock_ppm=3, ec_io=-6)

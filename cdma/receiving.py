@@ -37,7 +37,7 @@ def find(chips: Source, *, span: Number = SPAN, workers: Number | None = None) -
     `chips` are samples, or the path of a sample file. `span` is 64 to 32,768. `workers`, 1 to 64, is the number of
     threads of the search, and does not change its result.
 
-    Raises `cdma.FileError` if there are fewer samples than `span`, and `cdma.ParameterError` for a wrong parameter.
+    Raises `cdma.FileError` if there are fewer samples than `span`.
 
     >>> cdma.find(examples / "pilot_in_noise.is95")
     Pilot(phase=12345, energy=21272219170)
@@ -78,11 +78,9 @@ def survey(
 class Run:
     """What a handset hears: an iterator over events, which come while the program still reads the chips.
 
-    A run keeps no events but their lines, in a temporary file if they have more than 64 KiB: so it can be iterated
-    again, each line comes once from the program, and memory stays flat however long it is. `close()` ends the program,
-    in any thread; so does the end of a `with` block, an interrupt, and dropping the run.
-
-    An event costs some 1 µs of processor time, and 6 to 15 µs more when one of its fields is asked for.
+    A run keeps lines, in a temporary file from 64 KiB on: it can be iterated again, and memory stays flat. The end of a
+    `with` block, an interrupt, and dropping the run close it. An event costs some 1 µs of processor time, and 6 to 15
+    µs more if its fields are read.
     """
 
     def __init__(self, running: Running) -> None:
@@ -131,7 +129,7 @@ class Run:
         self._status = self._running.finish(*GOOD)
 
     def close(self) -> None:
-        """Ends the program if it still runs; the events that came stay."""
+        """Ends the program if it still runs, in any thread; the events that came stay."""
         if self._status is None:
             self._running.stop()
             with self._lock:
@@ -211,8 +209,8 @@ def follow(
     decode as well. `pilots`, `messages`, `frames` and `raw` are the numbers of events after which those of a kind are
     left out, without a limit by default; `raw` is 0 by default. `span` and `workers` are those of `cdma.find`.
 
-    Raises `cdma.ParameterError` for a wrong parameter. Iterating the run raises `cdma.FileError` if there are fewer
-    samples than `span`, or if the file has a fault at its end.
+    Iterating the run raises `cdma.FileError` if there are fewer samples than `span`, or if the file has a fault at its
+    end.
 
     >>> cell = cdma.Cell(pn=511, samples=400_000)
     >>> cell.add_sync()

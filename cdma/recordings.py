@@ -37,7 +37,7 @@ class Recording:
     """Samples that a radio took: `samples` of them, `rate` a second, stored as `type`.
 
     `cut` is the number of parts that were cut at full scale, and `truth` the parameters of the recording as
-    name=value. The samples are in a temporary file, which goes with the recording.
+    name=value.
     """
 
     def __init__(self, file: IO[bytes], type: str, rate: Fraction, cut: int, truth: str, meta: dict[str, Any]) -> None:
@@ -49,7 +49,7 @@ class Recording:
 
     @property
     def path(self) -> str:
-        """The path of the raw samples, for as long as the recording is there."""
+        """The path of the raw samples, which are in a temporary file as long as the recording is there."""
         return open_path(self._file)
 
     def as_complex(self) -> NDArray[numpy.complex64]:
@@ -123,9 +123,8 @@ def record(
 ) -> Recording:
     """Returns the recording that a radio takes of chips, or of several cells, without noise unless it is asked for.
 
-    `chips` are samples, the path of a sample file, or a list of cells, the wanted one first. Each of these is chips or
-    a path, or a tuple of it with its level in dB and its delay in chips. The parameters are the options of
-    `tools/channel`:
+    `chips` are samples, the path of a sample file, or a list of cells, the wanted one first. The other parameters are
+    the options of `tools/channel`:
 
     - `rate` is in samples per second, and `type` a sample type of SigMF, such as `cu8`.
     - `carrier` is in Hz above the middle, and `drift` in Hz per second.
@@ -139,7 +138,7 @@ def record(
       sends with the base station's phase equaliser. `lose` has tuples of a sample and the number lost from there on.
     - `seed` chooses the noise, the fading and the carrier's phase. `seconds` is the greatest length.
 
-    Raises `cdma.ParameterError` for a wrong parameter, and `cdma.Error` if there can be no such recording.
+    Raises `cdma.Error` if there can be no such recording.
 
     >>> cell = cdma.Cell(pn=511, samples=61_440)
     >>> recording = cdma.record(cdma.make(cell), type="cu8", carrier=1500, clock_ppm=3, ec_io=-9)

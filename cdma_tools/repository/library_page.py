@@ -7,6 +7,7 @@ import argparse
 import ast
 import importlib
 import inspect
+import itertools
 import os
 import re
 import sys
@@ -35,6 +36,8 @@ GROUPS = {
     "The program": ("use_model", "use_program"),
     "Errors": ("Error", "ParameterError", "FileError", "ScriptError", "NoProgramError"),
 }  # fmt: skip
+# Parts of classes that serve only the tools.
+INSIDE = ("kept", "analysis", "checks", "compared", "result", "as_json", "line")
 # Classes whose objects a user makes.
 MADE = ("Cell",)
 # Public names that the page's head describes.
@@ -94,11 +97,18 @@ class Constants(ast.NodeTransformer):
 
 
 def call_text(name: str, node: ast.FunctionDef, module: ModuleType) -> str:
-    """Returns how a function is called, one parameter to a line if it is long."""
+    """Returns how a function is called, one parameter to a line if it is long.
+
+    A default other than None says the type of a parameter by itself.
+    """
     for place, default in enumerate(node.args.kw_defaults):
         node.args.kw_defaults[place] = default and Constants(module).visit(default)
-    arguments = ast.unparse(node.args).removeprefix("self, ").removeprefix("self").removeprefix("cls, ")
-    result = f" -> {ast.unparse(node.returns)}".replace("'", "") if node.returns and node.name != "__init__" else ""
+    for argument, value in zip(node.args.kwonlyargs, node.args.kw_defaults):
+        if isinstance(value, ast.Constant) and value.value not in (None, ...):
+            argument.annotation = None
+    arguments = ast.unparse(node.args).replace(" | ", "|").removeprefix("self, ").removeprefix("self").removeprefix("cls, ")
+    returned = ast.unparse(node.returns).strip("'").replace(" | ", "|") if node.returns else "None"
+    result = "" if returned == "None" else f" -> {returned}"
     text = f"{name}({arguments}){result}"
     if len(text) <= WIDTH:
         return text
@@ -121,20 +131,26 @@ def as_page(text: str) -> str:
     return "\n".join(lines) + "\n"
 
 
-def members(node: ast.ClassDef, module: ModuleType) -> Iterator[str]:
-    """Yields the parts of a class: its fields in a block, and each public method and property."""
+def field_lines(node: ast.ClassDef) -> Iterator[str]:
+    """Yields the fields of a class, those of one type after another in a line."""
     fields = [
-        f"{ast.unparse(one.target)}: {ast.unparse(one.annotation)}"
+        (ast.unparse(one.target), ast.unparse(one.annotation).replace(" | ", "|"))
         for one in node.body
         if isinstance(one, ast.AnnAssign) and "ClassVar" not in ast.unparse(one.annotation)
-        and ast.unparse(one.target) not in ("kept", "analysis", "checks")
+        and ast.unparse(one.target) not in INSIDE
     ]  # fmt: skip
-    if fields:
-        yield code("\n".join(fields))
+    for kind, group in itertools.groupby(fields, lambda field: field[1]):
+        yield f"{', '.join(name for name, _ in group)}: {kind}"
+
+
+def members(node: ast.ClassDef, module: ModuleType) -> Iterator[str]:
+    """Yields the parts of a class: its fields in a block, and each public method and property."""
+    if fields := "\n".join(field_lines(node)):
+        yield code(fields)
     for one in node.body:
-        if isinstance(one, ast.FunctionDef) and not one.name.startswith("_"):
+        if isinstance(one, ast.FunctionDef) and not one.name.startswith("_") and one.name not in INSIDE:
             is_property = any(ast.unparse(it) == "property" for it in one.decorator_list)
-            told = f"{one.name}: {ast.unparse(one.returns)}" if is_property and one.returns else ""
+            told = f"{one.name}: {ast.unparse(one.returns)}".replace(" | ", "|") if is_property and one.returns else ""
             told = told or call_text(one.name, one, module)
             yield code(f"{node.name}.{told}") + "\n" + as_page(ast.get_docstring(one) or "")
 

@@ -30,8 +30,8 @@ class Page(unittest.TestCase):
 
     def test_signatures_name_values(self) -> None:
         text = library_page.page()
-        for part in ("cdma.find(chips: Source, *, span: Number=2048, workers: Number | None=None) -> Pilot",
-                     "    lc: HexNumber=2199023255552,\n", "Run.to_pandas(kind: str) -> Any"):  # fmt: skip
+        for part in ("cdma.find(chips: Source, *, span=2048, workers: Number|None=None) -> Pilot",
+                     "    lc=2199023255552,\n", "Run.to_pandas(kind: str) -> Any"):  # fmt: skip
             self.assertIn(part, text)
 
 
