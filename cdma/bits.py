@@ -7,6 +7,7 @@ import numpy
 from numpy.typing import ArrayLike, NDArray
 
 from cdma.errors import ParameterError
+from cdma.parameters import instance_of
 from cdma_tools.scripting import beginning
 from cdma_tools.scripting.values import BitText, Wrong
 
@@ -23,7 +24,7 @@ def bits(text: str) -> NDArray[numpy.uint8]:
     array([1, 1, 1, 1, 1, 1, 1, 1, 1, 1], dtype=uint8)
     """
     try:
-        return numpy.array([int(bit) for bit in ANY_COUNT.read(text)], numpy.uint8)
+        return numpy.array([int(bit) for bit in ANY_COUNT.read(instance_of("text", text, str))], numpy.uint8)
     except Wrong as why:
         raise ParameterError("text", str(why)) from None
 

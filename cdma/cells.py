@@ -9,7 +9,7 @@ from cdma.bits import Bits, bit_text
 from cdma.chips import Chips, read_samples
 from cdma.errors import ParameterError, ScriptError, as_errors
 from cdma.events import html_table
-from cdma.parameters import HexNumber, Number, hex_text, number_within, whole
+from cdma.parameters import HexNumber, Number, hex_text, instance_of, number_within, parts_of, path_of, whole
 from cdma.running import Running
 from cdma_tools.heard_run import CHIP_RATE
 from cdma_tools.margins import name_of
@@ -88,7 +88,7 @@ class Cell:
         >>> cdma.Cell.from_script(cdma.Cell(pn=3).script())
         <Cell: pn=3; pilot; 1 s>
         """
-        return cell_of(script.encode("utf-8", "surrogateescape"), NAME)
+        return cell_of(instance_of("script", script, str).encode("utf-8", "surrogatepass"), NAME)
 
     def _check(self) -> None:
         """Raises ScriptError if the channels don't go together."""
@@ -142,7 +142,7 @@ class Cell:
         sends its pages again and again.
         """
         head = named_line("paging", statements.PAGING, {"channel": channel, "gain": gain})
-        self._add("paging", [head, *(page_line(page) for page in pages)])
+        self._add("paging", [head, *map(page_line, parts_of("pages", pages))])
 
     def add_traffic(
         self,
@@ -169,7 +169,7 @@ class Cell:
         head = named_line(
             "traffic", statements.TRAFFIC, {"row": row, "esn": esn, "offset": offset, "gain": gain}
         )
-        self._add("traffic", [head, *(frame_line(frame) for frame in frames)])
+        self._add("traffic", [head, *map(frame_line, parts_of("frames", frames))])
 
     def script(self) -> str:
         """Returns the script of the cell."""
@@ -179,7 +179,8 @@ class Cell:
 
     def save(self, path: str | os.PathLike[str]) -> None:
         """Writes the script into a file, completely or not at all; raises `cdma.Error` if that fails."""
-        with as_errors(), write_beside(os.fspath(path)) as file:
+        name = path_of("path", path)
+        with as_errors(), write_beside(name) as file:
             file.write(self.script().encode())
 
     def describe(self, bits: int = 16) -> str:
@@ -327,8 +328,9 @@ def read_script(path: str | os.PathLike[str]) -> Cell:
     >>> cdma.read_script(examples / "second_of_paging.script")
     <Cell: pn=511; pilot, sync, paging 1; 1 s>
     """
+    name = path_of("path", path)
     with as_errors():
-        return cell_of(read_within(os.fspath(path), checking.MOST_BYTES + 1), os.fspath(path))
+        return cell_of(read_within(name, checking.MOST_BYTES + 1), name)
 
 
 def width_of(bits: object) -> int:
@@ -351,7 +353,7 @@ def make(cell: Cell, *, bits: Number = 16) -> Chips:
     (100, 100)
     """
     width = width_of(bits)
-    script = cell.script().encode()
+    script = instance_of("cell", cell, Cell).script().encode()
     if faults := checking.check(script, width):
         raise ScriptError(faults, NAME)
     running = Running(["make", "--bits", str(width)], [script])

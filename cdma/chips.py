@@ -8,7 +8,7 @@ import numpy
 from numpy.typing import ArrayLike, NDArray
 
 from cdma.errors import FileError, ParameterError, as_errors
-from cdma.parameters import number_within
+from cdma.parameters import number_within, path_of
 from cdma_model.files import PART, BadFile, read_header
 from cdma_tools.heard_run import CHIP_RATE
 from cdma_tools.sample_header import HEADER, MOST_CHIPS, header
@@ -38,7 +38,7 @@ class Chips(numpy.ndarray[Any, Signed]):
 
     def __new__(cls, samples: ArrayLike, checks: int = 0) -> "Chips":
         """Takes whole numbers of shape (n, 2)."""
-        array = whole_parts(numpy.asarray(samples), "samples")
+        array = whole_parts(array_of(samples, "samples"), "samples")
         chips = numpy.ascontiguousarray(array).view(cls)
         chips.checks = number_within("checks", checks, 0, 3)
         return chips
@@ -104,8 +104,21 @@ def whole_parts(array: NDArray[Any], name: str) -> NDArray[Any]:
 
 def chips_of(samples: Samples, name: str = "chips") -> Chips:
     """Returns samples as chips."""
-    array = whole_parts(numpy.asarray(samples), name)
+    array = whole_parts(array_of(samples, name), name)
     return restored(array, getattr(samples, "checks", 0))
+
+
+def array_of(samples: object, name: str) -> NDArray[Any]:
+    """Returns samples as an array; raises ParameterError if their rows differ in length."""
+    try:
+        return numpy.asarray(samples)
+    except ValueError:
+        raise ParameterError(name, f"an array of shape (n, 2) is needed, not {samples!r:.60}") from None
+
+
+def loaded(source: Source, name: str = "chips") -> Chips:
+    """Returns chips as they are, or those of the sample file at a path."""
+    return load(path_of(name, source)) if isinstance(source, (str, os.PathLike)) else chips_of(source, name)
 
 
 def file_pieces(chips: Chips) -> Iterator[bytes | memoryview]:
@@ -145,11 +158,12 @@ def load(path: str | os.PathLike[str]) -> Chips:
     >>> cdma.load(examples / "pilot_in_noise.is95")
     <Chips: 4,096 samples of 16 bits, 0.00333 s, checks=0>
     """
-    with as_errors(), open(path, "rb") as file:
+    name = path_of("path", path)
+    with as_errors(), open(name, "rb") as file:
         try:
             return read_samples(file)
         except FileError as why:
-            raise FileError(why.kind, why.place, os.fspath(path)) from None
+            raise FileError(why.kind, why.place, name) from None
 
 
 def save(chips: Samples, path: str | os.PathLike[str]) -> None:
@@ -163,6 +177,7 @@ def save(chips: Samples, path: str | os.PathLike[str]) -> None:
     [[100, -100], [3, 4]]
     """
     pieces = file_pieces(chips_of(chips))
-    with as_errors(), write_beside(os.fspath(path)) as file:
+    name = path_of("path", path)
+    with as_errors(), write_beside(name) as file:
         for piece in pieces:
             file.write(piece)

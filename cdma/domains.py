@@ -10,11 +10,11 @@ from typing import Any
 import numpy
 from numpy.typing import NDArray
 
-from cdma.chips import Source, save
+from cdma.chips import Source, chips_of, save
 from cdma.errors import ParameterError, as_errors
 from cdma.events import Table, html_table
 from cdma.locking import Lock
-from cdma.parameters import parsed, words_of
+from cdma.parameters import instance_of, parsed, path_of, words_of
 from cdma.programs import path_or_none
 from cdma_tools.analysis.limits import Limit, limits_of
 from cdma_tools.analysis.measuring import Analysis, analysis_of_chips, analysis_of_file, seen_lock
@@ -100,6 +100,7 @@ def code_domain(
     >>> [limit.name for limit in domain.limits if limit.is_met and not limit.left_out]
     ['rho', 'unused', 'time', 'phase']
     """
+    instance_of("limits", limits, bool)
     middle = middle_of(source, {"frequency": frequency, "channel": channel, "band": band})
     with as_errors():
         analysis = analysed(source)
@@ -123,10 +124,10 @@ def middle_of(source: Lock | Source, given: dict[str, object]) -> float | None:
 def analysed(source: Lock | Source) -> Analysis:
     """Returns the analysis of a lock, of chips or of a file."""
     if isinstance(source, (str, os.PathLike)):
-        return analysis_of_file(os.fspath(source), path_or_none(), lambda part, text: None)
-    with tempfile.TemporaryDirectory(prefix="domain-") as folder:
-        path = os.path.join(folder, "cell.is95")
-        save(source.chips if isinstance(source, Lock) else source, path)
+        return analysis_of_file(path_of("source", source), path_or_none(), lambda part, text: None)
+    with tempfile.TemporaryDirectory(prefix="domain-") as folder, as_errors(folder):
+        path = os.path.join(folder, "chips.is95")
+        save(source.chips if isinstance(source, Lock) else chips_of(source, "source"), path)
         if isinstance(source, Lock) and source.kept.held is not None:
             return analysis_of_lock(source, path)
         return analysis_of_file(path, path_or_none(), lambda part, text: None)

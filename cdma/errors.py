@@ -1,6 +1,7 @@
 """Errors of the library: each is one line, as the tools print it, and keeps what a program may ask of it."""
 
 import contextlib
+import os
 import re
 from collections.abc import Iterator, Sequence
 
@@ -58,12 +59,15 @@ class ScriptError(Error):
 
 
 @contextlib.contextmanager
-def as_errors() -> Iterator[None]:
-    """Turns what the tools refuse, and faults of the system, into errors of the library."""
+def as_errors(folder: str = "") -> Iterator[None]:
+    """Turns what the tools refuse, and faults of the system, into errors of the library.
+
+    Files in a temporary `folder` are named without it.
+    """
     try:
         yield
     except (Refused, WrongArguments) as why:
-        raise Error(str(why)) from None
+        raise Error(str(why).replace(os.path.join(folder, ""), "") if folder else str(why)) from None
     except OSError as why:
         raise Error(text_of(why)) from why
 

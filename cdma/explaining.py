@@ -9,10 +9,10 @@ import numpy
 from numpy.typing import NDArray
 
 from cdma.cells import Cell
-from cdma.chips import Source, chips_of, load
+from cdma.chips import Source, loaded
 from cdma.errors import Error, FileError, ParameterError, as_errors
 from cdma.events import Table
-from cdma.parameters import HexNumber, Number, hex_text, number_within
+from cdma.parameters import HexNumber, Number, hex_text, instance_of, number_within, parts_of
 from cdma_model.files import Capture
 from cdma_model.handset import Assigned
 from cdma_model.script import read_script as read_cell
@@ -93,7 +93,7 @@ def explain(
     """
     searched = number_within("span", span, 64, 32_768)
     paths, index = number_within("fingers", fingers, 1, 3), number_within("frame", frame, 0, 1 << 20)
-    if channel not in CHANNELS:
+    if not isinstance(channel, str) or channel not in CHANNELS:
         raise ParameterError("channel", f"one of {', '.join(CHANNELS)} is needed, not {channel!r:.60}")
     number = number_within("paging", paging, 1, 7)
     assigned = assigned_of(esn, row, offset) if channel == "traffic" else None
@@ -121,9 +121,9 @@ def assigned_of(esn: HexNumber | None, row: Number | None, offset: Number) -> As
     return Assigned(serial, place, number_within("offset", offset, 0, 15))
 
 
-def capture_of(source: Source, span: int) -> Capture:
+def capture_of(source: Source, span: int, name: str = "chips") -> Capture:
     """Returns chips as the model has them; raises FileError if there are fewer than a search takes."""
-    chips = chips_of(load(source) if not isinstance(source, numpy.ndarray) else source)
+    chips = loaded(source, name)
     if len(chips) < span:
         raise FileError("too few", 8)
     return Capture(bool(chips.checks & 1), bool(chips.checks & 2), len(chips), chips.as_complex(), None)
@@ -177,9 +177,11 @@ def margin(
     [('sync', 1, 1)]
     """
     searched = number_within("span", span, 64, 32_768)
-    script, text = read_script(cell.script(), "the cell"), cell.script().encode()
+    wanted = None if rows is None else [number_within("rows", row, 0, 63) for row in parts_of("rows", rows)]
+    spelled = instance_of("cell", cell, Cell).script()
+    script, text = read_script(spelled, "the cell"), spelled.encode()
     with as_errors():
         if file is None:
-            return Table(all_margins(script, read_cell(text), searched, rows))
-        names = {row: name_of(script, row) for row in rows_sent(script, rows)}
-        return Table(signs(capture_of(file, searched), read_cell(text), searched, names)[1])
+            return Table(all_margins(script, read_cell(text), searched, wanted))
+        names = {row: name_of(script, row) for row in rows_sent(script, wanted)}
+        return Table(signs(capture_of(file, searched, "file"), read_cell(text), searched, names)[1])

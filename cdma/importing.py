@@ -8,12 +8,12 @@ from dataclasses import dataclass
 from fractions import Fraction
 from typing import Any
 
-import numpy
 from numpy.typing import NDArray
 
-from cdma.chips import Chips, read_samples
+from cdma.cells import width_of
+from cdma.chips import Chips, array_of, read_samples
 from cdma.errors import ParameterError, as_errors
-from cdma.parameters import parsed, words_of
+from cdma.parameters import parsed, path_of, words_of
 from cdma.programs import path_or_none, script_of_model
 from cdma.recordings import Recording
 from cdma_tools.analysis.capture_chips import write_plain
@@ -39,17 +39,19 @@ class Imported:
 def as_path(recording: RecordingSource, given: dict[str, object]) -> Iterator[tuple[str, object]]:
     """Yields the path of a recording, with what keeps it; adds its type and its rate to the parameters."""
     if isinstance(recording, (str, os.PathLike)):
-        if (path := os.fspath(recording)) == STANDARD:
+        if (path := path_of("recording", recording)) == STANDARD:
             raise ParameterError("recording", "a path is needed, not -")
         yield path, None
         return
     if given["type"] is not None:
         raise ParameterError("type", "a path needs it; other recordings have their own")
     if isinstance(recording, Recording):
+        if given["rate"] is not None:
+            raise ParameterError("rate", "a recording has its own")
         given |= {"type": recording.type, "rate": recording.exact_rate}
         yield recording.path, recording
         return
-    array = numpy.asarray(recording)
+    array = array_of(recording, "recording")
     if array.ndim != 1 or array.dtype.kind != "c":
         shape = f"{array.dtype} of shape {array.shape}"
         raise ParameterError("recording", f"a row of complex numbers is needed, not {shape}")
@@ -71,8 +73,7 @@ def import_options(
 
     The options have the program if they need it.
     """
-    if bits not in FORMATS:
-        raise ParameterError("bits", f"8 or 16 is needed, not {bits!r:.60}")
+    width = width_of(bits)
     with contextlib.ExitStack() as stack:
         path, source = stack.enter_context(as_path(recording, given))
         if given["checks"] is not None or given.get("pn") is not None:
@@ -80,7 +81,7 @@ def import_options(
         elif given.get("cells") is not None:
             given["program"] = path_or_none()
         parser = command.parser()
-        options = parsed(parser, [*words_of({**given, "format": FORMATS[bits]}), *words, "--", path, STANDARD])
+        options = parsed(parser, [*words_of({**given, "format": FORMATS[width]}), *words, "--", path, STANDARD])
         command.check_words(parser, options)
         with as_errors():
             yield options, source

@@ -16,7 +16,7 @@ from numpy.typing import NDArray
 
 from cdma.errors import Error, ParameterError, as_errors
 from cdma.events import Event, event_of
-from cdma.parameters import HexNumber, Number, hex_text, number_within, parsed, words_of
+from cdma.parameters import HexNumber, Number, hex_text, number_within, parsed, path_of, words_of
 from cdma.programs import script_of_model
 from cdma_tools.commands import listen as command
 from cdma_tools.errors import Refused, text_of
@@ -336,6 +336,8 @@ def listen(
         "scheduler": scheduler,
     }  # fmt: skip
     is_path = isinstance(source, (str, os.PathLike))
+    if not is_path and not callable(source) and not hasattr(source, "read"):
+        raise ParameterError("source", f"a path, an open file or a callable is needed, not {source!r:.60}")
     if not is_path and rate is None:
         raise ParameterError("rate", "an open file or a callable needs it")
     if not is_path and callable(source):
@@ -343,7 +345,7 @@ def listen(
             raise ParameterError("type", "blocks of complex numbers have their own")
         given["type"] = "cf32_le"
     with contextlib.ExitStack() as stack:
-        path = os.fspath(source) if isinstance(source, (str, os.PathLike)) else STANDARD
+        path = path_of("source", source) if isinstance(source, (str, os.PathLike)) else STANDARD
         program = stack.enter_context(script_of_model())
         parser = command.parser()
         options = parsed(parser, [*words_of(given), f"--program={program}", "--", path])

@@ -3,9 +3,10 @@
 import argparse
 import numbers
 import operator
+import os
 import re
-from collections.abc import Mapping
-from typing import Any, NoReturn, SupportsIndex
+from collections.abc import Iterable, Mapping
+from typing import Any, NoReturn, SupportsIndex, TypeVar
 
 from cdma.errors import ParameterError, as_errors
 from cdma_tools.scripting import arguments
@@ -13,6 +14,7 @@ from cdma_tools.scripting.values import Wrong
 
 Number = SupportsIndex  # int, and numpy's whole numbers
 HexNumber = SupportsIndex | str  # a number, or its hex digits
+Kind = TypeVar("Kind")
 
 
 def whole(name: str, value: object) -> int:
@@ -29,6 +31,30 @@ def number_within(name: str, value: object, least: int, most: int) -> int:
     if not least <= number <= most:
         raise ParameterError(name, f"{number} is out of range ({least:,} to {most:,})")
     return number
+
+
+def path_of(name: str, value: object) -> str:
+    """Returns a path as text; raises ParameterError for anything that isn't one."""
+    path = os.fspath(value) if isinstance(value, (str, os.PathLike)) else None
+    if not isinstance(path, str):
+        raise ParameterError(name, f"a path is needed, not {value!r:.60}")
+    if "\0" in path:
+        raise ParameterError(name, "a path has no zero character")
+    return path
+
+
+def instance_of(name: str, value: object, kind: type[Kind]) -> Kind:
+    """Returns a value of a type; raises ParameterError if it is of another one."""
+    if not isinstance(value, kind):
+        raise ParameterError(name, f"a {kind.__name__} is needed, not {value!r:.60}")
+    return value
+
+
+def parts_of(name: str, value: object) -> list[Any]:
+    """Returns the parts of a list or of another iterable; raises ParameterError for a text and for anything else."""
+    if isinstance(value, (str, bytes)) or not isinstance(value, Iterable):
+        raise ParameterError(name, f"a list is needed, not {value!r:.60}")
+    return list(value)
 
 
 def hex_text(name: str, value: object, digits: int) -> str:
@@ -76,15 +102,15 @@ def parsed(parser: Any, words: list[str]) -> argparse.Namespace:
     return options
 
 
-def words_of(values: Mapping[str, object]) -> list[str]:
-    """Returns parameters as options of a command line: none for None and False, one for each part of a list."""
+def words_of(values: Mapping[str, object], *repeated: str) -> list[str]:
+    """Returns parameters as options of a command line: none for None and False, one for each part of a repeated one."""
     words = []
     for name, value in values.items():
         option = f"--{name.replace('_', '-')}"
         if value is True:
             words.append(option)
-        elif isinstance(value, list):
-            words += [f"{option}={text_of(part)}" for part in value]
+        elif name in repeated:
+            words += [f"{option}={text_of(part)}" for part in parts_of(name, value)]
         elif value is not None and value is not False:
             words.append(f"{option}={text_of(value)}")
     return words

@@ -11,7 +11,7 @@ from typing import Any
 
 import numpy
 
-from cdma.chips import Source, chips_of, load, save
+from cdma.chips import Source, loaded, save
 from cdma.domains import CodeDomain
 from cdma.errors import Error, ParameterError
 from cdma.locking import Lock
@@ -41,7 +41,7 @@ def chips_in(source: Source | Lock) -> Any:
     """Returns the chips of a lock, of an array or of a file."""
     if isinstance(source, Lock):
         return source.chips
-    return chips_of(source) if isinstance(source, numpy.ndarray) else load(source)
+    return loaded(source)
 
 
 def correlation(chips: Source | Lock, *, span: Number = 2_048, axes: Any = None) -> Any:

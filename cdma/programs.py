@@ -10,8 +10,9 @@ from dataclasses import dataclass
 
 import cdma_model
 from cdma.errors import NoProgramError, as_errors
+from cdma.parameters import path_of
 from cdma_tools.errors import Refused
-from cdma_tools.program import NAME, VARIABLE, checked_program, find_program
+from cdma_tools.program import MODEL, NAME, VARIABLE, checked_program, find_program
 
 NOT_FOUND = (
     f"no {NAME}: ${VARIABLE} names none, none is built in this checkout, and none is on the path. Install the package"
@@ -45,8 +46,13 @@ def use_model() -> None:
 
     >>> cdma.use_model()
     """
+    _chosen[:] = [model_program()]
+
+
+def model_program() -> Program:
+    """Returns the model as a program."""
     folder = os.path.dirname(os.path.dirname(os.path.abspath(str(cdma_model.__file__))))
-    _chosen[:] = [Program("the model", (sys.executable, "-B", "-P", "-m", "cdma_model"), folder)]
+    return Program("the model", (sys.executable, "-B", "-P", "-m", "cdma_model"), folder)
 
 
 def use_program(path: str | os.PathLike[str] | None = None) -> None:
@@ -59,13 +65,15 @@ def use_program(path: str | os.PathLike[str] | None = None) -> None:
     cdma.errors.Error: no program at /no/such/program
     """
     with as_errors():
-        _chosen[:] = [] if path is None else [Program(NAME, (checked_program(os.fspath(path)),))]
+        _chosen[:] = [] if path is None else [Program(NAME, (checked_program(path_of("path", path)),))]
 
 
 def chosen() -> Program:
     """Returns the program to run; raises NoProgramError if there is none."""
     if _chosen:
         return _chosen[0]
+    if os.environ.get(VARIABLE) == MODEL:
+        return model_program()
     try:
         return Program(NAME, (find_program(None),))
     except Refused as why:

@@ -8,13 +8,15 @@ from types import TracebackType
 from typing import IO, Any
 
 from cdma.chips import Source, chips_of, file_pieces
-from cdma.errors import Error, as_errors
-from cdma.events import Event, Pilot, Rank, Table, event_of, html_table
+from cdma.errors import Error, ParameterError, as_errors
+from cdma.events import KINDS, Event, Pilot, Rank, Table, event_of, html_table
 from cdma.keeping import KeptLines, text_lines
-from cdma.parameters import HexNumber, Number, option_words
+from cdma.parameters import HexNumber, Number, option_words, path_of, whole
 from cdma.running import Piece, Running, lines_of
+from cdma_tools.csv_lines import KINDS as LINES
 
 SPAN = 2_048
+TABLES = tuple(sorted({*KINDS, *(kind for kind in LINES if kind.split("-")[0] in KINDS)}))  # kinds of events
 GOOD = (0, 1)  # statuses of `follow`: 1 means that no sync message was received
 ENDED = -1  # stands for the status of a run that has a fault
 
@@ -23,12 +25,13 @@ ENDED = -1  # stands for the status of a run that has a fault
 def opened(source: Source, most: int | None = None) -> Iterator[IO[bytes] | Iterable[Piece]]:
     """Yields what a run reads: the open file of a path, or the bytes of chips, of which `most` are enough."""
     if isinstance(source, (str, os.PathLike)):
+        path = path_of("chips", source)
         with as_errors():
-            file = open(source, "rb")
+            file = open(path, "rb")
         with file:
             yield file
     else:
-        yield file_pieces(chips_of(source if most is None else source[:most]))
+        yield file_pieces(chips_of(chips_of(source)[:most]))
 
 
 def find(chips: Source, *, span: Number = SPAN, workers: Number | None = None) -> Pilot:
@@ -43,7 +46,7 @@ def find(chips: Source, *, span: Number = SPAN, workers: Number | None = None) -
     Pilot(phase=12345, energy=21272219170)
     """
     words = option_words("find", {"span": span, "workers": workers})
-    with opened(chips, int(span)) as source:
+    with opened(chips, whole("span", span)) as source:
         (line,) = lines_of(words, source)
     found = event_of(line)
     assert isinstance(found, Pilot)
@@ -70,7 +73,7 @@ def survey(
     """
     values = {"span": span, "workers": workers, "base": base, "width": width, "top": top}
     words = option_words("survey", values)
-    with opened(chips, int(span)) as source:
+    with opened(chips, whole("span", span)) as source:
         lines = lines_of(words, source)
     return Table(rank for rank in map(event_of, lines) if isinstance(rank, Rank))
 
@@ -156,6 +159,8 @@ class Run:
 
         The kinds are those of `tools/lines --csv`; a kind without a hyphen has all its messages.
         """
+        if not isinstance(kind, str) or kind not in TABLES:
+            raise ParameterError("kind", f"one of {', '.join(TABLES)} is needed, not {kind!r:.60}")
         return Table(event for event in self if kind in (event.kind, event.first))
 
     def to_pandas(self, kind: str) -> Any:
@@ -222,7 +227,7 @@ def follow(
     >>> run.table("sync")[0].time
     1007
     """
-    if esn is None and row is None and offset == 0:
+    if esn is None and row is None and offset is not None and whole("offset", offset) == 0:
         offset = None
     values = {"esn": esn, "row": row, "offset": offset, "fingers": fingers, "paging": paging, "span": span}
     limits = {"pilots": pilots, "messages": messages, "frames": frames, "raw": raw}

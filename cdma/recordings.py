@@ -13,7 +13,7 @@ from numpy.typing import NDArray
 
 from cdma.chips import Source, save
 from cdma.errors import ParameterError, as_errors
-from cdma.parameters import parsed, words_of
+from cdma.parameters import parsed, parts_of, path_of, words_of
 from cdma_tools import sigmf
 from cdma_tools.commands.channel import parser
 from cdma_tools.radio.channel import record as record_link
@@ -59,7 +59,7 @@ class Recording:
 
     def save(self, path: str | os.PathLike[str]) -> None:
         """Writes a `.sigmf-meta` and the `.sigmf-data` next to it, or raw samples if the path ends otherwise."""
-        name = os.fspath(path)
+        name = path_of("path", path)
         is_described = name.endswith(sigmf.META)
         self._file.seek(0)
         with as_errors():
@@ -81,7 +81,7 @@ def cell_words(cells: Sequence[CellSource], folder: str) -> list[str]:
     for number, cell in enumerate(cells, 1):
         source, *more = cell if isinstance(cell, tuple) else (cell,)
         if isinstance(source, (str, os.PathLike)):
-            name = os.fspath(source)
+            name = path_of("chips", source)
         else:
             name = os.path.join(folder, f"cell{number}.is95")
             save(source, name)
@@ -146,20 +146,23 @@ def record(
     <Recording: 119,962 samples of cu8, 2,400,000 a second, 0.05 s>
     """
     cells = list(chips) if isinstance(chips, (list, tuple)) else [chips]
+    if not cells:
+        raise ParameterError("chips", "a list of cells has at least one")
+    losses = [tuple(parts_of("lose", loss)) for loss in parts_of("lose", lose)]
     values: dict[str, object] = {
         "rate": rate, "type": type, "carrier": carrier, "drift": drift, "clock": clock_ppm, "clock_drift": clock_drift,
-        "delay": delay, "dc": dc, "iq": tuple(iq), "level": level, "conjugate": conjugate, "equaliser": equaliser,
-        "lose": [tuple(loss) for loss in lose], "paths": paths_text(paths), "ec_io": ec_io, "eb_nt": eb_nt,
+        "delay": delay, "dc": dc, "iq": tuple(parts_of("iq", iq)), "level": level, "conjugate": conjugate,
+        "equaliser": equaliser, "lose": losses, "paths": paths_text(paths), "ec_io": ec_io, "eb_nt": eb_nt,
         "seed": seed, "seconds": seconds,
     }  # fmt: skip
     with tempfile.TemporaryDirectory(prefix="cdma-") as folder:
-        words = [*words_of(values), "--", *cell_words(cells, folder), "recording" + sigmf.META]
+        words = [*words_of(values, "lose"), "--", *cell_words(cells, folder), "recording" + sigmf.META]
         try:
             options = parsed(parser(), words)
         except ParameterError as why:
             name = "clock_ppm" if why.parameter == "clock" else why.parameter
             raise ParameterError(name, str(why).partition(": ")[2]) from None
-        with as_errors(), contextlib.closing(link_of(options)) as link:
+        with as_errors(folder), contextlib.closing(link_of(options)) as link:
             with contextlib.ExitStack() as kept:
                 file = kept.enter_context(tempfile.TemporaryFile())
                 made = record_link(link, radio_of(options), chips_of(options, link), file)

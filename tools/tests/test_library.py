@@ -298,6 +298,9 @@ class Commands(unittest.TestCase):
         self.assertEqual({line.split(" ")[0] for line in wanted}, {event.first for event in run})
         self.assertEqual(len(run.table("frame")), sum(line.startswith("frame ") for line in wanted))
         self.assertEqual(run.counts()["frame"], len(run.table("frame")))
+        self.assertEqual(len(run.table("paging")), sum(line.startswith("paging ") for line in wanted))
+        with self.assertRaisesRegex(cdma.ParameterError, "^kind: one of frame, paging, paging-channels, "):
+            run.table("frames")
         self.assertEqual([str(event) for event in run], wanted)
 
     def test_no_sync_message(self) -> None:
@@ -561,6 +564,13 @@ class Choice(unittest.TestCase):
             os.environ["CDMA_REPLAY"] = "/no/such/program"
             with self.assertRaisesRegex(cdma.NoProgramError, r"/no/such/program, which \$CDMA_REPLAY names"):
                 cdma.find(Path(EXAMPLES, "pilot_in_noise.is95"))
+
+    def test_the_variable_names_the_model(self) -> None:
+        """It runs without a remark."""
+        code = f"import cdma\nprint(cdma.find({os.path.join(EXAMPLES, 'pilot_in_noise.is95')!r}).phase)\n"
+        environment = {**os.environ, "CDMA_REPLAY": "model"}
+        ran = subprocess.run([PYTHON, "-B", "-c", code], cwd=ROOT, env=environment, capture_output=True, text=True)
+        self.assertEqual((ran.stdout, ran.stderr), ("12345\n", ""))
 
     def test_the_model_in_any_folder(self) -> None:
         """A folder `cdma_model` of the user's is not taken for the model."""

@@ -221,6 +221,10 @@ class Radio(Recorded):
             cdma.lock(noise, rate=1_228_800 * 2, search=1_000, conjugate="no")
         with self.assertRaisesRegex(cdma.Error, "No such file"):
             cdma.lock(self.folder / "none.sigmf-meta")
+        with self.assertRaisesRegex(cdma.Error, "^chips.is95: 64 chips are too few"):
+            cdma.code_domain(self.chips[:64])
+        with self.assertRaisesRegex(cdma.Error, "^cell2.is95: not a cell|^cell2.is95: no samples"):
+            cdma.record([self.chips, self.chips[:0]])
 
     def test_nothing_is_printed(self) -> None:
         """Neither on standard output nor on standard error, of the whole way from a cell to its code domain."""
