@@ -25,16 +25,20 @@ class SampleFile:
         except OSError as why:
             raise Refused(f"{path}: {why.strerror}") from None
         try:
-            told = read_header(head, path)
+            self.read_header(head, size)
         except Refused:
             self.file.close()
             raise
+
+    def read_header(self, head: bytes, size: int) -> None:
+        """Takes the header of a file of `size` bytes; refuses one that doesn't belong to the file."""
+        told = read_header(head, self.path)
         self.version, self.flags, self.count = told.version, told.flags, told.count
         self.size = SAMPLE_BYTES[self.version]
         if size != told.file_bytes:
-            raise Refused(f"{path}: its header says {self.count} samples, but it has another number of them")
+            raise Refused(f"{self.path}: its header says {self.count} samples, but it has another number of them")
         if not self.count:
-            raise Refused(f"{path}: no samples")
+            raise Refused(f"{self.path}: no samples")
 
     def close(self) -> None:
         """Closes the file."""

@@ -1,6 +1,7 @@
 """Options of a link and of a radio, and the link and the radio that they describe."""
 
 import argparse
+import contextlib
 import math
 import os
 from collections.abc import Iterator
@@ -127,12 +128,14 @@ def radio_of(options: argparse.Namespace) -> Radio:
 
 def link_of(options: argparse.Namespace) -> Link:
     """Returns the link of the options."""
-    link = Link([cell_of(text) for text in options.files], options.paths, options.seed)
-    try:
+    with contextlib.ExitStack() as opened:
+        cells: list[Cell] = []
+        for text in options.files:
+            cells.append(cell_of(text))
+            opened.callback(cells[-1].file.close)
+        link = Link(cells, options.paths, options.seed)
         add_noise(options, link)
-    except Refused:
-        link.close()
-        raise
+        opened.pop_all()  # from here on the link closes them
     return link
 
 

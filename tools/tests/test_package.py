@@ -527,7 +527,8 @@ class Parts(Installed):
         words = [PYTHON, "-c", code, os.path.join(ROOT, "examples", "pilot_in_noise.is95")]
         told = subprocess.run(words, capture_output=True, text=True, env=run, cwd=self.work, timeout=60)
         self.assertEqual(told.stdout, f"12345 {os.path.join(where, 'cdma', '__init__.py')}\n", told.stderr)
-        self.assertTrue(os.path.exists(os.path.join(where, "cdma", "py.typed")))
+        for name in ("cdma", "cdma_model", "cdma_tools"):  # so that a user's script has the types of all
+            self.assertTrue(os.path.exists(os.path.join(where, name, "py.typed")), name)
         self.assertEqual({name for name in os.listdir(where) if "." not in name}, {"cdma", "cdma_model", "cdma_tools"})
         for place in (place for name in ("cdma", "cdma_model", "cdma_tools") for place in tree.files_below(name)):
             self.assertTrue(os.path.exists(os.path.join(where, place)), place)
