@@ -3,6 +3,7 @@ use Rattle.cdma_replay.proofs.Common.{◌≡◌, ℕ, List, [], Option, None, Re
 use Rattle.cdma_replay.proofs.Common.{unread_most, IsEndOf, Job, Make, Trial}
 use Rattle.command_line.specs.declared.job.WordFault.{WordFault}
 use Rattle.run_replies.specs.Runs.{RunsCommand}
+use Rattle.run_replies.specs.Flows.{flow}
 
 -- each job may end out of memory
 job_starves : (job : Job) → IsEndOf job Status.NoMemory
@@ -13,8 +14,8 @@ job_starves job = (tt, λ unheard is. absurd (cc))
 module _ {forms : List ℕ} {named : Option Job} {rest : Option (List ℕ)} {misread : ℕ}
     {SameSource : Type 0} {old : Option (List ℕ)} {miswritten : ℕ} {SameSink : Type 0} where
   pub refused_run : named ≡ None → SameSource → SameSink →
-      RunsCommand forms named Status.BadWords rest rest misread misread SameSource old old miswritten
-      miswritten SameSink SameSink
+      RunsCommand forms named Status.BadWords (flow rest rest misread misread SameSource)
+      (flow old old miswritten miswritten SameSink) SameSink
   refused_run none same kept = record {
     bad_words = (λ is. none, λ is. refl);
     untouched = λ is. (same, kept);
@@ -45,8 +46,8 @@ module _ {forms : List ℕ} {named : Option Job} {rest : Option (List ℕ)} {mis
   -- arguments that couldn't be read because memory ran out are not reported as bad arguments
   pub starved_run : {T : Type 0} (words : Result T WordFault) → words ≡ Err WordFault.OutOfMemory →
       (named ≡ None → words ≡ Err WordFault.Bad) → SameSource → SameSink →
-      RunsCommand forms named Status.NoMemory rest rest misread misread SameSource old old miswritten
-      miswritten SameSink SameSink
+      RunsCommand forms named Status.NoMemory (flow rest rest misread misread SameSource)
+      (flow old old miswritten miswritten SameSink) SameSink
   starved_run words starved bad same kept = record {
     bad_words = (
       λ is. absurd (cc),

@@ -6,6 +6,7 @@ ghost use Rattle.std.specs.Prelude.{IfErr, OnOk, IfSome};
 ghost use Rattle.std.specs.Io.KnownBytes.{IsAtEnd};
 ghost use Rattle.cell_script.specs.declared.script_fault.ScriptFault.{ScriptFault};
 ghost use Rattle.cell_script.specs.Script.{plan_named};
+ghost use Rattle.run_replies.specs.Flows.{flow_of};
 
 mod writing;
 
@@ -91,10 +92,8 @@ fn make_file<S: Source, K: Sink>(
     requires samples { length samples.old ≡ PIECE }
     requires bytes { length bytes.old ≡ 4 * PIECE }
     ensures { MakesFile width (ended result)
-        (S.rest source.old) (S.rest source.new) (S.faults source.old) (S.faults source.new)
-        (source.new ≡ source.old)
-        (K.written sink.old) (K.written sink.new) (K.faults sink.old) (K.faults sink.new)
-        (sink.new ≡ sink.old) }
+        (flow_of S.rest S.faults source.old source.new)
+        (flow_of K.written K.faults sink.old sink.new) }
 {
     let mut cell = open_cell(alloc, width, script, source)?;
     match write_cell(&mut cell, width, samples, bytes, sink) {
@@ -117,10 +116,8 @@ pub fn make<S: Source, K: Sink>(
     sink: &mut K,
 ) -> Result<(), Status>
     ensures { MakesFile width (ended result)
-        (S.rest source.old) (S.rest source.new) (S.faults source.old) (S.faults source.new)
-        (source.new ≡ source.old)
-        (K.written sink.old) (K.written sink.new) (K.faults sink.old) (K.faults sink.new)
-        (sink.new ≡ sink.old) }
+        (flow_of S.rest S.faults source.old source.new)
+        (flow_of K.written K.faults sink.old sink.new) }
 {
     let Workspace {
         mut script,

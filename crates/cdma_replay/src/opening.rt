@@ -152,7 +152,8 @@ fn rank_pilots<R: Threads + Sync, G: Gate + Sync>(
 
 /// Opens the listener of a job, given a file's header and first samples.
 ///
-/// Only the pilot is searched for `find`, and for `make` and `trial`, for which no file is received.
+/// Only the pilot is searched for `find`, and for `make` and `trial`, for which no file is
+/// received.
 pub fn listener_for<R: Threads + Sync, G: Gate + Sync>(
     rt: &R,
     alloc: Global,

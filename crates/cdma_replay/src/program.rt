@@ -9,6 +9,7 @@ ghost use Rattle.std.specs.Process.{exit_status};
 ghost use Rattle.run_replies.specs.Runs.{ExitsBy, IsPassedOn, MayHold, PassesOn, RunsCommand};
 ghost use Rattle.run_replies.specs.Runs.{TellsEnd, each_form};
 ghost use Rattle.run_replies.specs.Status.{code_of};
+ghost use Rattle.run_replies.specs.Flows.{flow_of};
 
 use crate::replaying::replay;
 use cdma_io::{Failed, FileFault, Sink, Source, WriterSink, write_all};
@@ -91,8 +92,7 @@ fn shows_late(fault: FileFault) -> bool
 /// Flushes a sink that may buffer text after a run with this status, and returns the final status.
 /// A sink without text, or whose write failed, is not flushed.
 fn pass_on<K: Output>(status: Status, sink: &mut K) -> Status
-    ensures { PassesOn status result (K.written sink.old) (K.written sink.new)
-        (K.faults sink.old) (K.faults sink.new) (sink.new ≡ sink.old)
+    ensures { PassesOn status result (flow_of K.written K.faults sink.old sink.new)
         (IsTrue (K.is_flushed sink.new)) }
 {
     if !may_hold(status) {
@@ -112,10 +112,9 @@ fn run_tapped<R: Threads + Sync, S: Source, K: Output>(
     taps: Vec<Box<dyn Tap>>,
 ) -> Status
     ensures ran { RunsCommand (map (λ b. shape b) taps.items) (job_named args.now) result
-        (S.rest source.old) (S.rest source.new) (S.faults source.old) (S.faults source.new)
-        (source.new ≡ source.old)
-        (K.written sink.old) (K.written sink.new) (K.faults sink.old) (K.faults sink.new)
-        (sink.new ≡ sink.old) (Keeps (K.written sink.old) (K.written sink.new)) }
+        (flow_of S.rest S.faults source.old source.new)
+        (flow_of K.written K.faults sink.old sink.new)
+        (Keeps (K.written sink.old) (K.written sink.new)) }
     ensures flushed { IsPassedOn result (Rose (K.faults sink.old) (K.faults sink.new))
         (IsTrue (K.is_flushed sink.new)) }
 {
@@ -132,10 +131,9 @@ fn run_args<R: AllocGlobal + Threads + Sync, S: Source, K: Output>(
     sink: &mut K,
 ) -> Result<Status, AllocError>
     ensures ran { IfOk result (λ status. RunsCommand each_form (job_named args.now) status
-        (S.rest source.old) (S.rest source.new) (S.faults source.old) (S.faults source.new)
-        (source.new ≡ source.old)
-        (K.written sink.old) (K.written sink.new) (K.faults sink.old) (K.faults sink.new)
-        (sink.new ≡ sink.old) (Keeps (K.written sink.old) (K.written sink.new))) }
+        (flow_of S.rest S.faults source.old source.new)
+        (flow_of K.written K.faults sink.old sink.new)
+        (Keeps (K.written sink.old) (K.written sink.new))) }
     ensures flushed { IfOk result (λ status.
         IsPassedOn status (Rose (K.faults sink.old) (K.faults sink.new))
         (IsTrue (K.is_flushed sink.new))) }
@@ -182,10 +180,9 @@ fn run_given<R: AllocGlobal + Threads + Sync, S: Source, K: Output>(
     ensures refused { IfErr args (λ status.
         (result ≡ status) × (source.new ≡ source.old) × (sink.new ≡ sink.old)) }
     ensures ran { IfOk args (λ given. RunsCommand each_form (job_named (drop 1 given.items)) result
-        (S.rest source.old) (S.rest source.new) (S.faults source.old) (S.faults source.new)
-        (source.new ≡ source.old)
-        (K.written sink.old) (K.written sink.new) (K.faults sink.old) (K.faults sink.new)
-        (sink.new ≡ sink.old) (Keeps (K.written sink.old) (K.written sink.new))) }
+        (flow_of S.rest S.faults source.old source.new)
+        (flow_of K.written K.faults sink.old sink.new)
+        (Keeps (K.written sink.old) (K.written sink.new))) }
     ensures flushed { IfOk args (λ given.
         IsPassedOn result (Rose (K.faults sink.old) (K.faults sink.new))
         (IsTrue (K.is_flushed sink.new))) }
@@ -205,8 +202,7 @@ fn run_given<R: AllocGlobal + Threads + Sync, S: Source, K: Output>(
 /// Writes the line of a status to standard error, and nothing for [`Status::Done`]. A failure of
 /// that write is ignored, since it cannot be reported.
 fn report<E: Sink>(status: Status, errors: &mut E)
-    ensures { TellsEnd status (E.written errors.old) (E.written errors.new)
-        (E.faults errors.old) (E.faults errors.new) (errors.new ≡ errors.old) }
+    ensures { TellsEnd status (flow_of E.written E.faults errors.old errors.new) }
 {
     if status.is_done() {
         return;
@@ -228,18 +224,15 @@ pub fn run<R: AllocGlobal + Threads + Sync, S: Source, K: Output, E: Sink>(
     // Arguments that weren't given move nothing, and that is told.
     ensures refused { IfErr args (λ status. (exit_status result ≡ code_of status) ×
         (source.new ≡ source.old) × (sink.new ≡ sink.old) ×
-        TellsEnd status (E.written errors.old) (E.written errors.new)
-        (E.faults errors.old) (E.faults errors.new) (errors.new ≡ errors.old)) }
+        TellsEnd status (flow_of E.written E.faults errors.old errors.new)) }
     // The exit status is that of an end with all that `replay` promises of the arguments after the
     // first, with a tap of each form; the end is told, and what was written was passed on.
     ensures ran { IfOk args (λ given. ExitsBy
         (λ status. RunsCommand each_form (job_named (drop 1 given.items)) status
-        (S.rest source.old) (S.rest source.new) (S.faults source.old) (S.faults source.new)
-        (source.new ≡ source.old)
-        (K.written sink.old) (K.written sink.new) (K.faults sink.old) (K.faults sink.new)
-        (sink.new ≡ sink.old) (Keeps (K.written sink.old) (K.written sink.new)))
-        (λ status. TellsEnd status (E.written errors.old) (E.written errors.new)
-        (E.faults errors.old) (E.faults errors.new) (errors.new ≡ errors.old))
+        (flow_of S.rest S.faults source.old source.new)
+        (flow_of K.written K.faults sink.old sink.new)
+        (Keeps (K.written sink.old) (K.written sink.new)))
+        (λ status. TellsEnd status (flow_of E.written E.faults errors.old errors.new))
         (λ status. IsPassedOn status (Rose (K.faults sink.old) (K.faults sink.new))
         (IsTrue (K.is_flushed sink.new)))
         (exit_status result)) }

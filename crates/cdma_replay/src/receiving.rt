@@ -11,6 +11,7 @@ ghost use Rattle.cdma_replay.specs.Listeners.{HasRoom, HearsRest, Listens};
 ghost use Rattle.run_replies.specs.Hearing.{LosesSamples, Listening, end_when, span_of};
 ghost use Rattle.run_replies.specs.Broken.{HearsFirst, IsCut, IsLong, IsUnopened, TakesFew};
 ghost use Rattle.run_replies.specs.Status.{file_status};
+ghost use Rattle.run_replies.specs.Flows.{flow_of};
 
 use crate::listener::Listener;
 use crate::opening::listener_for;
@@ -145,10 +146,8 @@ fn receive_file<R: Threads + Sync, S: Source, K: Sink, T: KeepsTaps, G: Gate + S
     requires piece { length piece.old ≡ 4096 }
     requires kept { All IsKept (T.kept taps) }
     ensures { ReceivesFile (T.kept taps) job (ended result)
-        (S.rest source.old) (S.rest source.new) (S.faults source.old) (S.faults source.new)
-        (source.new ≡ source.old)
-        (K.written sink.old) (K.written sink.new) (K.faults sink.old) (K.faults sink.new)
-        (sink.new ≡ sink.old) }
+        (flow_of S.rest S.faults source.old source.new)
+        (flow_of K.written K.faults sink.old sink.new) }
 {
     let mut reader = open_span(source, span)?;
     let mut listener = listener_for(rt, alloc, job, reader.header(), codes, span, gate)?;
@@ -182,10 +181,8 @@ pub fn receive<R: Threads + Sync, S: Source, K: Sink, T: KeepsTaps, G: Gate + Sy
     requires job { IsLawfulJob job }
     requires kept { All IsKept (T.kept taps) }
     ensures { ReceivesFile (T.kept taps) job (ended result)
-        (S.rest source.old) (S.rest source.new) (S.faults source.old) (S.faults source.new)
-        (source.new ≡ source.old)
-        (K.written sink.old) (K.written sink.new) (K.faults sink.old) (K.faults sink.new)
-        (sink.new ≡ sink.old) }
+        (flow_of S.rest S.faults source.old source.new)
+        (flow_of K.written K.faults sink.old sink.new) }
 {
     let Workspace {
         codes,

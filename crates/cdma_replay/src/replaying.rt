@@ -3,6 +3,7 @@
 ghost use Rattle.cdma_replay.specs.Common.{IsLawfulJob, job_named, ended, RunsJob};
 ghost use Rattle.std.specs.Prelude.{◌≡◌, map};
 ghost use Rattle.run_replies.specs.Runs.{RunsCommand};
+ghost use Rattle.run_replies.specs.Flows.{flow_of};
 
 use crate::making::make;
 use crate::receiving::receive;
@@ -37,10 +38,8 @@ fn run_job<R: Threads + Sync, S: Source, K: Sink, G: Gate + Sync>(
 ) -> Status
     requires { IsLawfulJob job }
     ensures { RunsJob (map (λ b. shape b) taps.items) job result
-        (S.rest source.old) (S.rest source.new) (S.faults source.old) (S.faults source.new)
-        (source.new ≡ source.old)
-        (K.written sink.old) (K.written sink.new) (K.faults sink.old) (K.faults sink.new)
-        (sink.new ≡ sink.old) }
+        (flow_of S.rest S.faults source.old source.new)
+        (flow_of K.written K.faults sink.old sink.new) }
 {
     match job {
         Job::Make { width } => status_of(make(alloc, width, source, sink)),
@@ -85,10 +84,8 @@ pub fn replay<R: Threads + Sync, S: Source, K: Sink, G: Gate + Sync>(
     gate: &G,
 ) -> Status
     ensures { RunsCommand (map (λ b. shape b) taps.items) (job_named args.now) result
-        (S.rest source.old) (S.rest source.new) (S.faults source.old) (S.faults source.new)
-        (source.new ≡ source.old)
-        (K.written sink.old) (K.written sink.new) (K.faults sink.old) (K.faults sink.new)
-        (sink.new ≡ sink.old) (sink.new ≡ sink.old) }
+        (flow_of S.rest S.faults source.old source.new)
+        (flow_of K.written K.faults sink.old sink.new) (sink.new ≡ sink.old) }
 {
     match words_of(alloc, args) {
         Ok(job) => run_job(rt, alloc, job, source, sink, taps, gate),

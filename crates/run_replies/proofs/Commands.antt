@@ -1,4 +1,5 @@
 -- Lemmas on what is promised of a command: a run that does the job that arguments name does their command.
+use Rattle.run_replies.proofs.Common.{Flow}
 use Rattle.run_replies.proofs.Common.{◌≡◌, ◌↔◌, ℕ, ◌⊎◌, List, [], refl, subst, Option, Some, Job, IsLawfulJob, Status, IsEndOf, RunsCommand}
 use Rattle.run_replies.proofs.Common.{RunsJob, Make, Trial, Follow}
 use Rattle.run_replies.proofs.CleanLinks.{each_answer}
@@ -19,13 +20,11 @@ write_fault_end job = (tt, λ unheard is. absurd (cc))
 named_end : {P : Type 0} (job : Job) (status : Status) → IsEndOf job status → status ≡ Status.BadWords → P
 named_end job status end bad = absurd (named_well job (subst (IsEndOf job) bad end))
 
-module _ {rest left : Option (List ℕ)} {misread misread_now : ℕ} {SameSource : Type 0}
-    {old new : Option (List ℕ)} {miswritten miswritten_now : ℕ} {SameSink : Type 0} where
+module _ {source sink : Flow} where
   pub command_run : {forms : List ℕ} {status : Status} {named : Option Job} {one : Job} →
       IsLawfulJob one → named ≡ Some one →
-      RunsJob forms one status rest left misread misread_now SameSource old new miswritten miswritten_now SameSink →
-      RunsCommand forms named status rest left misread misread_now SameSource old new miswritten
-      miswritten_now SameSink SameSink
+      RunsJob forms one status source sink →
+      RunsCommand forms named status source sink sink.Same
   command_run {forms} {status} {named} {one} lawful so ran =
       let run = λ (job : Job) (also : named ≡ Some job). run_of job so also ran in
       let lawful_named = λ (job : Job) (also : named ≡ Some job).

@@ -54,6 +54,7 @@ pub use Rattle.run_replies.specs.Replies.{ReadsInput, ReadsWell, Reply, taps_for
 pub use Rattle.run_replies.specs.Replies.{WritesTaken, WritesWhole}
 pub use Rattle.run_replies.specs.Runs.{IsPassedOn, MayHold, PassesOn, RunsCommand, TellsEnd, each_form}
 pub use Rattle.run_replies.specs.Status.{end_line, file_status}
+pub use Rattle.run_replies.specs.Flows.{Flow, flow}
 pub use Rattle.run_replies.specs.JobRuns.{MakesFile, ReceivesFile, RunsJob}
 unfoldable pub use Rattle.run_replies.specs.Trials.{trial_line}
 pub use Rattle.run_replies.specs.TuningLaw.{HandsetsAreTuned, HandsetsLieOnThePath}

@@ -1,4 +1,5 @@
 -- An input without a fault is read to its end, unless a call on the outside fails or memory runs out.
+use Rattle.run_replies.proofs.Common.{Flow}
 use Rattle.run_replies.proofs.Common.{◌≡◌, ℕ, ◌⊎◌, inl, inr, List, refl, sym, subst, Bool, true, false, Option, None, Some, IfSome, Result}
 use Rattle.run_replies.proofs.Common.{Ok, Err, IsOk, Rose, FileFault, ScriptFault, plan_named, KeptTap, Job, Status, Make, Trial, IsEnd}
 use Rattle.run_replies.proofs.Common.{IsSearchable, end_when, file_end_of, file_text, made_file, Answers, IsEndOf, IsAnswered, IsFileReply}
@@ -87,21 +88,20 @@ told_end forms job status rest old new Failed reads well answered =
     IfSome all (λ bytes. IsAnswered (IsReply forms job bytes) status old new)) known.1 answered)
 
 -- where nothing failed, and memory didn't run out, a run over a good input ends well
-module _ {rest left : Option (List ℕ)} {misread misread_now : ℕ} {SameSource : Type 0}
-    {old new : Option (List ℕ)} {miswritten miswritten_now : ℕ} {SameSink : Type 0} where
+module _ {source sink : Flow} where
   pub complete_answer : (forms : List ℕ) (job : Job) (status : Status) →
-      RunsJob forms job status rest left misread misread_now SameSource old new miswritten
-      miswritten_now SameSink → ReadsWell job rest (Rose misread misread_now) →
-      ¬ (Rose miswritten miswritten_now) → (status ≡ Status.NoMemory) ⊎ IsEnd status
+      RunsJob forms job status source sink → ReadsWell job source.before (Rose source.faults source.faults_after) →
+      ¬ (Rose sink.faults sink.faults_after) → (status ≡ Status.NoMemory) ⊎ IsEnd status
   complete_answer forms job (Status.BadFile fault) run well writes =
-      inr (told_end forms job (Status.BadFile fault) rest old new (Rose misread misread_now)
+      inr (told_end forms job (Status.BadFile fault) source.before sink.before sink.after (Rose source.faults source.faults_after)
       (file_read job fault run.kind) well (run.verdict tt))
   complete_answer forms job (Status.BadScript fault) run well writes =
-      inr (told_end forms job (Status.BadScript fault) rest old new (Rose misread misread_now)
+      inr (told_end forms job (Status.BadScript fault) source.before sink.before sink.after (Rose source.faults source.faults_after)
       (script_read job fault run.kind) well (run.verdict tt))
   complete_answer forms job Status.BadWords run well writes = absurd (named_well job run.kind)
   complete_answer forms job Status.ReadFault run well writes =
-      absurd ((read_well job rest (Rose misread misread_now) (source_read job run.kind) well).3 (run.read_fault refl))
+      absurd ((read_well job source.before (Rose source.faults source.faults_after) (source_read job run.kind) well).3 (run.read_fault
+      refl))
   complete_answer forms job Status.WriteFault run well writes = absurd (writes (run.write_fault refl).0)
   complete_answer forms job Status.NoMemory run well writes = inl refl
   complete_answer forms job good run well writes = inr tt

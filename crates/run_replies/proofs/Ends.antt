@@ -1,4 +1,5 @@
 -- Lemmas on runs that end before the file does, and on runs over a file that nobody hears.
+use Rattle.run_replies.proofs.Common.{Flow, flow}
 use Rattle.run_replies.proofs.Common.{◌≡◌, ℕ, ◌≤◌, ◌++◌, List, refl, ap, arith, ◌∙◌, true, Option, None, Some, IfSome, Result, ◌⊎◌, inl}
 use Rattle.run_replies.proofs.Common.{[], Bool, flat_map, Appends-nil, Sample, Rose, FileFault, ReadFault, Header, header_spelling, Status}
 use Rattle.run_replies.proofs.Common.{sample_spelling, width_of, KeptTap, front_begins, Done, NoSync, BadFile, NoMemory, WriteFault, IsEnd}
@@ -56,13 +57,11 @@ ends_well taps job header first heard told r unheard ends is never =
 
 -- ---- runs that end before the file does
 
-module _ {taps : List KeptTap} {job : Job} {rest left : Option (List ℕ)}
-    {misread misread_now : ℕ} {SameSource : Type 0} {old : Option (List ℕ)} {miswritten : ℕ}
-    {SameSink : Type 0} where
+module _ {taps : List KeptTap} {job : Job} {source : Flow} {old : Option (List ℕ)} {miswritten : ℕ} {SameSink : Type 0} where
   -- memory ran out before anything was written
-  pub starved_file : SameSink → SameSource ⊎ IfSome rest (BeginsFile (span_of job)) →
-      TakesNoMore rest left → misread ≤ misread_now →
-      ReceivesFile taps job NoMemory rest left misread misread_now SameSource old old miswritten miswritten SameSink
+  pub starved_file : SameSink → source.Same ⊎ IfSome source.before (BeginsFile (span_of job)) →
+      TakesNoMore source.before source.after → source.faults ≤ source.faults_after →
+      ReceivesFile taps job NoMemory source (flow old old miswritten miswritten SameSink)
   starved_file kept begun bound later = record {
     done = λ end. absurd end;
     at_end = λ end. absurd end;
@@ -85,15 +84,13 @@ module _ {taps : List KeptTap} {job : Job} {rest left : Option (List ℕ)}
     later_sink = omega arith;
   }
 
-module _ {taps : List KeptTap} {job : Job} {rest left : Option (List ℕ)}
-    {misread misread_now : ℕ} {SameSource : Type 0} {old new : Option (List ℕ)}
-    {miswritten miswritten_now : ℕ} {SameSink : Type 0} where
+module _ {taps : List KeptTap} {job : Job} {source sink : Flow} where
   -- a write failed after a good beginning
-  pub lost_file : IfSome rest (BeginsFile (span_of job)) → Rose miswritten miswritten_now →
-      TakesNoMore rest left → WritesNoMore taps job rest left old new → misread ≤ misread_now →
-      miswritten ≤ miswritten_now →
-      ReceivesFile taps job WriteFault rest left misread misread_now SameSource old new miswritten
-      miswritten_now SameSink
+  pub lost_file : IfSome source.before (BeginsFile (span_of job)) → Rose sink.faults sink.faults_after →
+      TakesNoMore source.before source.after → WritesNoMore taps job source.before source.after sink.before sink.after →
+      source.faults ≤ source.faults_after →
+      sink.faults ≤ sink.faults_after →
+      ReceivesFile taps job WriteFault source sink
   lost_file begun lost bound written later later_sink = record {
     done = λ end. absurd end;
     at_end = λ end. absurd end;
@@ -118,14 +115,12 @@ module _ {taps : List KeptTap} {job : Job} {rest left : Option (List ℕ)}
 
 -- ---- runs that read a lawful script
 
-module _ {width : Width} {rest left : Option (List ℕ)} {misread misread_now : ℕ}
-    {SameSource : Type 0} {old new : Option (List ℕ)} {miswritten miswritten_now : ℕ}
-    {SameSink : Type 0} where
+module _ {width : Width} {source sink : Flow} where
   -- all of its file was written
-  pub made_whole : IfSome rest (λ bytes. WritesMadeFile width bytes old new) → IsAtEnd left →
-      WritesNoMoreMade width rest old new → ConsumesAtMost 1048577 rest left →
-      misread ≤ misread_now → miswritten ≤ miswritten_now →
-      MakesFile width Done rest left misread misread_now SameSource old new miswritten miswritten_now SameSink
+  pub made_whole : IfSome source.before (λ bytes. WritesMadeFile width bytes sink.before sink.after) → IsAtEnd source.after →
+      WritesNoMoreMade width source.before sink.before sink.after → ConsumesAtMost 1048577 source.before source.after →
+      source.faults ≤ source.faults_after → sink.faults ≤ sink.faults_after →
+      MakesFile width Done source sink
   made_whole done ends written bound later later_sink = record {
     done = λ is. done;
     at_end = λ is. ends;
@@ -144,10 +139,10 @@ module _ {width : Width} {rest left : Option (List ℕ)} {misread misread_now : 
   }
 
   -- or a write failed
-  pub made_part : Rose miswritten miswritten_now →
-      IfSome rest (λ bytes. IsOk (plan_named width bytes)) → WritesNoMoreMade width rest old new →
-      ConsumesAtMost 1048577 rest left → misread ≤ misread_now → miswritten ≤ miswritten_now →
-      MakesFile width WriteFault rest left misread misread_now SameSource old new miswritten miswritten_now SameSink
+  pub made_part : Rose sink.faults sink.faults_after →
+      IfSome source.before (λ bytes. IsOk (plan_named width bytes)) → WritesNoMoreMade width source.before sink.before sink.after →
+      ConsumesAtMost 1048577 source.before source.after → source.faults ≤ source.faults_after → sink.faults ≤ sink.faults_after →
+      MakesFile width WriteFault source sink
   made_part lost lawful written bound later later_sink = record {
     done = λ is. absurd (cc);
     at_end = λ is. absurd (cc);

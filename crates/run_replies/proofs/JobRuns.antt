@@ -3,31 +3,28 @@ use Rattle.run_replies.proofs.Common.{◌≡◌, ◌≢◌, ℕ, ◌≤◌, ◌�
 use Rattle.run_replies.proofs.Common.{Width}
 use Rattle.run_replies.proofs.Common.{IfSome_then, Appends, Rose, KeptTap, Job, Status, Make, Trial, IsOfFiles, ended, AnswersAfter}
 use Rattle.run_replies.proofs.Common.{IsAnswered, IsFileEnd, IsFileReply, IsScriptEnd, IsScriptReply, IsReply, IsTrialEnd, IsVerdict, Reply}
-use Rattle.run_replies.proofs.Common.{taps_for, MakesFile, ReceivesFile, RunsJob, trial_line}
+use Rattle.run_replies.proofs.Common.{taps_for, MakesFile, ReceivesFile, RunsJob, Flow, flow, trial_line}
 use Rattle.run_replies.proofs.Bounds.{none_most}
 use Rattle.run_replies.proofs.Replies.{HasTrialCauses, early_by, failed_with, fault_required, made_required, named_well, required_answer}
 use Rattle.run_replies.proofs.Replies.{same_job}
 use Rattle.run_replies.proofs.Replies.{script_cut, script_done, script_fault_required, text_required, trial_done, trial_early}
 use Rattle.run_replies.proofs.Replies.{trial_end, trial_part, trial_verdict}
 
-module _ {rest left : Option (List ℕ)} {misread misread_now : ℕ} {SameSource : Type 0}
-    {old new : Option (List ℕ)} {miswritten miswritten_now : ℕ} {SameSink : Type 0} where
+module _ {source sink : Flow} where
   -- ---- a run over a sample file
 
   file_verdict : (taps : List KeptTap) (job : Job) (status : Status) →
-      ReceivesFile taps job status rest left misread misread_now SameSource old new miswritten
-      miswritten_now SameSink → IsVerdict status →
-      IfSome rest (λ bytes. IsAnswered (IsFileReply taps job bytes) status old new)
-  file_verdict taps job Status.Done run verdict = IfSome_then rest (run.done tt) (λ bytes wrote. text_required wrote)
-  file_verdict taps job Status.NoSync run verdict = IfSome_then rest (run.done tt) (λ bytes wrote. text_required wrote)
+      ReceivesFile taps job status source sink → IsVerdict status →
+      IfSome source.before (λ bytes. IsAnswered (IsFileReply taps job bytes) status sink.before sink.after)
+  file_verdict taps job Status.Done run verdict = IfSome_then source.before (run.done tt) (λ bytes wrote. text_required wrote)
+  file_verdict taps job Status.NoSync run verdict = IfSome_then source.before (run.done tt) (λ bytes wrote. text_required wrote)
   file_verdict taps job (Status.BadFile fault) run verdict =
-      IfSome_then rest (run.place fault refl) (λ bytes is. fault_required fault is)
+      IfSome_then source.before (run.place fault refl) (λ bytes is. fault_required fault is)
   file_verdict taps job (Status.BadScript fault) run verdict = absurd run.others
   file_verdict taps job status run verdict = absurd verdict
 
   file_end : (taps : List KeptTap) (job : Job) (status : Status) →
-      ReceivesFile taps job status rest left misread misread_now SameSource old new miswritten
-      miswritten_now SameSink → IsFileEnd status
+      ReceivesFile taps job status source sink → IsFileEnd status
   file_end taps job (Status.BadFile fault) run = (run.bad_file fault refl).0
   file_end taps job (Status.BadScript fault) run = absurd run.others
   file_end taps job Status.BadWords run = absurd run.others
@@ -35,18 +32,16 @@ module _ {rest left : Option (List ℕ)} {misread misread_now : ℕ} {SameSource
 
   -- taps have one name
   pub with_taps : {taps named : List KeptTap} {job : Job} {status : Status} → taps ≡ named →
-      ReceivesFile taps job status rest left misread misread_now SameSource old new miswritten miswritten_now SameSink →
-      ReceivesFile named job status rest left misread misread_now SameSource old new miswritten miswritten_now SameSink
+      ReceivesFile taps job status source sink →
+      ReceivesFile named job status source sink
   with_taps {taps} {named} {job} {status} same run =
       subst
-      (λ (k : List KeptTap). ReceivesFile k job status rest left misread misread_now SameSource old new
-      miswritten miswritten_now SameSink) same run
+      (λ (k : List KeptTap). ReceivesFile k job status source sink) same run
 
   pub file_run : (forms : List ℕ) (job : Job) (status : Status) →
       ((width : Width) → job ≢ Make width) → ((number workers : ℕ) → job ≢ Trial number workers) →
-      ReceivesFile (taps_for job forms) job status rest left misread misread_now SameSource old new
-      miswritten miswritten_now SameSink →
-      RunsJob forms job status rest left misread misread_now SameSource old new miswritten miswritten_now SameSink
+      ReceivesFile (taps_for job forms) job status source sink →
+      RunsJob forms job status source sink
   file_run forms (Make width) status unmade untried run = absurd (unmade width refl)
   file_run forms (Trial number workers) status unmade untried run = absurd (untried number workers refl)
   file_run forms job status unmade untried run = record {
@@ -71,19 +66,17 @@ module _ {rest left : Option (List ℕ)} {misread misread_now : ℕ} {SameSource
   -- ---- a run over a script
 
   script_verdict : (width : Width) (status : Status) →
-      MakesFile width status rest left misread misread_now SameSource old new miswritten
-      miswritten_now SameSink → IsVerdict status →
-      IfSome rest (λ bytes. IsAnswered (IsScriptReply width bytes) status old new)
-  script_verdict width Status.Done run verdict = IfSome_then rest (run.done refl) (λ bytes wrote. made_required wrote)
+      MakesFile width status source sink → IsVerdict status →
+      IfSome source.before (λ bytes. IsAnswered (IsScriptReply width bytes) status sink.before sink.after)
+  script_verdict width Status.Done run verdict = IfSome_then source.before (run.done refl) (λ bytes wrote. made_required wrote)
   script_verdict width Status.NoSync run verdict = absurd (run.others.0 refl)
   script_verdict width (Status.BadFile fault) run verdict = absurd (run.others.2 fault refl)
   script_verdict width (Status.BadScript fault) run verdict =
-      IfSome_then rest (run.bad_script fault refl).2 (λ bytes is. script_fault_required fault is)
+      IfSome_then source.before (run.bad_script fault refl).2 (λ bytes is. script_fault_required fault is)
   script_verdict width status run verdict = absurd verdict
 
   script_end : (width : Width) (status : Status) →
-      MakesFile width status rest left misread misread_now SameSource old new miswritten
-      miswritten_now SameSink → IsScriptEnd status
+      MakesFile width status source sink → IsScriptEnd status
   script_end width Status.NoSync run = absurd (run.others.0 refl)
   script_end width (Status.BadFile fault) run = absurd (run.others.2 fault refl)
   script_end width (Status.BadScript fault) run = (run.bad_script fault refl).0
@@ -91,9 +84,8 @@ module _ {rest left : Option (List ℕ)} {misread misread_now : ℕ} {SameSource
   script_end width status run = tt
 
   pub made_run : (forms : List ℕ) (width : Width) (status : Status) →
-      MakesFile width status rest left misread misread_now SameSource old new miswritten miswritten_now SameSink →
-      RunsJob forms (Make width) status rest left misread misread_now SameSource old new miswritten
-      miswritten_now SameSink
+      MakesFile width status source sink →
+      RunsJob forms (Make width) status source sink
   made_run forms width status run = record {
     kind = script_end width status run;
     verdict = script_verdict width status run;
@@ -118,10 +110,9 @@ module _ {rest left : Option (List ℕ)} {misread misread_now : ℕ} {SameSource
 
   -- where nothing failed, a run answers what its input requires
   pub exact_answer : (forms : List ℕ) (job : Job) (status : Status) →
-      RunsJob forms job status rest left misread misread_now SameSource old new miswritten
-      miswritten_now SameSink → (bytes held : List ℕ) (reply : Reply) → rest ≡ Some bytes →
-      old ≡ Some held → IsReply forms job bytes reply → ¬ (Rose misread misread_now) →
-      ¬ (Rose miswritten miswritten_now) → (status ≡ Status.NoMemory) ⊎ AnswersAfter held reply status new
+      RunsJob forms job status source sink → (bytes held : List ℕ) (reply : Reply) → source.before ≡ Some bytes →
+      sink.before ≡ Some held → IsReply forms job bytes reply → ¬ (Rose source.faults source.faults_after) →
+      ¬ (Rose sink.faults sink.faults_after) → (status ≡ Status.NoMemory) ⊎ AnswersAfter held reply status sink.after
   exact_answer forms job Status.BadWords run bytes held reply is was required reads writes =
       absurd (named_well job run.kind)
   exact_answer forms job Status.ReadFault run bytes held reply is was required reads writes =
@@ -130,17 +121,16 @@ module _ {rest left : Option (List ℕ)} {misread misread_now : ℕ} {SameSource
       absurd (writes (run.write_fault refl).0)
   exact_answer forms job Status.NoMemory run bytes held reply is was required reads writes = inl refl
   exact_answer forms job status run bytes held reply is was required reads writes =
-      inr (required_answer forms job status bytes held reply rest old new (run.verdict tt) is was required)
+      inr (required_answer forms job status bytes held reply source.before sink.before sink.after (run.verdict tt) is was required)
 
   -- what is promised of one job that the arguments name is promised of each
   pub run_of : {forms : List ℕ} {status : Status} {named : Option Job} {one : Job} (job : Job) →
       named ≡ Some one → named ≡ Some job →
-      RunsJob forms one status rest left misread misread_now SameSource old new miswritten miswritten_now SameSink →
-      RunsJob forms job status rest left misread misread_now SameSource old new miswritten miswritten_now SameSink
+      RunsJob forms one status source sink →
+      RunsJob forms job status source sink
   run_of {forms} {status} {named} {one} job so also run =
       subst
-      (λ (j : Job). RunsJob forms j status rest left misread misread_now SameSource old new
-      miswritten miswritten_now SameSink) (same_job named one job so also) run
+      (λ (j : Job). RunsJob forms j status source sink) (same_job named one job so also) run
 
 -- ---- a trial
 
@@ -154,8 +144,8 @@ pub trial_run : (forms : List ℕ) (number workers : ℕ) (ran : Result (Unit {0
     {miswritten miswritten_now : ℕ} {SameSink : Type 0} → HasTrialCauses number ran old new →
     (ran ≡ Err Status.NoMemory → SameSink) →
     (ran ≡ Err Status.WriteFault → Rose miswritten miswritten_now) → miswritten ≤ miswritten_now → SameSource →
-    RunsJob forms (Trial number workers) (ended ran) rest rest misread misread SameSource old new
-    miswritten miswritten_now SameSink
+    RunsJob forms (Trial number workers) (ended ran) (flow rest rest misread misread SameSource)
+    (flow old new miswritten miswritten_now SameSink)
 trial_run forms number workers ran rest misread {SameSource} {old} {new} causes memory write_fault
     later unread =
     let end : IsTrialEnd (ended ran) = trial_end number ran causes in

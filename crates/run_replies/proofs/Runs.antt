@@ -1,4 +1,5 @@
 -- Lemmas on runs of the program: one whose output was then passed on, and with taps of each form.
+use Rattle.run_replies.proofs.Common.{Flow, flow}
 use Rattle.run_replies.proofs.Common.{◌≡◌, ℕ, ◌≤◌, ◌++◌, ◌⊎◌, inl, inr, List, [], ◌∷◌, refl, sym, ap, subst, arith, map, take, Option, ◌↔◌}
 use Rattle.run_replies.proofs.Common.{Bool, true, false, None, Some, IfSome, IsOk, Result, Ok, Err, OnOk, OnErr, Appends, Appends-kept}
 use Rattle.run_replies.proofs.Common.{Rose, Sample, IsSampleFile, FileFault, Header, flat_map, header_spelling, sample_spelling, width_of}
@@ -144,16 +145,15 @@ rose_before old mid new later rose = omega (arith, rose, later)
 
 -- ---- what is passed on after a run
 
-module _ {forms : List ℕ} {named : Option Job} {rest left old mid new : Option (List ℕ)}
-    {misread misread_now miswritten between miswritten_now : ℕ}
-    {SameSource StillSink SamePassed SameSink Unwritten : Type 0} {before : Status}
-    (run : RunsCommand forms named before rest left misread misread_now SameSource old mid miswritten
-    between StillSink Unwritten) (both : StillSink → SamePassed → SameSink)
+module _ {forms : List ℕ} {named : Option Job} {source : Flow} {old mid new : Option (List ℕ)}
+    {miswritten between miswritten_now : ℕ}
+    {StillSink SamePassed SameSink Unwritten : Type 0} {before : Status}
+    (run : RunsCommand forms named before source (flow old mid miswritten between StillSink) Unwritten) (both : StillSink → SamePassed →
+    SameSink)
     (unwritten : Unwritten → mid ≡ old) where
   -- a run that ends so after it too
   kept_run : (¬ (MayHold before) → SamePassed) → Keeps mid new → between ≤ miswritten_now →
-      RunsCommand forms named before rest left misread misread_now SameSource old new miswritten
-      miswritten_now SameSink (Keeps old new)
+      RunsCommand forms named before source (flow old new miswritten miswritten_now SameSink) (Keeps old new)
   kept_run still kept later =
       let same : (other : Status) → before ≡ other → ¬ (MayHold other) → StillSink → SameSink =
       λ other is not sink. both sink (still (λ held. not (subst MayHold is held))) in
@@ -190,7 +190,7 @@ module _ {forms : List ℕ} {named : Option Job} {rest left old mid new : Option
         complete = λ job is well writes. run.complete job is well (went writes);
         kind = run.kind;
         verdict = λ job is verdict.
-            verdict_kept (IsReply forms job) before rest old mid new (run.verdict job is verdict)
+            verdict_kept (IsReply forms job) before source.before old mid new (run.verdict job is verdict)
             kept;
         read_fault = run.read_fault;
         write_fault = λ job is lost. (
@@ -208,20 +208,19 @@ module _ {forms : List ℕ} {named : Option Job} {rest left old mid new : Option
         early = λ early. both (run.early early) (still (early_left before early));
         header = run.header;
         bound = run.bound;
-        written = λ job is. part_kept (Begins forms job rest left) old mid new (run.written job is) kept;
+        written = λ job is. part_kept (Begins forms job source.before source.after) old mid new (run.written job is) kept;
         cut = λ job is cut.
-            first_kept forms job rest left old mid new
+            first_kept forms job source.before source.after old mid new
             (λ none. subst (λ (k : Option (List ℕ)). Keeps k new) (unwritten none) kept)
             (run.cut job is cut) kept;
-        long = λ job is long. all_kept forms job rest old mid new (run.long job is long) kept;
+        long = λ job is long. all_kept forms job source.before old mid new (run.long job is long) kept;
         later_source = run.later_source;
         later_sink = omega (arith, run.later_sink, later);
       }
 
   -- a good run of which it failed
   lost_run : IsEnd before → Keeps mid new → between ≤ miswritten_now → Rose between miswritten_now →
-      RunsCommand forms named Status.WriteFault rest left misread misread_now SameSource old new
-      miswritten miswritten_now SameSink (Keeps old new)
+      RunsCommand forms named Status.WriteFault source (flow old new miswritten miswritten_now SameSink) (Keeps old new)
   lost_run end kept later rose =
       let fell = rose_before miswritten between miswritten_now run.later_sink rose in
       record {
@@ -240,7 +239,7 @@ module _ {forms : List ℕ} {named : Option Job} {rest left old mid new : Option
         read_fault = λ is. absurd (cc);
         write_fault = λ job is lost. (
           fell,
-          promising forms job before rest old mid end
+          promising forms job before source.before old mid end
               (run.verdict job is (by_end IsVerdict before end tt tt)),
         );
         memory = λ job is none. absurd (cc);
@@ -250,7 +249,7 @@ module _ {forms : List ℕ} {named : Option Job} {rest left old mid new : Option
         early = λ early. absurd early;
         header = λ fault is. absurd (cc);
         bound = run.bound;
-        written = λ job is. part_kept (Begins forms job rest left) old mid new (run.written job is) kept;
+        written = λ job is. part_kept (Begins forms job source.before source.after) old mid new (run.written job is) kept;
         cut = λ job is cut. absurd cut;
         long = λ job is long. absurd long;
         later_source = run.later_source;
@@ -258,41 +257,38 @@ module _ {forms : List ℕ} {named : Option Job} {rest left old mid new : Option
       }
 
   pub passed_run : {PassedOn : Type 0} {status : Status} →
-      PassesOn before status mid new between miswritten_now SamePassed PassedOn →
-      RunsCommand forms named status rest left misread misread_now SameSource old new miswritten
-      miswritten_now SameSink (Keeps old new)
+      PassesOn before status (flow mid new between miswritten_now SamePassed) PassedOn →
+      RunsCommand forms named status source (flow old new miswritten miswritten_now SameSink) (Keeps old new)
   passed_run {PassedOn} {status} passed =
-      let Runs = λ (s : Status). RunsCommand forms named s rest left misread misread_now SameSource old
-      new miswritten miswritten_now SameSink (Keeps old new) in
+      let Runs = λ (s : Status). RunsCommand forms named s source (flow old new miswritten miswritten_now SameSink) (Keeps old new) in
       elim passed.end [
         | inl same ↦ subst Runs (sym same) (kept_run passed.still passed.kept passed.later)
         | inr lost ↦ subst Runs (sym lost.0) (lost_run lost.1 passed.kept passed.later lost.2)
       ]
 
 pub run_passed : {forms : List ℕ} {named : Option Job} {before status : Status}
-    {rest left old mid new : Option (List ℕ)} {misread misread_now miswritten between miswritten_now : ℕ}
-    {SameSource StillSink SamePassed Unwritten PassedOn : Type 0} →
-    RunsCommand forms named before rest left misread misread_now SameSource old mid miswritten between
-    StillSink Unwritten → PassesOn before status mid new between miswritten_now SamePassed PassedOn →
+    {source : Flow} {old mid new : Option (List ℕ)} {miswritten between miswritten_now : ℕ}
+    {StillSink SamePassed Unwritten PassedOn : Type 0} →
+    RunsCommand forms named before source (flow old mid miswritten between StillSink) Unwritten →
+    PassesOn before status (flow mid new between miswritten_now SamePassed) PassedOn →
     IsPassedOn status (Rose miswritten miswritten_now) PassedOn
-run_passed {forms} {named} {before} {status} {rest} {left} {old} {mid} {new} {misread}
-    {misread_now} {miswritten} {between} {miswritten_now} run passed = record {
-      good = λ end. (passed.good end).0;
-      held = λ held writes.
-          elim passed.end [
-            | inl same ↦
-                passed.passed_on (subst MayHold same held)
-                (λ rose. writes (rose_before miswritten between miswritten_now run.later_sink rose))
-            | inr lost ↦ absurd (subst MayHold lost.0 held)
-          ];
-    }
+run_passed {forms} {named} {before} {status} {source} {old} {mid} {new} {miswritten} {between} {miswritten_now} run passed = record {
+  good = λ end. (passed.good end).0;
+  held = λ held writes.
+      elim passed.end [
+        | inl same ↦
+            passed.passed_on (subst MayHold same held)
+            (λ rose. writes (rose_before miswritten between miswritten_now run.later_sink rose))
+        | inr lost ↦ absurd (subst MayHold lost.0 held)
+      ];
+}
 
 -- ---- what is told of an end
 
 module _ {SameErrors : Type 0} {old new : Option (List ℕ)} {miswritten miswritten_now : ℕ}
     {status : Status} (not : ¬ (status ≡ Status.Done)) where
   whole_told : Appends old new (end_line status) → miswritten ≤ miswritten_now →
-      TellsEnd status old new miswritten miswritten_now SameErrors
+      TellsEnd status (flow old new miswritten miswritten_now SameErrors)
   whole_told whole later = record {
     done = λ is. absurd (not is);
     line = λ writes. whole;
@@ -306,7 +302,7 @@ module _ {SameErrors : Type 0} {old new : Option (List ℕ)} {miswritten miswrit
   }
 
   part_told : AppendsPrefix old new (end_line status) → Rose miswritten miswritten_now →
-      miswritten ≤ miswritten_now → TellsEnd status old new miswritten miswritten_now SameErrors
+      miswritten ≤ miswritten_now → TellsEnd status (flow old new miswritten miswritten_now SameErrors)
   part_told part rose later = record {
     done = λ is. absurd (not is);
     line = λ writes. absurd (writes rose);
@@ -316,7 +312,7 @@ module _ {SameErrors : Type 0} {old new : Option (List ℕ)} {miswritten miswrit
 
   told_so : {T E : Type 0} (told : Result T E) → OnOk told (Appends old new (end_line status)) →
       OnErr told (AppendsPrefix old new (end_line status)) → HasCause miswritten miswritten_now told →
-      TellsEnd status old new miswritten miswritten_now SameErrors
+      TellsEnd status (flow old new miswritten miswritten_now SameErrors)
   told_so (Ok done) whole part cause = whole_told whole cause.later
   told_so (Err failed) whole part cause = part_told part cause.failed cause.later
 
@@ -328,7 +324,7 @@ pub line_told : {T E SameErrors : Type 0} {old new : Option (List ℕ)} {miswrit
     {status : Status} (is : Bool) (told : Result T E) (bytes : List ℕ) → is ≡ false →
     (IsTrue is ↔ (status ≡ Status.Done)) → bytes ≡ end_line status →
     OnOk told (Appends old new bytes) → OnErr told (AppendsPrefix old new bytes) →
-    HasCause miswritten miswritten_now told → TellsEnd status old new miswritten miswritten_now SameErrors
+    HasCause miswritten miswritten_now told → TellsEnd status (flow old new miswritten miswritten_now SameErrors)
 line_told {T} {E} {SameErrors} {old} {new} is told bytes unset means same whole part cause =
     told_so (not_done is unset means) told (subst (λ (line : List ℕ). OnOk told (Appends old new line)) same whole)
     (subst (λ (line : List ℕ). OnErr told (AppendsPrefix old new line)) same part) cause
@@ -347,14 +343,9 @@ four_forms form none one two three four a b c d is_none is_one is_two is_three i
     of_d = rw (is_four, is_three, is_two, is_one, is_none) (rw (of_a, of_b, of_c, of_d) refl)
 
 pub run_with : {forms each : List ℕ} {named : Option Job} {status : Status}
-    {rest left old new : Option (List ℕ)} {misread misread_now miswritten miswritten_now : ℕ}
-    {SameSource SameSink Unwritten : Type 0} → forms ≡ each →
-    RunsCommand forms named status rest left misread misread_now SameSource old new miswritten
-    miswritten_now SameSink Unwritten →
-    RunsCommand each named status rest left misread misread_now SameSource old new miswritten
-    miswritten_now SameSink Unwritten
-run_with {forms} {each} {named} {status} {rest} {left} {old} {new} {misread} {misread_now}
-    {miswritten} {miswritten_now} {SameSource} {SameSink} {Unwritten} same run =
+    {source sink : Flow} {Unwritten : Type 0} → forms ≡ each →
+    RunsCommand forms named status source sink Unwritten →
+    RunsCommand each named status source sink Unwritten
+run_with {forms} {each} {named} {status} {source} {sink} {Unwritten} same run =
     subst
-    (λ (f : List ℕ). RunsCommand f named status rest left misread misread_now SameSource old new
-    miswritten miswritten_now SameSink Unwritten) same run
+    (λ (f : List ℕ). RunsCommand f named status source sink Unwritten) same run

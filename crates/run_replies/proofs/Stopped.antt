@@ -1,4 +1,5 @@
 -- Lemmas on runs over a sample file that end by a fault, before its first samples were read or after them.
+use Rattle.run_replies.proofs.Common.{Flow, flow}
 use Rattle.run_replies.proofs.Common.{◌≡◌, ◌≢◌, ℕ, ◌≤◌, List, [], Option, IfSome, Result, Err, inl, refl, sym, subst, arith, Appends-nil}
 use Rattle.run_replies.proofs.Common.{ConsumesAtMost, FileFault, ReadFault, KeptTap, Job, Status, file_status, IsCut, IsLong, Rose}
 use Rattle.run_replies.proofs.Common.{IsFault, IsFaultIn, IsOfFiles, WritesNoMore, IsUnopened, TakesFew, WritesAll, WritesFirst}
@@ -38,26 +39,23 @@ lost_none e =
     by_file_status (λ (s : Status). ¬ (s ≡ Status.WriteFault)) e (λ (r : Status.ReadFault ≡ Status.WriteFault). cc)
     (λ (r : Status.BadFile e ≡ Status.WriteFault). cc)
 
-module _ {taps : List KeptTap} {job : Job} {rest left : Option (List ℕ)}
-    {misread misread_now : ℕ} {SameSource : Type 0} {old : Option (List ℕ)} {miswritten : ℕ}
-    {SameSink : Type 0} where
+module _ {taps : List KeptTap} {job : Job} {source : Flow} {old : Option (List ℕ)} {miswritten : ℕ} {SameSink : Type 0} where
   -- the file doesn't open, or its first samples aren't there
   pub unread_file : (e : FileFault) (count : ℕ) → count ≡ span_of job → SameSink →
-      (e ≢ ReadFault → IfSome rest (λ bytes. IsFaultIn count bytes e)) →
-      (e ≡ ReadFault → Rose misread misread_now) → (IsHeaderFault e → ConsumesAtMost 16 rest left) →
-      TakesNoMore rest left → TakesFew count rest left →
-      (IsLong (file_status e) → IsUnopened rest) → misread ≤ misread_now →
-      ReceivesFile taps job (file_status e) rest left misread misread_now SameSource old old miswritten
-      miswritten SameSink
+      (e ≢ ReadFault → IfSome source.before (λ bytes. IsFaultIn count bytes e)) →
+      (e ≡ ReadFault → Rose source.faults source.faults_after) → (IsHeaderFault e → ConsumesAtMost 16 source.before source.after) →
+      TakesNoMore source.before source.after → TakesFew count source.before source.after →
+      (IsLong (file_status e) → IsUnopened source.before) → source.faults ≤ source.faults_after →
+      ReceivesFile taps job (file_status e) source (flow old old miswritten miswritten SameSink)
   unread_file e count same kept place failed alone bound few long later =
       let status = file_status e in
       let faulty = by_file_status IsFault e tt tt in
       let at : (fault : FileFault) → status ≡ Status.BadFile fault →
-      IfSome rest (λ bytes. IsFaultIn (span_of job) bytes fault) =
+      IfSome source.before (λ bytes. IsFaultIn (span_of job) bytes fault) =
       λ fault is.
       let b = blames e fault is in
-      subst (λ (n : ℕ). IfSome rest (λ (bytes : List ℕ). IsFaultIn n bytes fault)) same
-      (subst (λ (f : FileFault). IfSome rest (λ (bytes : List ℕ). IsFaultIn count bytes f)) b.0 (place b.2)) in
+      subst (λ (n : ℕ). IfSome source.before (λ (bytes : List ℕ). IsFaultIn n bytes fault)) same
+      (subst (λ (f : FileFault). IfSome source.before (λ (bytes : List ℕ). IsFaultIn count bytes f)) b.0 (place b.2)) in
       record {
         done = λ end. absurd (fault_no_end status faulty end);
         at_end = λ end. absurd (fault_no_end status faulty end);
@@ -65,7 +63,7 @@ module _ {taps : List KeptTap} {job : Job} {rest left : Option (List ℕ)}
         memory = λ none. absurd (subst IsFault none faulty);
         early = λ none. absurd (subst IsFault none faulty);
         alone = λ unheard unset. absurd (subst IsFault unset faulty);
-        bad_file = λ fault is. ((blames e fault is).1, unsearchable rest (span_of job) fault (at fault is));
+        bad_file = λ fault is. ((blames e fault is).1, unsearchable source.before (span_of job) fault (at fault is));
         place = at;
         read_fault = λ is. failed (reads_ill e is);
         write_fault = λ lost. absurd (lost_none e lost);
@@ -74,26 +72,25 @@ module _ {taps : List KeptTap} {job : Job} {rest left : Option (List ℕ)}
         header_alone = λ fault is early. alone (subst IsHeaderFault (sym (blames e fault is).0) early);
         bound = bound;
         written = record { text = []; written = Appends-nil old; part = inl refl };
-        cut = λ cut. nothing_first taps count job rest left old old same few;
-        long = λ is. nothing_all taps job rest old old (long is);
+        cut = λ cut. nothing_first taps count job source.before source.after old old same few;
+        long = λ is. nothing_all taps job source.before old old (long is);
         later_source = later;
         later_sink = omega arith;
       }
 
-module _ {taps : List KeptTap} {job : Job} {rest left : Option (List ℕ)}
-    {misread misread_now : ℕ} {SameSource : Type 0} {old new : Option (List ℕ)}
-    {miswritten miswritten_now : ℕ} {SameSink : Type 0} where
+module _ {taps : List KeptTap} {job : Job} {source sink : Flow} where
   -- the samples after the first ones aren't heard to the end of the file
-  pub stopped_file : (status : Status) → IsFault status → IfSome rest (BeginsFile (span_of job)) →
+  pub stopped_file : (status : Status) → IsFault status → IfSome source.before (BeginsFile (span_of job)) →
       ((fault : FileFault) → status ≡ Status.BadFile fault →
-      (fault ≢ ReadFault) × IfSome rest (λ bytes. IsFaultIn (span_of job) bytes fault)) →
-      (status ≡ Status.ReadFault → Rose misread misread_now) →
-      (status ≡ Status.WriteFault → Rose miswritten miswritten_now) →
+      (fault ≢ ReadFault) × IfSome source.before (λ bytes. IsFaultIn (span_of job) bytes fault)) →
+      (status ≡ Status.ReadFault → Rose source.faults source.faults_after) →
+      (status ≡ Status.WriteFault → Rose sink.faults sink.faults_after) →
       ((fault : FileFault) → status ≡ Status.BadFile fault → ¬ (IsHeaderFault fault)) →
-      TakesNoMore rest left → WritesNoMore taps job rest left old new →
-      (IsCut status → WritesFirst taps job rest left old new) →
-      (IsLong status → WritesAll taps job rest old new) → misread ≤ misread_now → miswritten ≤ miswritten_now →
-      ReceivesFile taps job status rest left misread misread_now SameSource old new miswritten miswritten_now SameSink
+      TakesNoMore source.before source.after → WritesNoMore taps job source.before source.after sink.before sink.after →
+      (IsCut status → WritesFirst taps job source.before source.after sink.before sink.after) →
+      (IsLong status → WritesAll taps job source.before sink.before sink.after) → source.faults ≤ source.faults_after →
+      sink.faults ≤ sink.faults_after →
+      ReceivesFile taps job status source sink
   stopped_file status faulty begun blame failed lost later_fault bound written cut long later
       later_sink = record {
         done = λ end. absurd (fault_no_end status faulty end);
@@ -103,7 +100,7 @@ module _ {taps : List KeptTap} {job : Job} {rest left : Option (List ℕ)}
         early = λ none. absurd (subst IsFault none faulty);
         alone = λ unheard unset. absurd (subst IsFault unset faulty);
         bad_file = λ fault is.
-            let b = blame fault is in (b.0, unsearchable rest (span_of job) fault b.1);
+            let b = blame fault is in (b.0, unsearchable source.before (span_of job) fault b.1);
         place = λ fault is. (blame fault is).1;
         read_fault = failed;
         write_fault = lost;

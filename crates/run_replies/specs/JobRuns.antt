@@ -1,7 +1,5 @@
--- What a run promises that receives a sample file, makes one, or tries a link. It ends so, over a
--- source that told these bytes and then tells those that are left, and a sink that told these and
--- then those; of each, numbers are its counts of faults before and after, and a type says that it
--- is as it was.
+-- What a run promises that receives a sample file, makes one, or tries a link. It ends so, over
+-- this source and this sink.
 use Rattle.run_replies.specs.Common.{Width, ConsumesAtMost, Rose, FileFault, ScriptFault, KeptTap}
 use Rattle.run_replies.specs.Common.{plan_named, Job, Status}
 use Rattle.std.specs.Prelude.{◌≡◌, ◌≢◌, ℕ, ◌≤◌, ◌⊎◌, List, Option, IfSome, IsOk, Err}
@@ -14,6 +12,7 @@ use Rattle.run_replies.specs.Make.{WritesMadeFile, WritesNoMoreMade}
 use Rattle.run_replies.specs.Replies.{IsPromising, BoundsInput, WritesWhole, IsEndOf}
 use Rattle.run_replies.specs.Replies.{WritesTaken, ReadsInput, GainsNothingOr, IsReply}
 use Rattle.run_replies.specs.Replies.{IsEarlyFault, IsAnswered, Begins, IsVerdict}
+use Rattle.run_replies.specs.Flows.{Flow}
 use Rattle.run_replies.specs.Trials.{trial_line}
 use Rattle.command_line.specs.declared.job.Job.TheVariants.{Trial}
 use Rattle.cdma_io.specs.declared.file_fault.FileFault.TheVariants as file
@@ -22,75 +21,79 @@ use Rattle.run_replies.specs.declared.status.Status.TheVariants as ends
 
 -- a sample file was received, with these taps
 pub record ReceivesFile (taps : List KeptTap) (job : Job) (status : Status)
-    (rest left : Option (List ℕ)) (misread misread_now : ℕ) (SameSource : Type 0)
-    (old new : Option (List ℕ)) (miswritten miswritten_now : ℕ) (SameSink : Type 0) : Type 0 where
-  pub done : IsEnd status → IfSome rest (λ bytes. WritesText taps job status bytes old new)
-  pub at_end : IsEnd status → IsAtEnd left
+    (source sink : Flow) : Type 0 where
+  pub done : IsEnd status →
+      IfSome source.before (λ bytes. WritesText taps job status bytes sink.before sink.after)
+  pub at_end : IsEnd status → IsAtEnd source.after
   pub others : IsOfFiles status
-  pub memory : status ≡ ends.NoMemory → SameSink
-  pub early : status ≡ ends.NoMemory → SameSource ⊎ IfSome rest (BeginsFile (span_of job))
+  pub memory : status ≡ ends.NoMemory → sink.Same
+  pub early : status ≡ ends.NoMemory → source.Same ⊎ IfSome source.before (BeginsFile (span_of job))
   pub alone : IsUnheard job → status ≢ ends.NoSync
   pub bad_file : (fault : FileFault) → status ≡ ends.BadFile fault →
-      (fault ≢ file.ReadFault) × IfSome rest (λ bytes. ¬ (IsSearchable bytes (span_of job)))
+      (fault ≢ file.ReadFault)
+      × IfSome source.before (λ bytes. ¬ (IsSearchable bytes (span_of job)))
   pub place : (fault : FileFault) → status ≡ ends.BadFile fault →
-      IfSome rest (λ bytes. IsFaultIn (span_of job) bytes fault)
-  pub read_fault : status ≡ ends.ReadFault → Rose misread misread_now
-  pub write_fault : status ≡ ends.WriteFault → Rose miswritten miswritten_now
-  pub begun : status ≡ ends.WriteFault → IfSome rest (BeginsFile (span_of job))
-  pub header : (fault : FileFault) → status ≡ ends.BadFile fault → IsHeaderFault fault → SameSink
+      IfSome source.before (λ bytes. IsFaultIn (span_of job) bytes fault)
+  pub read_fault : status ≡ ends.ReadFault → Rose source.faults source.faults_after
+  pub write_fault : status ≡ ends.WriteFault → Rose sink.faults sink.faults_after
+  pub begun : status ≡ ends.WriteFault → IfSome source.before (BeginsFile (span_of job))
+  pub header : (fault : FileFault) → status ≡ ends.BadFile fault → IsHeaderFault fault → sink.Same
   pub header_alone : (fault : FileFault) → status ≡ ends.BadFile fault → IsHeaderFault fault →
-      ConsumesAtMost 16 rest left
-  pub bound : TakesNoMore rest left
-  pub written : WritesNoMore taps job rest left old new
-  pub cut : IsCut status → WritesFirst taps job rest left old new
-  pub long : IsLong status → WritesAll taps job rest old new
-  pub later_source : misread ≤ misread_now
-  pub later_sink : miswritten ≤ miswritten_now
+      ConsumesAtMost 16 source.before source.after
+  pub bound : TakesNoMore source.before source.after
+  pub written : WritesNoMore taps job source.before source.after sink.before sink.after
+  pub cut : IsCut status → WritesFirst taps job source.before source.after sink.before sink.after
+  pub long : IsLong status → WritesAll taps job source.before sink.before sink.after
+  pub later_source : source.faults ≤ source.faults_after
+  pub later_sink : sink.faults ≤ sink.faults_after
 
 -- the file of a script's cell was made
 pub record MakesFile (width : Width) (status : Status)
-    (rest left : Option (List ℕ)) (misread misread_now : ℕ) (SameSource : Type 0)
-    (old new : Option (List ℕ)) (miswritten miswritten_now : ℕ) (SameSink : Type 0) : Type 0 where
-  pub done : status ≡ ends.Done → IfSome rest (λ bytes. WritesMadeFile width bytes old new)
-  pub at_end : status ≡ ends.Done → IsAtEnd left
+    (source sink : Flow) : Type 0 where
+  pub done : status ≡ ends.Done →
+      IfSome source.before (λ bytes. WritesMadeFile width bytes sink.before sink.after)
+  pub at_end : status ≡ ends.Done → IsAtEnd source.after
   pub others : (status ≢ ends.NoSync) × (status ≢ ends.BadWords) ×
       ((fault : FileFault) → status ≢ ends.BadFile fault)
-  pub memory : status ≡ ends.NoMemory → SameSink
+  pub memory : status ≡ ends.NoMemory → sink.Same
   pub early : status ≡ ends.NoMemory →
-      SameSource ⊎ IfSome rest (λ bytes. IsOk (plan_named width bytes))
+      source.Same ⊎ IfSome source.before (λ bytes. IsOk (plan_named width bytes))
   pub bad_script : (fault : ScriptFault) → status ≡ ends.BadScript fault →
-      (fault ≢ script.OutOfMemory) × SameSink ×
-      IfSome rest (λ bytes. plan_named width bytes ≡ Err fault)
-  pub read_fault : status ≡ ends.ReadFault → Rose misread misread_now
-  pub unwritten : status ≡ ends.ReadFault → SameSink
-  pub write_fault : status ≡ ends.WriteFault → Rose miswritten miswritten_now
-  pub lawful : status ≡ ends.WriteFault → IfSome rest (λ bytes. IsOk (plan_named width bytes))
-  pub written : WritesNoMoreMade width rest old new
-  pub bound : ConsumesAtMost 1048577 rest left
-  pub later_source : misread ≤ misread_now
-  pub later_sink : miswritten ≤ miswritten_now
+      (fault ≢ script.OutOfMemory) × sink.Same ×
+      IfSome source.before (λ bytes. plan_named width bytes ≡ Err fault)
+  pub read_fault : status ≡ ends.ReadFault → Rose source.faults source.faults_after
+  pub unwritten : status ≡ ends.ReadFault → sink.Same
+  pub write_fault : status ≡ ends.WriteFault → Rose sink.faults sink.faults_after
+  pub lawful : status ≡ ends.WriteFault →
+      IfSome source.before (λ bytes. IsOk (plan_named width bytes))
+  pub written : WritesNoMoreMade width source.before sink.before sink.after
+  pub bound : ConsumesAtMost 1048577 source.before source.after
+  pub later_source : source.faults ≤ source.faults_after
+  pub later_sink : sink.faults ≤ sink.faults_after
 
 -- a job was done, with taps of these forms
 pub record RunsJob (forms : List ℕ) (job : Job) (status : Status)
-    (rest left : Option (List ℕ)) (misread misread_now : ℕ) (SameSource : Type 0)
-    (old new : Option (List ℕ)) (miswritten miswritten_now : ℕ) (SameSink : Type 0) : Type 0 where
+    (source sink : Flow) : Type 0 where
   pub kind : IsEndOf job status
   pub verdict : IsVerdict status →
-      IfSome rest (λ bytes. IsAnswered (IsReply forms job bytes) status old new)
-  pub read_fault : status ≡ ends.ReadFault → Rose misread misread_now
+      IfSome source.before
+      (λ bytes. IsAnswered (IsReply forms job bytes) status sink.before sink.after)
+  pub read_fault : status ≡ ends.ReadFault → Rose source.faults source.faults_after
   pub write_fault : status ≡ ends.WriteFault →
-      Rose miswritten miswritten_now × IfSome rest (IsPromising job)
-  pub memory : status ≡ ends.NoMemory → SameSink × (SameSource ⊎ IfSome rest (IsPromising job))
-  pub early : IsEarlyFault status → SameSink
+      Rose sink.faults sink.faults_after × IfSome source.before (IsPromising job)
+  pub memory : status ≡ ends.NoMemory →
+      sink.Same × (source.Same ⊎ IfSome source.before (IsPromising job))
+  pub early : IsEarlyFault status → sink.Same
   pub header : (fault : FileFault) → status ≡ ends.BadFile fault → IsHeaderFault fault →
-      ConsumesAtMost 16 rest left
-  pub at_end : ReadsInput job → IsEnd status → IsAtEnd left
-  pub unread : ¬ (ReadsInput job) → SameSource
-  pub bound : BoundsInput job rest left
+      ConsumesAtMost 16 source.before source.after
+  pub at_end : ReadsInput job → IsEnd status → IsAtEnd source.after
+  pub unread : ¬ (ReadsInput job) → source.Same
+  pub bound : BoundsInput job source.before source.after
   pub trial : (number workers : ℕ) → job ≡ Trial number workers → status ≡ ends.Done →
-      Appends old new (trial_line number)
-  pub written : GainsNothingOr (Begins forms job rest left) old new
-  pub cut : IsCut status → WritesTaken forms job SameSink rest left old new
-  pub long : IsLong status → WritesWhole forms job rest old new
-  pub later_source : misread ≤ misread_now
-  pub later_sink : miswritten ≤ miswritten_now
+      Appends sink.before sink.after (trial_line number)
+  pub written : GainsNothingOr (Begins forms job source.before source.after) sink.before sink.after
+  pub cut : IsCut status →
+      WritesTaken forms job sink.Same source.before source.after sink.before sink.after
+  pub long : IsLong status → WritesWhole forms job source.before sink.before sink.after
+  pub later_source : source.faults ≤ source.faults_after
+  pub later_sink : sink.faults ≤ sink.faults_after

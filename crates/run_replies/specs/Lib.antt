@@ -4,6 +4,7 @@ pub mod CleanLinks
 pub mod Common
 pub mod Find
 pub mod Findings
+pub mod Flows
 pub mod Hearing
 pub mod JobRuns
 pub mod Make
