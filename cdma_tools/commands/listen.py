@@ -19,31 +19,31 @@ however long that is. --json writes each as an object, with time_utc once the ba
 are lost, or the pilot fades, zeros replace the chips; a pilot that is away for more than two seconds is searched again.
 Standard error has a line for each of these, with the second of the recording.
 
-With --out the lines are added to a file, only complete ones, as JSON if its name ends with .jsonl. If a listening to a
-file of samples was interrupted, the same arguments continue it after the last line there. A stream can't be continued:
+With --out the lines are added to a file, only complete ones, as JSON if its name ends with .jsonl. After an
+interruption the same arguments continue a file of samples after the last line there. A stream can't be continued:
 with --append its lines are added after those of another one, and a line "origin" has the time from which they count. At
 SIGHUP the file is opened again by its name, as logrotate needs it.
 
-Ctrl-C or SIGTERM ends a listening to a stream in order: what has arrived is decoded, a summary is printed, and the
-status says whether a pilot was found. A second one breaks it off.
+With a stream, Ctrl-C or SIGTERM ends the tool in an orderly way: what has arrived is decoded, a summary is printed, and
+the status says whether a pilot was found. A second one ends it at once.
 
 With --pcapng messages and frames are also written as packets, which Wireshark shows with the dissector
-share/cdma-replay/is95.lua (docs/FORMATS.md). Each is written with its line, so a listening can be watched. FILE is
-replaced. But a listening that continues after the lines of --out, or adds to them with --append, adds a section with
+share/cdma-replay/is95.lua (docs/FORMATS.md). Each is written with its line, so Wireshark can show them live. FILE is
+replaced. But a run that continues after the lines of --out, or adds to them with --append, adds a section with
 the packets of its new lines, after the last whole packet.
 
     tools/listen --type cu8 --rate 2400000 --pcapng - radio.cu8 | wireshark -k -i -
 
---meta writes notes of SigMF (core:annotations) on what was decoded of a file of samples, each on the samples in which it
-was sent: a sync message on its frames, any other message on the frame in which it ends. If samples were lost, a capture
-begins after them, whose core:global_index counts them too. It keeps what FILE has already, or what the recording's own
-.sigmf-meta has. The samples of a stream are in no file, so it can have no notes. A listening that continues after the
-lines of --out decodes the recording from its start again, since all lines get notes.
+--meta writes notes of SigMF (core:annotations) on what was decoded of a file of samples, each on the samples in which
+it was sent: a sync message on its frames, any other message on the frame in which it ends. If samples were lost, a
+capture begins after them, whose core:global_index counts them too. It keeps what FILE has already, or what the
+recording's own .sigmf-meta has. The samples of a stream are in no file, so it can have no notes. A run that continues
+after the lines of --out decodes the recording from its start again, since all lines get notes.
 
 Several channels of the cell can be followed at once, over the same chips: paging channels with --paging 1,2, or all
 that have a message with --paging all, and traffic channels with --traffic. Paging channel 1 always counts; each other
 one is tried, and counts if a message passes its check within a minute. With --out-dir each channel has a file, as
-cell1-paging2.txt, with the lines of a listening to it on its own, those of sync messages too; a traffic channel has
+cell1-paging2.txt, with the lines that listening only to it writes, those of sync messages too; a traffic channel has
 those of a paging channel as well. Without it all lines go to standard output. Objects of --json have `cell`, `carrier`
 and `channel`.
 

@@ -27,7 +27,7 @@ The server is bound to 127.0.0.1. With --listen ADDRESS others can reach it too,
 its path is a secret, which is new each time.
 
 If the source ends or fails, one line says so, and the page keeps what it has until Ctrl-C; with --exit the command ends
-with the source. Ctrl-C or SIGTERM first ends it in order, as with `listen`; a second one ends it at once.
+with the source. The first Ctrl-C or SIGTERM ends it in an orderly way, as with `listen`; a second one ends it at once.
 
 Exit status: 0 a pilot was found, or lines were read, 1 no pilot was found, the source can't be read or the port is
 taken, 2 wrong arguments.
