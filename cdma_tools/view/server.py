@@ -430,11 +430,12 @@ def serve(
     hub: Hub, begin: Callable[[], ListenerProcess], sockets: list[socket.socket], door: Door, is_ending: bool
 ) -> int:
     """Begins a listening, serves its page, and returns the exit status."""
-    with asyncio.Runner() as runner:
-        # An interrupt waits until the loop takes it: then the child ends too, and no loop is half made.
-        with blocked_interrupts():
-            serving = Serving(hub, begin(), is_ending)
-            serving.hear_interrupts(runner.get_loop())
+    runner = asyncio.Runner()
+    # An interrupt waits until the loop takes it: then the child ends too, and no loop is half made.
+    with blocked_interrupts():
+        serving = Serving(hub, begin(), is_ending)
+        serving.hear_interrupts(runner.get_loop())
+    with runner:
         try:
             status = runner.run(serving.serve(sockets, door))
         finally:

@@ -52,17 +52,23 @@ PAGE_MOST = 10  # updates a second
 FRAME = b'{"line":"frame","at":%d,"rate":1200,"good":1,"bits":"0:","commands":[0,1,0,1,0,1,0,1,0,1,0,1,0,1,0,1]}\n'
 
 
-# Runs the command, and interrupts it when its first thread begins.
+# Runs the command, and interrupts it when its loop is being made, or when its first thread begins.
 BEGINNING = """
 import os, signal, sys, threading
+from asyncio.selector_events import BaseSelectorEventLoop
+place, server = sys.argv.pop(1), os.getpid()
 sys.path.insert(0, sys.argv.pop(1))
-server, begin = os.getpid(), threading.Thread.start
+owner, name = (BaseSelectorEventLoop, "_make_self_pipe") if place == "loop" else (threading.Thread, "start")
+begin = getattr(owner, name)
 def interrupted(self):
-    threading.Thread.start = begin if os.getpid() == server else interrupted
-    begin(self)
     if os.getpid() == server:
+        setattr(owner, name, begin)
+    if os.getpid() == server and place == "loop":
         os.kill(server, signal.SIGTERM)
-threading.Thread.start = interrupted
+    begin(self)
+    if os.getpid() == server and place == "thread":
+        os.kill(server, signal.SIGTERM)
+setattr(owner, name, interrupted)
 from cdma_tools.starting import start
 sys.exit(start("view"))
 """
@@ -733,9 +739,10 @@ class Streams(Server):
 
     def test_an_interrupt_while_it_begins(self) -> None:
         """It waits until the loop takes it: then the child and each thread end too."""
-        command = [PYTHON, "-B", "-c", BEGINNING, ROOT, *self.raw, "--no-browser", "--exit", os.devnull]
-        ran = subprocess.run(command, capture_output=True, text=True, timeout=SECONDS)
-        self.assertEqual((ran.returncode, ran.stderr), (130, "view: broken off\n"))
+        for place in ("loop", "thread"):
+            words = [place, ROOT, *self.raw, "--no-browser", "--exit", os.devnull]
+            ran = subprocess.run([PYTHON, "-B", "-c", BEGINNING, *words], capture_output=True, text=True, timeout=SECONDS)
+            self.assertEqual((ran.returncode, ran.stderr), (130, "view: broken off\n"), place)
 
     def test_a_server_that_is_killed(self) -> None:
         """If the command is killed, the process that listens ends too."""
