@@ -18,6 +18,7 @@ if TYPE_CHECKING:
     from types import FrameType
 
 INTERRUPTED = 130  # the status of a command that an interrupt ended
+HEARD: "list[int]" = []  # the interrupts that broke something off, or are to come again
 AGAIN = 0.005  # seconds after which an interrupt comes again that came in an unfit place
 # Files whose functions are unfit, by how their names begin or end: an import that breaks off leaves part of a package,
 # and a package in C may hide the exception; a temporary file or folder that is just made or removed would stay.
@@ -104,7 +105,7 @@ def start(name: str) -> int:
         return broken_off(name, str(why))
     except Exception:
         # A package in C may have made another exception of the interrupt.
-        if not interrupts.heard:
+        if not HEARD:
             raise
         pass_over_interrupts()
         return broken_off(name)
@@ -116,7 +117,6 @@ class Interrupts:
     def __init__(self, name: str) -> None:
         """The command isn't imported yet."""
         self.name, self.is_running = name, False
-        self.heard = 0  # the number of the last signal that came since `begin`
 
     def hear(self) -> None:
         """Lets an interrupt end this process at once, up to `begin`."""
@@ -124,30 +124,34 @@ class Interrupts:
 
     def begin(self) -> None:
         """From here on an interrupt breaks off the command, which undoes what it has begun."""
-        sys.unraisablehook = self.take_lost
+        sys.unraisablehook = take_lost
         self.is_running = True
 
     def take(self, number: int, frame: "FrameType | None") -> None:
         """Takes an interrupt: a handler of signals."""
         if not self.is_running:
             os._exit(broken_off(self.name))
-        self.heard = number
         break_off(number, frame)
-
-    def take_lost(self, lost: "sys.UnraisableHookArgs") -> None:
-        """Sends an interrupt again that Python has dropped, and reports any other exception that it has dropped."""
-        if self.heard and issubclass(lost.exc_type, KeyboardInterrupt):
-            send_again(self.heard)
-        else:
-            sys.__unraisablehook__(lost)
 
 
 def break_off(number: int, frame: "FrameType | None") -> None:
     """Breaks off what a process does, as an interrupt does with a command: a handler of signals."""
+    HEARD.append(number)
     if is_unfit(frame):
         send_again(number)
     else:
         raise KeyboardInterrupt
+
+
+def take_lost(lost: "sys.UnraisableHookArgs") -> None:
+    """Sends an interrupt again that Python has dropped, and reports any other exception that it has dropped.
+
+    After an interrupt others come from objects that it left half made, and aren't reported.
+    """
+    if not HEARD:
+        sys.__unraisablehook__(lost)
+    elif issubclass(lost.exc_type, KeyboardInterrupt):
+        send_again(HEARD[-1])
 
 
 def is_unfit(frame: "FrameType | None") -> bool:

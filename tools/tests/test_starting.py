@@ -159,6 +159,13 @@ class UnfitPlaces(unittest.TestCase):
             "    kept = weakref.ref(it, lambda _: [interrupt(), len('')])", "    del it", "    wait()",
         )  # fmt: skip
 
+    def test_an_object_that_is_half_made(self) -> None:
+        """Its end fails, since it isn't whole, and that isn't reported."""
+        self.broken_off(
+            "", "class Kept:", "    def __init__(self):", "        interrupt()", "        self.part = 1",
+            "    def __del__(self):", "        self.part", "def main(_):", "    Kept()", "    wait()",
+        )  # fmt: skip
+
     def test_another_dropped_exception(self) -> None:
         function = ("class Kept:", "    def __del__(self):", "        1 / 0", "def main(_):", "    Kept()", "    return 0")
         status, _, said = self.ended(*function)
