@@ -42,10 +42,20 @@ def measured(chips: cdma.Chips) -> float:
     return lock.ec_io_db + domain.rho + float(domain.db.max()) + len(samples) + len(steps.bits)
 
 
+def compared(chips: cdma.Chips) -> float:
+    """Returns a sum of figures of chips against limits and margins."""
+    imported = cdma.import_capture(chips.as_complex(), rate=1_228_800, scale="fit", bits=8)
+    domain = cdma.code_domain(imported.chips, limits=True)
+    met = [limit.value / limit.bound for limit in domain.limits if limit.is_met]
+    borne = [row.margin for row in cdma.margin(cell())]
+    covered = [row.covered / row.frames for row in cdma.margin(cell(), file=chips)]
+    return imported.scale + sum(met) + sum(borne) + sum(covered)
+
+
 def listened(path: str) -> list[str]:
     """Returns what is heard of a recording."""
     try:
-        with cdma.listen(path, type="cu8", rate=2_400_000) as listening:
+        with cdma.listen(path, type="cu8", rate=2_400_000, workers=2) as listening:
             return [f"{event.time_utc} {event}" for event in listening] + listening.remarks
     except cdma.FileError as why:
         return [f"{why.kind} {why.place}"]
@@ -63,4 +73,7 @@ def wrong(chips: cdma.Chips) -> None:
     cdma.lock(3)  # type: ignore[arg-type]
     cdma.listen(3, rate=1e6)  # type: ignore[arg-type]
     cdma.margin(cell())[0].margins  # type: ignore[attr-defined]
+    cdma.margin(cell(), file=chips)[0].margin  # type: ignore[attr-defined]
+    cdma.import_capture(chips, rate=1_228_800).count  # type: ignore[attr-defined]
+    cdma.find(chips).phases  # type: ignore[attr-defined]
     cdma.Cell(pn="511")  # type: ignore[arg-type]
