@@ -36,6 +36,7 @@ LINES = (
     "lines survey.txt",
     "listen --type ci8 --rate 1228800 --program /bin/true -",
     "view --type ci8 --rate 1228800 --program /bin/true --no-browser --exit input",
+    "view --type ci8 --rate 2457600 --program /bin/true --no-browser --exit input --paging 1,2 --shift 0 --shift 9e5",
     "curve it.script --from 1 --to 1 --step 1 --frames 1 --program /bin/true --out curves",
     "conformance /bin/true --only follow_zeros",
     "agree --seed 1 --count 1 --print",

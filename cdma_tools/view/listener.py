@@ -105,7 +105,7 @@ def tell_listening(options: argparse.Namespace, outbox: Outbox, store: ChipStore
     if not any(live.listening.is_heard for live in (watched, *lives)):
         policy = policy_of(options)
         raise Refused(f"no pilot stands out anywhere {policy.searched(shifts_of(options)[0])}{policy.advice}")
-    return watched.summary()
+    return watched.summary(sum(live.written for live in lives))
 
 
 def run(options: argparse.Namespace, outbox: Outbox, store: ChipStore) -> int:

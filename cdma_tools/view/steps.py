@@ -143,7 +143,8 @@ def steps_of(
     if handset.esn is None or row is None:
         return None
     assigned = Assigned(int(handset.esn, 16), row, handset.offset)
-    return traffic_steps(capture, found, own, assigned, nearest(since - GROUP * handset.offset, FRAME), handset.rate_set)
+    index = nearest(since - GROUP * handset.offset, FRAME)
+    return traffic_steps(capture, found, own, assigned, index, handset.rate_set)
 
 
 def nearest(chips: int, length: int) -> int:

@@ -131,7 +131,13 @@ class WatchedStream(LiveListening):
     """Listening to a stream that reports to the page what arrives."""
 
     def __init__(
-        self, lock: LockOptions, place: Place, wanted: Sequence[Wanted], outbox: Outbox, keeper: ChipKeeper, made: PageWriters
+        self,
+        lock: LockOptions,
+        place: Place,
+        wanted: Sequence[Wanted],
+        outbox: Outbox,
+        keeper: ChipKeeper,
+        made: PageWriters,
     ) -> None:
         """Nothing has come yet of the channels of a place."""
         followed, writers = followed_channels(place, wanted, made)
@@ -169,9 +175,9 @@ class WatchedStream(LiveListening):
             self.tell_spectrum(item)
         super().take(item)
 
-    def summary(self) -> str:
-        """Returns how the listening ended, in words."""
-        seconds, lines = self.listening.lock.seconds, self.written
+    def summary(self, more: int = 0) -> str:
+        """Returns how the listening ended, in words; `more` lines were written of other carriers."""
+        seconds, lines = self.listening.lock.seconds, self.written + more
         how = "stopped" if self.is_stopped else "the source ended"
         return f"{how} after {seconds:,.1f} s: {lines:,} lines, {self.lost:,} samples were lost"
 
