@@ -288,7 +288,7 @@ class KilledRunTest(unittest.TestCase):
                 if run is not None:
                     run.process.kill()
                     run.process.wait()
-            if -1 in kills and relay.current is not None:
+            if -1 in kills and isinstance(relay.current, FollowRun):
                 relay.current.process.kill()
             relay.finish()
         finally:

@@ -27,6 +27,7 @@ from cdma_tools.arguments import hertz_of, rate_of  # noqa: E402
 from cdma_tools.commands import domain, import_capture, listen, report, scan  # noqa: E402
 from cdma_tools.errors import Refused  # noqa: E402
 from cdma_tools.frequencies import channel_at, channel_hertz  # noqa: E402
+from cdma_tools.listening.options import source_of as listening_source  # noqa: E402
 from cdma_tools.listening.parts import Recording as HeardRecording  # noqa: E402
 from cdma_tools.recordings import Recording, type_named  # noqa: E402
 from cdma_tools.sources import live  # noqa: E402
@@ -243,7 +244,7 @@ def taken_by_listening(words: list[str], name: str) -> StoredSamples:
     parser = listen.parser()
     options = parser.parse_args([*words, name])
     listen.check(parser, options)
-    source = listen.source_of(options)
+    source = listening_source(options)
     assert isinstance(source, HeardRecording)
     return StoredSamples(source.lock.kind, Fraction(source.lock.rate), source.path)
 
