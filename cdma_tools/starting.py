@@ -27,6 +27,8 @@ UNFIT_BEGIN, UNFIT_END = "<frozen importlib", "/tempfile.py"
 CALLED_BACK = ("__del__", "__instancecheck__", "__subclasscheck__")
 # The beginning of a pool's work: a thread that its pool doesn't know yet would never end.
 POOLS, BEGUN = "/concurrent/futures/", "submit"
+# Where a process begins that was forked, perhaps in an unfit place of the process that forked it.
+FORKED = "_bootstrap"
 # The ends of a `with` statement: a lock that was just taken, or is about to be released, would be kept.
 ENDS_OF_WITH = ("__enter__", "__exit__")
 # All commands: the module in cdma_tools/commands, the launcher in a checkout, and the name where it is installed.
@@ -160,6 +162,8 @@ def is_unfit(frame: "FrameType | None") -> bool:
         return True
     while frame is not None:
         name, file = frame.f_code.co_name, frame.f_code.co_filename
+        if name == FORKED and file.endswith("/multiprocessing/process.py"):
+            return False
         if file.startswith(UNFIT_BEGIN) or file.endswith(UNFIT_END):
             return True
         if name in CALLED_BACK or name == BEGUN and POOLS in file:

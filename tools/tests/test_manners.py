@@ -681,7 +681,7 @@ class Interrupts(Folder):
         """A curve that two workers count, both of them busy."""
         words = ["--program", self.fake_program("slow"), "--workers", "2", "--out", self.at("out"), *self.curve_words()]
         words += "--frames 100000 --errors 100000".split()  # so that it never ends by itself
-        self.broken_off("tools/curve", *words, said="continues from what", marker=self.at("out/counts.sqlite"), waits=5)
+        self.broken_off("tools/curve", *words, said="curve: broken off", marker=self.at("out/counts.sqlite"), waits=5)
 
     def test_a_tool_that_computes(self) -> None:
         noise = self.keep("noise.ci8", struct.pack("b", 3) + os.urandom(8_000_000 - 1))
