@@ -2,6 +2,10 @@
 """Starts a command in a checkout: tools/NAME and conformance/NAME are copies of this file, whose paths name it."""
 import sys
 
+if __name__ == "__main__":
+    # Python may drop an interrupt that comes in an import, so it waits here until `start` takes it.
+    signals = sys.modules["_signal"]
+    signals.pthread_sigmask(signals.SIG_BLOCK, (signals.SIGINT, signals.SIGTERM))
 try:
     import os
 

@@ -96,6 +96,7 @@ def start(name: str) -> int:
     interrupts = Interrupts(name)
     try:
         interrupts.hear()
+        let_interrupts_in()
         find_packages()
         from cdma_tools import commands
 
@@ -190,6 +191,13 @@ def hear_interrupts(take: "Callable[[int, FrameType | None], None]") -> None:
     for number in (signal.SIGINT, signal.SIGTERM):
         if signal.getsignal(number) is not signal.SIG_IGN:
             signal.signal(number, take)
+
+
+def let_interrupts_in() -> None:
+    """Lets those interrupts in that a launcher has held back from its first line on."""
+    import signal
+
+    signal.pthread_sigmask(signal.SIG_UNBLOCK, (signal.SIGINT, signal.SIGTERM))
 
 
 def pass_over_interrupts() -> None:

@@ -32,6 +32,10 @@ COMMAND = """#!/usr/bin/python3 -S
 \"\"\"The command `{module}` of the package cdma_tools.\"\"\"
 import sys
 
+if __name__ == "__main__":
+    # Python may drop an interrupt that comes in an import, so it waits here until `start` takes it.
+    signals = sys.modules["_signal"]
+    signals.pthread_sigmask(signals.SIG_BLOCK, (signals.SIGINT, signals.SIGTERM))
 try:
     import os
 
