@@ -191,9 +191,9 @@ class LossTest(unittest.TestCase):
         fed(relay, self.cell[2 * (half + PERIOD) :], first + half)
         lines = self.heard(relay, collected)
         self.assertEqual([remark.text.partition(":")[0] for remark in collected.remarks], ["the system time jumped"])
-        again = [line for line in lines if line.startswith("pilot ")]
-        self.assertEqual(len(again), 2)
-        good = compared(Sent(script_of(1, 1, 0, PIECE)), lines[lines.index(again[1]) :], 12 * CHIP_RATE)
+        pilots = [place for place, line in enumerate(lines) if line.startswith("pilot ")]
+        self.assertEqual(len(pilots), 2)
+        good = compared(Sent(script_of(1, 1, 0, PIECE)), lines[pilots[1] :], 12 * CHIP_RATE)
         self.assertEqual((good.missing, good.excess, good.shift), ({}, {}, PERIOD))
 
     def test_a_break_begins_anew(self) -> None:
