@@ -739,8 +739,11 @@ class Streams(Server):
 
     def test_an_interrupt_while_it_begins(self) -> None:
         """It waits until the loop takes it: then the child and each thread end too."""
+        path = os.path.join(temporary_folder(self.addCleanup), "long.cu8")
+        with open(path, "wb") as file:
+            file.truncate(1 << 28)  # a source that doesn't end before the interrupt is taken
         for place in ("loop", "thread"):
-            words = [place, ROOT, *self.raw, "--no-browser", "--exit", os.devnull]
+            words = [place, ROOT, *self.raw, "--no-browser", "--exit", path]
             ran = subprocess.run([PYTHON, "-B", "-c", BEGINNING, *words], capture_output=True, text=True, timeout=SECONDS)
             self.assertEqual((ran.returncode, ran.stderr), (130, "view: broken off\n"), place)
 
