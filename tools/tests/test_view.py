@@ -738,14 +738,17 @@ class Streams(Server):
         self.assertEqual((process.returncode, said), (1, f"view: {told['ended']['text']}\n"))
 
     def test_an_interrupt_while_it_begins(self) -> None:
-        """It waits until the loop takes it: then the child and each thread end too."""
+        """It waits until the loop takes it: then the child and each thread end too.
+
+        A listening that has begun by then ends in order, without a pilot.
+        """
         path = os.path.join(temporary_folder(self.addCleanup), "long.cu8")
         with open(path, "wb") as file:
             file.truncate(1 << 28)  # a source that doesn't end before the interrupt is taken
         for place in ("loop", "thread"):
             words = [place, ROOT, *self.raw, "--no-browser", "--exit", path]
             ran = subprocess.run([PYTHON, "-B", "-c", BEGINNING, *words], capture_output=True, text=True, timeout=SECONDS)
-            self.assertEqual((ran.returncode, ran.stderr), (130, "view: broken off\n"), place)
+            self.assertRegex(f"{ran.returncode} {ran.stderr}", r"\A(130 view: broken off|1 view: no pilot .*)\n\Z", place)
 
     def test_a_server_that_is_killed(self) -> None:
         """If the command is killed, the process that listens ends too."""
