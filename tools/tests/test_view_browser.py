@@ -162,7 +162,7 @@ class ARecording(Watched):
         self.assertGreater(sum(inside) / len(inside), sum(outside) / len(outside) + 2)
         self.assertAlmostEqual(self.plot("spectrum", "layout.shapes[1].x0"), 3.0, delta=0.01)
         self.assertGreater(len(self.plot("waterfall", "data[0].z")), 5)
-        self.assertGreater(len(self.plot("history", "data[0].x")), 1)
+        self.until("return document.getElementById('history').data[0].x.length > 1")
 
     def check_station(self) -> None:
         """The base station's fields, by their names in the standard."""
