@@ -13,7 +13,7 @@ from typing import Any, TypeVar
 
 from cdma_tools.arguments import Parser, whole_within
 from cdma_tools.errors import Refused
-from cdma_tools.interrupts import noted_interrupts
+from cdma_tools.interrupts import INTERRUPTS, noted_interrupts
 from cdma_tools.starting import INTERRUPTED, break_off
 
 Item = TypeVar("Item")
@@ -43,6 +43,18 @@ def held_interrupts() -> Iterator[None]:
             yield
         finally:
             signal.pthread_sigmask(signal.SIG_UNBLOCK, {signal.SIGINT})
+
+
+def hear_only_parent() -> None:
+    """Lets only the process that forked this one interrupt it, by SIGINT.
+
+    A terminal and timeout(1) send a signal to the whole group, and a service manager to all processes: the parent gets
+    it too, and passes it on.
+    """
+    os.setpgid(0, 0)
+    signal.signal(signal.SIGTERM, signal.SIG_IGN)
+    signal.signal(signal.SIGINT, break_off)
+    signal.pthread_sigmask(signal.SIG_UNBLOCK, INTERRUPTS)
 
 
 def pass_over_interrupts() -> None:

@@ -49,10 +49,12 @@ and `channel`.
 
 With --cells K the K strongest cells of a file of samples are listened to, with --pn P the one with that PILOT_PN. Each
 is freed of the others first, as import_capture does it. That takes longer than the recording lasts, and files of
-floating point in $TMPDIR: 8 bytes per sample, and as much again for each cell. `cell` counts them by their strength.
+floating point in $TMPDIR: 8 bytes per sample, and as much again for each cell, for each carrier that is listened to at
+once. `cell` counts them by their strength.
 
-With --shift, repeated, several carriers of a wide recording or stream are listened to. `carrier` is the HZ that was
-given, and names of files begin with it, as carrier+1250000-cell1-paging1.txt.
+With --shift, repeated, several carriers of a wide recording or stream are listened to at once: of a file each by a
+process of its own, up to the number of processors, or of --workers. Lines on standard output are in the order of the
+carriers. `carrier` is the HZ that was given, and names of files begin with it, as carrier+1250000-cell1-paging1.txt.
 
     tools/listen day.sigmf-meta --paging all --traffic 00c0ffee:12:2 --traffic 00c0fff0:13:0 --json --out-dir day
     tools/listen wide.sigmf-meta --shift -1250000 --shift 0 --shift 1250000 --out-dir day
@@ -160,8 +162,8 @@ def parser() -> Parser:
     lasts = f"seconds of a part (default {PART:.0f})"
     shared.add_argument("--part", type=number_within(LEAST_PART, MOST_PART), default=PART, metavar="S", help=lasts)
     where = shared.add_mutually_exclusive_group()
-    many = "number of processes of this machine (default 1)"
-    where.add_argument("--workers", type=whole_within(1, MOST_WORKERS), default=1, metavar="N", help=many)
+    many = "number of processes of this machine (default 1; with several carriers 1 for each, up to the processors)"
+    where.add_argument("--workers", type=whole_within(1, MOST_WORKERS), metavar="N", help=many)
     where.add_argument("--scheduler", metavar="ADDRESS", help="scheduler of dask.distributed, as tcp://HOST:8786")
     return words
 
@@ -296,7 +298,7 @@ def hear_one(options: argparse.Namespace) -> bool:
             writer.packets, writer.notes = packets, notes
             if isinstance(source, Recording):
                 channels = [Channel(handset, writer)]
-                is_heard = hear_recording(source, channels, options.part, options.workers, options.scheduler)
+                is_heard = hear_recording(source, channels, options.part, options.workers or 1, options.scheduler)
             else:
                 lock = lock_options(options, source.kind, source.rate, is_live=True)
                 is_heard = hear_stream(source, lock, handset, writer, output, output.already.lines > 0)

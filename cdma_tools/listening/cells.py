@@ -4,10 +4,10 @@ from __future__ import annotations
 
 import contextlib
 import tempfile
-from collections.abc import Iterator
+from collections.abc import Callable, Iterator
 from dataclasses import dataclass, replace
 from fractions import Fraction
-from typing import TYPE_CHECKING
+from typing import TYPE_CHECKING, Any
 
 from cdma_tools.errors import said
 from cdma_tools.listening.parts import Recording
@@ -40,10 +40,13 @@ class CellRecording:
 
 
 @contextlib.contextmanager
-def cell_recordings(recording: Recording, wanted: CellsWanted) -> Iterator[list[CellRecording]]:
+def cell_recordings(
+    recording: Recording, wanted: CellsWanted, show: Callable[..., Any] = bar
+) -> Iterator[list[CellRecording]]:
     """Yields the wanted cells of a recording; refuses one without a pilot, or without the cell of a PILOT_PN.
 
-    Meanwhile there are temporary files of floating point, one of the recording and one for each cell.
+    Meanwhile there are temporary files of floating point, one of the recording and one for each cell. `show` makes the
+    bar of progress.
     """
     from cdma_tools.analysis.cells import Search
     from cdma_tools.radio.locking import Options
@@ -53,7 +56,7 @@ def cell_recordings(recording: Recording, wanted: CellsWanted) -> Iterator[list[
         lock.kind, Fraction(lock.rate), shift=lock.shift, search=lock.search, conjugate=lock.conjugate,
         equaliser=lock.equaliser, fingers=lock.fingers, count=1,
     )  # fmt: skip
-    with tempfile.TemporaryDirectory(prefix="cells-") as folder, bar(text="cells", unit="cells") as shown:
+    with tempfile.TemporaryDirectory(prefix="cells-") as folder, show(text="cells", unit="cells") as shown:
 
         def tell(text: str) -> None:
             shown.set_description(text)

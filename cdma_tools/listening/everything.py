@@ -1,17 +1,20 @@
 """All that is asked of a source at once: channels of several cells, on several carriers of a wide recording.
 
-A file of samples is listened to one carrier, and one cell, after the other. A stream is listened to on all carriers at
-once, each in its own thread: the transforms of a lock leave Python to the others.
+Carriers are listened to at once: those of a file of samples each in its own process, with one cell after the other,
+and those of a stream each in its own thread. The transforms of a lock leave Python to the other threads.
 """
 
 import contextlib
+import os
 import threading
 from collections.abc import Callable, Iterator, Sequence
 from dataclasses import dataclass, replace
+from functools import partial
 from typing import Any, Protocol
 
 from cdma_tools.errors import Refused, said
 from cdma_tools.interrupts import each_hang_up, first_interrupt
+from cdma_tools.listening.at_once import Show, Task, done_at_once
 from cdma_tools.listening.cells import CellsWanted, cell_recordings
 from cdma_tools.listening.channels import ChannelOutputs, Trial, Wanted, sent_channels
 from cdma_tools.listening.line_writer import LineWriter
@@ -21,6 +24,7 @@ from cdma_tools.listening.parts import Recording
 from cdma_tools.listening.relays import Followed
 from cdma_tools.listening.sharing import Channel, hear_recording
 from cdma_tools.listening.stream_lock import LockOptions
+from cdma_tools.progress import bar
 from cdma_tools.sources.backlog import Backlog, Item
 from cdma_tools.sources.live import Stream
 from cdma_tools.starting import called
@@ -78,11 +82,18 @@ class Writers:
 
 @dataclass(frozen=True)
 class Sharing:
-    """How a file of samples is shared out: seconds of a part, processes of this machine, or a scheduler."""
+    """How a file of samples is shared out: seconds of a part, processes of this machine if a number is given, or a
+    scheduler; and what makes bars of progress."""
 
     part: float
-    workers: int
+    workers: int | None
     scheduler: str | None
+    show: Show = bar
+
+    def of_carriers(self, count: int) -> tuple[int, "Sharing"]:
+        """Returns the number of carriers that are listened to at once, of `count`, and how each one is shared out."""
+        at_once = min(count, self.workers or len(os.sched_getaffinity(0)))
+        return at_once, replace(self, workers=max(1, (self.workers or 1) // at_once))
 
 
 def hear_file(
@@ -94,14 +105,20 @@ def hear_file(
     sharing: Sharing,
 ) -> bool:
     """Listens to a file of samples on carriers around `shifts`; returns whether a pilot was found."""
-    heard = []
-    for shift in shifts:
-        place = Place(1, shift, cells is not None and cells.pn is None, len(shifts) > 1)
-        on_carrier = replace(recording, lock=replace(recording.lock, shift=shift))
+    at_once, shared = sharing.of_carriers(len(shifts))
+
+    def hear_carrier(place: Place, show: Show) -> bool:
+        """Listens to a carrier; returns whether a pilot was found."""
+        on_carrier = replace(recording, lock=replace(recording.lock, shift=place.carrier))
         with told_of(place):
-            heard.append(hear_cells(on_carrier, place, cells, wanted, writers, sharing))
-            say_unheard(place, heard[-1])
-    return any(heard)
+            is_heard = hear_cells(on_carrier, place, cells, wanted, writers, replace(shared, show=show))
+            say_unheard(place, is_heard)
+            return is_heard
+        return False
+
+    has_cells = cells is not None and cells.pn is None
+    places = [replace(place, has_cells=has_cells) for place in places_on(shifts)]
+    return any(done_at_once([Task(place.title, partial(hear_carrier, place)) for place in places], at_once))
 
 
 def say_unheard(place: Place, is_heard: bool) -> None:
@@ -132,7 +149,7 @@ def hear_cells(
     """Listens to the wanted cells of a carrier, or to the strongest one; returns whether a pilot was found."""
     if cells is None:
         return hear_cell(recording, place, wanted, writers, sharing)
-    with cell_recordings(recording, cells) as found:
+    with cell_recordings(recording, cells, sharing.show) as found:
         heard = [
             hear_cell(one.recording, replace(place, cell=one.number), wanted, writers, sharing) for one in found
         ]
@@ -145,7 +162,8 @@ def hear_cell(
     """Listens to the channels of the strongest cell; returns whether a pilot was found."""
     handsets = sent_channels(recording, wanted)
     channels = [Channel(one, writers.of(place, Wanted(one))) for one in handsets]
-    return hear_recording(recording, channels, sharing.part, sharing.workers, sharing.scheduler)
+    workers = sharing.workers or 1
+    return hear_recording(recording, channels, sharing.part, workers, sharing.scheduler, show=sharing.show)
 
 
 def places_on(shifts: Sequence[float]) -> list[Place]:

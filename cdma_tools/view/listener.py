@@ -12,7 +12,6 @@ from dataclasses import replace
 from cdma_tools.commands import listen
 from cdma_tools.errors import Refused, printable, text_of
 from cdma_tools.frequencies import frequency_given
-from cdma_tools.interrupts import INTERRUPTS
 from cdma_tools.json_lines import LONGEST, as_json, as_line
 from cdma_tools.lines import NoLine
 from cdma_tools.listening.everything import CarrierListening, live_listening
@@ -23,11 +22,12 @@ from cdma_tools.radio.search_policy import policy_of
 from cdma_tools.report.heard_lines import is_lines
 from cdma_tools.sources.live import Stream
 from cdma_tools.sources.stored import is_described, stored_of
-from cdma_tools.starting import INTERRUPTED, break_off
+from cdma_tools.starting import INTERRUPTED
 from cdma_tools.view.chip_store import ChipKeeper, ChipStore
 from cdma_tools.view.outbox import Outbox
 from cdma_tools.view.paced import PacedRecording
 from cdma_tools.view.watched import PageWriters, WatchedStream
+from cdma_tools.workers import hear_only_parent
 
 FAILED = 1
 
@@ -131,17 +131,6 @@ def run(options: argparse.Namespace, outbox: Outbox, store: ChipStore) -> int:
     return status
 
 
-def hear_only_server() -> None:
-    """Lets only the server interrupt this process, once for each interrupt that the server gets.
-
-    A terminal and timeout(1) send a signal to the whole group, and a service manager to all processes.
-    """
-    os.setpgid(0, 0)
-    signal.signal(signal.SIGTERM, signal.SIG_IGN)
-    signal.signal(signal.SIGINT, break_off)
-    signal.pthread_sigmask(signal.SIG_UNBLOCK, INTERRUPTS)
-
-
 class ListenerProcess:
     """A child of this process that listens; SIGINT ends it in order, a second one breaks it off."""
 
@@ -155,7 +144,7 @@ class ListenerProcess:
             os.close(writer)
             return
         try:
-            hear_only_server()
+            hear_only_parent()
             for descriptor in (self.reader, *closed):
                 os.close(descriptor)
             status = run(options, Outbox(writer, may_wait=False), store)
