@@ -54,7 +54,7 @@ fn tuned_listener(
 {
     let Best { phase, .. } = best;
     let mobile = handset(alloc, settings, best, near, codes)?;
-    let tuned = TunedListener::open(alloc, mobile, channel, text, settings.check30, phase, near)?;
+    let tuned = TunedListener::open(alloc, mobile, channel, text, phase, near)?;
     Ok(Box::new(alloc, tuned)?)
 }
 

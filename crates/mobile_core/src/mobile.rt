@@ -126,6 +126,15 @@ impl Mobile {
         })
     }
 
+    /// Returns the form in which the checks of 30 bits are sent, by the settings that the handset
+    /// was made with.
+    pub fn check30(&self) -> CheckForm
+        ensures { (t : Tuning) (heard : List Sample) (given : List TheEvent) →
+            StandsFor t self.now heard given → result ≡ t.check30 }
+    {
+        self.check
+    }
+
     /// Whether a sync message with a nonzero long-code state has set the time.
     pub fn synced(&self) -> bool
         ensures given { (t : Tuning) (heard : List Sample) (given : List TheEvent) →

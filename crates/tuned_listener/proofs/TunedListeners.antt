@@ -79,13 +79,13 @@ module _ (t : Tuning) (channel : Channel) (heard : List Sample) where
 
 -- a writer keeps nothing before any sample is taken
 pub holds_nothing : (t : Tuning) (channel : Channel) (writer : FrameWriter) (check : CheckForm) →
-    AreNear (sync_stream t).fingers → t.check30 ≡ check → HoldsFrames writer check [] →
+    AreNear (sync_stream t).fingers → check ≡ t.check30 → HoldsFrames writer check [] →
     HoldsFrames writer t.check30 (slot_after [] (after_mark t channel []))
 holds_nothing t channel writer check near same holds =
     subst (HoldsFrames writer t.check30)
     (sym (ap (slot_after []) (frames_unmarked t channel [] (none_marked t near))
     ∙ kept_after_none []))
-    (subst (λ (c : CheckForm). HoldsFrames writer c []) (sym same) holds)
+    (subst (λ (c : CheckForm). HoldsFrames writer c []) same holds)
 
 module _ (t : Tuning) (channel : Channel) (form : TunedText) (l : TunedListener)
     (heard : List Sample) (is : ListensTuned t channel form l heard) where

@@ -7,7 +7,7 @@ use crate::frame_writer::{FrameWriter, hear_frames};
 use crate::marking::{Reached, step_to_mark};
 use crate::tuner::Tuner;
 use cdma_io::{Failed, Sink};
-use chip_core::{CheckForm, OutOfMemory, Phase, Sample};
+use chip_core::{OutOfMemory, Phase, Sample};
 use core::mem::replace_with;
 use event_tap::TunedText;
 use heard_events::{Channel, Mark};
@@ -102,8 +102,8 @@ impl TunedListener {
     ghost use Rattle.event_tap.specs.declared.tuned_text.TunedText.{TunedText as TheText};
 
     /// The listener of a channel, for a base station at a phase and near it, instead of a handset
-    /// that has taken no sample of a file. `check` is the form of the check that the messages of a
-    /// paging channel have.
+    /// that has taken no sample of a file. The messages of a paging channel have checks of the form
+    /// that the handset was made with.
     ///
     /// It allocates a decoder, and that is all that can fail.
     pub fn open(
@@ -111,7 +111,6 @@ impl TunedListener {
         mobile: Mobile,
         channel: Channel,
         text: TunedText,
-        check: CheckForm,
         phase: Phase,
         near: Near,
     ) -> Result<TunedListener, OutOfMemory>
@@ -122,10 +121,10 @@ impl TunedListener {
         requires first { slice_get near.deltas 0 ≡ Some (pos 0) }
         ensures room { IfOk result (λ l. tuned_room l ≡ has_room mobile) }
         ensures listens { IfOk result (λ l. (t : Tuning) → StandsFor t mobile [] [] →
-            t.phase ≡ phase → t.deltas ≡ take near.count near.deltas → t.check30 ≡ check →
+            t.phase ≡ phase → t.deltas ≡ take near.count near.deltas →
             ListensTuned t channel text l []) }
     {
-        let writer = FrameWriter::open(alloc, text, check)?;
+        let writer = FrameWriter::open(alloc, text, mobile.check30())?;
         let hearer = Hearer::Ahead {
             mobile,
             channel,

@@ -1,4 +1,4 @@
-use Rattle.cdma_replay.proofs.Common.{◌≡◌, length, refl, rules, sym, best_phase-only, tuning_for}
+use Rattle.cdma_replay.proofs.Common.{◌≡◌, length, rules, sym, best_phase-only, tuning_for}
 use Rattle.cdma_replay.proofs.Hearings.{near_taken}
 use Rattle.cdma_replay.proofs.opening.tuned_listener.Goals as goal
 
@@ -13,5 +13,4 @@ returns-clause-listens c first found near =
     let boxed : c.in_ok-new.field-0.value ≡ c.in_ok-tuned.tuned = search rules in
     rw boxed (c.in_ok-tuned.ensures.listens (tuning_for settings first) (c.in_ok-mobile.ensures.given first found near)
     (sym (best_phase-only first best.phase best.energy found))
-    (sym (near_taken first settings.fingers best c.args.near found near.0 c.requires.settings.0.1 long near.1))
-    refl)
+    (sym (near_taken first settings.fingers best c.args.near found near.0 c.requires.settings.0.1 long near.1)))
