@@ -34,6 +34,7 @@ pub use Rattle.mobile_core.proofs.Common.{ints, length-append, places, replicate
 pub use Rattle.mobile_core.specs.AfterMark.{IsSoundAssignment}
 pub use Rattle.mobile_core.specs.Standing.{IsStep, StandsFor, Steps, events_left, has_room, steps_left}
 pub use Rattle.mobile_core.specs.declared.mobile.Step.{Step}
+pub use Rattle.run_ends.proofs.Ends.{ended_by}
 pub use Rattle.run_replies.proofs.Bounds.{none_most, opening_most, passed_most, piece_most, rest_most, span_most, unread_most}
 pub use Rattle.run_replies.proofs.Common.{All, Consumes, IsAtEnd, IsOfFiles, IsEndOf, Keeps, PassesSamples, Reading, ◌≢◌}
 pub use Rattle.run_replies.proofs.Common.{WritesNoMore, WritesText, best_phase, energy, flat_map, header_spelling, length-header_spelling}
@@ -42,7 +43,7 @@ unfoldable pub use Rattle.run_replies.proofs.Common.{made_file, plan_named}
 pub use Rattle.run_replies.proofs.CutFiles.{has_bytes, lost, no_fewer, no_long_cut, opening_few, same_header, span_few, unopened}
 pub use Rattle.run_replies.proofs.Ends.{told_alike}
 pub use Rattle.run_replies.proofs.Faults.{fault_of_count, fault_of_opening, fault_of_rest, fault_of_span, rest_cut_fault, rest_extra_fault}
-pub use Rattle.run_replies.proofs.Files.{blamed, ended_by, no_file, none_within, unsearchable, wrong_length}
+pub use Rattle.run_replies.proofs.Files.{blamed, no_file, none_within, unsearchable, wrong_length}
 pub use Rattle.run_replies.proofs.Runs.{by_vtable, four_forms, line_told, passed_run, rose_before, run_passed, run_with}
 pub use Rattle.run_replies.proofs.Stopped.{lost_not_bad, lost_not_misread, stopped_file, unread_file}
 pub use Rattle.run_replies.proofs.JobRuns.{file_run, made_run, trial_run, with_taps}
@@ -51,15 +52,15 @@ pub use Rattle.run_replies.specs.Findings.{findings_text}
 pub use Rattle.run_replies.specs.Hearing.{AreNearTo, AreReady, ByFrames, ByTaps, GainsPrefix, GainsText, Listening, LosesSamples}
 pub use Rattle.run_replies.specs.Hearing.{Unheard, end_when, is_told, listening, span_of, tuning_for}
 unfoldable pub use Rattle.run_replies.specs.Hearing.{best_pilot, file_end_of, file_text, told}
-pub use Rattle.run_replies.specs.Make.{WritesNoMoreMade, piece_bytes, sample_bytes}
+pub use Rattle.run_ends.specs.Make.{WritesNoMoreMade, piece_bytes, sample_bytes}
 unfoldable pub use Rattle.run_replies.specs.Ranks.{ranks_text, survey_text}
-pub use Rattle.run_replies.specs.Status.{file_status, script_status}
+pub use Rattle.run_ends.specs.Status.{file_status, script_status}
 pub use Rattle.run_replies.specs.Trials.{LeavesRoom, count_of, counts_with, is_good, one_if, summary, trial_samples, trial_settings}
 pub use Rattle.run_replies.specs.Trials.{trial_span, trial_tuning}
 unfoldable pub use Rattle.run_replies.specs.Trials.{counts_of, trial_line}
 pub use Rattle.run_replies.specs.declared.counts.Counts.{Counts}
 pub use Rattle.run_replies.specs.declared.findings.Findings.{Findings}
-pub use Rattle.run_replies.specs.declared.status.Status.{Status}
+pub use Rattle.run_ends.specs.declared.status.Status.{Status}
 pub use Rattle.pilot_search.proofs.BestPhase.{best_energy-only, best_phase-only}
 pub use Rattle.pilot_search.proofs.Common.{Bool, IsBestIn, List, [], ap, arith, drop, false, inl, inr, length, map, of_sample, pos, refl, ℕ}
 pub use Rattle.pilot_search.proofs.Common.{rules, subst, suc, sym, take, true, ℤ, ◌*◌, ◌++◌, ◌+◌, ◌-◌, ◌<◌, ◌∙◌, ◌∷◌, ◌≡◌, ◌≤◌}

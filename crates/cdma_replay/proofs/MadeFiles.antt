@@ -8,7 +8,7 @@ use Rattle.cdma_replay.proofs.Common.{prefix_of, taken_begins, script_status, le
 use Rattle.cdma_replay.proofs.Common.{piece_bytes, length-take-le, take-append-drop, sample_bytes}
 use Rattle.cdma_replay.proofs.Counting.{next_made}
 use Rattle.cell_script.proofs.ScriptAnswers.{too_big}
-use Rattle.run_replies.specs.declared.status.Status.TheVariants as Status
+use Rattle.run_ends.specs.declared.status.Status.TheVariants as Status
 
 -- ---- scripts
 

@@ -3,7 +3,7 @@ use Rattle.cdma_replay.proofs.Common.{◌≡◌, ℕ, List, [], Option, None, Re
 use Rattle.cdma_replay.proofs.Common.{unread_most, IsEndOf, Job, Make, Trial}
 use Rattle.command_line.specs.declared.job.WordFault.{WordFault}
 use Rattle.run_replies.specs.Runs.{RunsCommand}
-use Rattle.run_replies.specs.Flows.{flow}
+use Rattle.run_ends.specs.Flows.{flow}
 
 -- each job may end out of memory
 job_starves : (job : Job) → IsEndOf job Status.NoMemory

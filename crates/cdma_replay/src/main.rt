@@ -26,7 +26,7 @@ use cdma_io::{ReaderSource, WriterSink};
 pub use command_line::{Job, WordFault, words_of};
 use program::{run, without_args};
 pub use replaying::replay;
-pub use run_replies::Status;
+pub use run_ends::Status;
 use std::process::ExitCode;
 use std::rt::Env;
 use std::{env, io};

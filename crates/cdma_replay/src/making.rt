@@ -6,7 +6,7 @@ ghost use Rattle.std.specs.Prelude.{IfErr, OnOk, IfSome};
 ghost use Rattle.std.specs.Io.KnownBytes.{IsAtEnd};
 ghost use Rattle.cell_script.specs.declared.script_fault.ScriptFault.{ScriptFault};
 ghost use Rattle.cell_script.specs.Script.{plan_named};
-ghost use Rattle.run_replies.specs.Flows.{flow_of};
+ghost use Rattle.run_ends.specs.Flows.{flow_of};
 
 mod writing;
 
@@ -14,7 +14,7 @@ use crate::workspace::PIECE;
 use base_modulator::{Cell, ScriptFault};
 use cdma_io::{Failed, Sink, Source, Width, fill};
 use chip_core::{OutOfMemory, Sample};
-use run_replies::Status;
+use run_ends::Status;
 use std::alloc::Global;
 use writing::write_cell;
 

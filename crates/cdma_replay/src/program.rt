@@ -8,15 +8,15 @@ ghost use Rattle.std.specs.IoError.{error_kind};
 ghost use Rattle.std.specs.Process.{exit_status};
 ghost use Rattle.run_replies.specs.Runs.{ExitsBy, IsPassedOn, MayHold, PassesOn, RunsCommand};
 ghost use Rattle.run_replies.specs.Runs.{TellsEnd, each_form};
-ghost use Rattle.run_replies.specs.Status.{code_of};
-ghost use Rattle.run_replies.specs.Flows.{flow_of};
+ghost use Rattle.run_ends.specs.Status.{code_of};
+ghost use Rattle.run_ends.specs.Flows.{flow_of};
 
 use crate::replaying::replay;
 use cdma_io::{Failed, FileFault, Sink, Source, WriterSink, write_all};
 use command_line::{WordFault, words_of};
 use event_tap::{FrameTap, MessageTap, PilotTap, RawTap, Tap};
 use pilot_search::Open;
-use run_replies::Status;
+use run_ends::Status;
 use std::alloc::{AllocError, Global};
 use std::io;
 use std::io::{ErrorKind, Write};

@@ -3,7 +3,7 @@
 ghost use Rattle.cdma_replay.specs.Common.{IsLawfulJob, job_named, ended, RunsJob};
 ghost use Rattle.std.specs.Prelude.{◌≡◌, map};
 ghost use Rattle.run_replies.specs.Runs.{RunsCommand};
-ghost use Rattle.run_replies.specs.Flows.{flow_of};
+ghost use Rattle.run_ends.specs.Flows.{flow_of};
 
 use crate::making::make;
 use crate::receiving::receive;
@@ -12,7 +12,7 @@ use cdma_io::{Sink, Source};
 use command_line::{Job, WordFault, words_of};
 use event_tap::{Tap, Taps};
 use pilot_search::Gate;
-use run_replies::Status;
+use run_ends::Status;
 use std::alloc::Global;
 use std::thread::Threads;
 

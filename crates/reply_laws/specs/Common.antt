@@ -31,12 +31,12 @@ pub use Rattle.run_replies.specs.Common.{sent_events, plan_named, header_of, syn
 pub use Rattle.run_replies.specs.Common.{IsOnPath, phase_at, run_text, kept_by, Tuning, events}
 pub use Rattle.run_replies.specs.Hearing.{clean_end, clean_events, end_when, settings_for, waiting}
 pub use Rattle.run_replies.specs.Hearing.{traffic_channel_with, tuning_for}
-pub use Rattle.run_replies.specs.Make.{made_file}
+pub use Rattle.run_ends.specs.Make.{made_file}
 pub use Rattle.run_replies.specs.Ranks.{survey_text}
 pub use Rattle.run_replies.specs.Replies.{AnswersAfter, IsFileReply, IsReply, Reply}
 pub use Rattle.run_replies.specs.Trials.{trial_line}
 pub use Rattle.run_replies.specs.TuningLaw.{HandsetsAreTuned, HandsetsLieOnThePath}
-pub use Rattle.run_replies.specs.declared.status.Status.{Status}
-pub use Rattle.run_replies.specs.declared.status.Status.TheVariants.{Done, NoMemory}
+pub use Rattle.run_ends.specs.declared.status.Status.{Status}
+pub use Rattle.run_ends.specs.declared.status.Status.TheVariants.{Done, NoMemory}
 pub use Rattle.slot_link.specs.Laws.{slots_after, slots_sent}
 pub use Rattle.tuned_listener.specs.SlotLaws.{AgreeWhereHeard}

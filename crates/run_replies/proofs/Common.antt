@@ -41,21 +41,21 @@ pub use Rattle.run_replies.specs.CleanLinks.{WritesEach}
 pub use Rattle.run_replies.specs.Common.{CellPlan, Event, FileFault, FollowsSent, Header, HearsEach, Job, KeptTap, Sample, ScriptFault}
 pub use Rattle.run_replies.specs.Common.{Settings, Status, Traffic, Tuning, Width, best_phase}
 pub use Rattle.run_replies.specs.Common.{energy, events, kept_by, near_deltas, next_place, phase_at, sent_events}
-pub use Rattle.run_replies.specs.Find.{BeginsFile, IsEnd, IsFault, IsFaultIn, IsHeaderFault, IsLaterFault, IsOfFiles, IsRestFault, ended}
+pub use Rattle.run_replies.specs.Find.{BeginsFile, IsEnd, IsFault, IsFaultIn, IsHeaderFault, IsLaterFault, IsOfFiles, IsRestFault}
 pub use Rattle.run_replies.specs.Find.{IsSearchable, PassesSamples, TakesNoMore, TakesSpan, WritesNoMore, WritesText, file_end, most_taken}
 pub use Rattle.run_replies.specs.Hearing.{IsUnheard, clean_end, end_when, is_told, listening, settings_for, span_of, tuning_for}
 unfoldable pub use Rattle.run_replies.specs.Hearing.{clean_events, file_end_of, file_text, told}
-pub use Rattle.run_replies.specs.Make.{WritesMadeFile, WritesNoMoreMade}
-unfoldable pub use Rattle.run_replies.specs.Make.{made_file}
+pub use Rattle.run_ends.specs.Make.{MakesFile, WritesMadeFile, WritesNoMoreMade}
+unfoldable pub use Rattle.run_ends.specs.Make.{made_file}
 pub use Rattle.run_replies.specs.Replies.{Answers, AnswersAfter, Begins, GainsNothingOr, IsAnswered, IsEarlyFault, IsFaultyFile, IsFileEnd}
 pub use Rattle.run_replies.specs.Replies.{BoundsInput, IsEndOf, IsFaultyScript, IsFileReply, IsLawfulInput, IsPromising, IsReply}
 pub use Rattle.run_replies.specs.Replies.{IsScriptEnd, IsScriptReply, IsTrialEnd, IsTrialReply, IsVerdict, IsWholeFile, IsWholeScript}
 pub use Rattle.run_replies.specs.Replies.{ReadsInput, ReadsWell, Reply, taps_for}
 pub use Rattle.run_replies.specs.Replies.{WritesTaken, WritesWhole}
 pub use Rattle.run_replies.specs.Runs.{IsPassedOn, MayHold, PassesOn, RunsCommand, TellsEnd, each_form}
-pub use Rattle.run_replies.specs.Status.{end_line, file_status}
-pub use Rattle.run_replies.specs.Flows.{Flow, flow}
-pub use Rattle.run_replies.specs.JobRuns.{MakesFile, ReceivesFile, RunsJob}
+pub use Rattle.run_ends.specs.Status.{end_line, ended, file_status}
+pub use Rattle.run_ends.specs.Flows.{Flow, flow}
+pub use Rattle.run_replies.specs.JobRuns.{ReceivesFile, RunsJob}
 unfoldable pub use Rattle.run_replies.specs.Trials.{trial_line}
 pub use Rattle.run_replies.specs.TuningLaw.{HandsetsAreTuned, HandsetsLieOnThePath}
-pub use Rattle.run_replies.specs.declared.status.Status.TheVariants.{BadFile, Done, NoMemory, NoSync, WriteFault}
+pub use Rattle.run_ends.specs.declared.status.Status.TheVariants.{BadFile, Done, NoMemory, NoSync, WriteFault}

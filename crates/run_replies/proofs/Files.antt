@@ -3,6 +3,7 @@ use Rattle.run_replies.proofs.Common.{◌≡◌, ◌≢◌, ℕ, ◌+◌, ◌*�
 use Rattle.run_replies.proofs.Common.{Option, Some, IfSome, Result, Ok, Err, IfErr, IsErrAnd, flat_map, Sample, FileFault, Short, Extra}
 use Rattle.run_replies.proofs.Common.{ReadFault, TooFew, Header, IsSampleFile, Reading, header_spelling, opening, sample_len, width_of, []}
 use Rattle.run_replies.proofs.Common.{sample_spelling, opening-spelled, length-header_spelling, length-samples, Status, BadFile, All}
+use Rattle.run_ends.proofs.Ends.{ended_by}
 use Rattle.run_replies.proofs.Common.{HasBits, Width, file_status, IsFaultIn, IsLaterFault, IsRestFault, IsSearchable, ended}
 
 -- ---- what the bytes of a good file tell
@@ -118,12 +119,6 @@ bad_file_is ReadFault fault h = absurd (cc)
 bad_file_is e fault h = (cc, λ (r : fault ≡ ReadFault). cc)
 
 -- ---- how a run ends by a fault
-
--- a fault was handed on
-pub ended_by : {T : Type 0} (r : Result T Status) (status : Status) →
-    IsErrAnd r (λ (s : Status). s ≡ status) → ended r ≡ status
-ended_by (Ok x) status handed = absurd handed
-ended_by (Err s) status handed = handed
 
 -- where it blames the file's bytes, it is a fault in them
 pub blamed : {T : Type 0} (r : Result T Status) (e fault : FileFault) →

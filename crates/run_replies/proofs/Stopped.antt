@@ -7,7 +7,7 @@ use Rattle.run_replies.proofs.Common.{BeginsFile, IsHeaderFault, TakesNoMore, Re
 use Rattle.run_replies.proofs.CutFiles.{nothing_all, nothing_first}
 use Rattle.run_replies.proofs.Ends.{by_file_status, fault_no_end}
 use Rattle.run_replies.proofs.Files.{blamed, unsearchable}
-use Rattle.run_replies.specs.declared.status.Status.TheVariants as ends
+use Rattle.run_ends.specs.declared.status.Status.TheVariants as ends
 
 -- a fault is none of arguments and scripts
 fault_of_files : (status : Status) → IsFault status → IsOfFiles status

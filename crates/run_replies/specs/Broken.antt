@@ -10,7 +10,7 @@ use Rattle.std.specs.Io.{StartsWith}
 use Rattle.std.specs.Io.KnownBytes.{Appends, Consumes}
 use Rattle.cdma_io.specs.declared.file_fault.FileFault.TheVariants.{Short, Extra}
 use Rattle.run_replies.specs.Hearing.{Listening, GainsText, file_text, span_of}
-use Rattle.run_replies.specs.declared.status.Status.TheVariants.{BadFile, ReadFault}
+use Rattle.run_ends.specs.declared.status.Status.TheVariants.{BadFile, ReadFault}
 
 -- the file ended before its samples, or a read failed
 abbrev pub IsCut : Status → Type 0

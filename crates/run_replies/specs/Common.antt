@@ -26,4 +26,4 @@ pub use Rattle.heard_events.specs.declared.event.Event.TheVariants.{Frame, Pilot
 pub use Rattle.heard_events.specs.declared.settings.Settings.{Settings}
 pub use Rattle.pilot_search.specs.Near.{near_deltas}
 pub use Rattle.pilot_search.specs.Search.{best_phase, energy}
-pub use Rattle.run_replies.specs.declared.status.Status.{Status}
+pub use Rattle.run_ends.specs.declared.status.Status.{Status}

@@ -9,10 +9,10 @@ use Rattle.std.specs.List.{flat_map}
 use Rattle.std.specs.Io.{StartsWith}
 use Rattle.std.specs.Io.KnownBytes.{Appends, Consumes}
 use Rattle.cdma_io.specs.declared.file_fault.FileFault.TheVariants.{Short, Extra, ReadFault, TooFew}
-use Rattle.run_replies.specs.declared.status.Status.TheVariants.{Done, NoSync, BadFile, WriteFault}
-use Rattle.run_replies.specs.declared.status.Status.TheVariants.{BadWords, BadScript}
+use Rattle.run_ends.specs.declared.status.Status.TheVariants.{Done, NoSync, BadFile, WriteFault}
+use Rattle.run_ends.specs.declared.status.Status.TheVariants.{BadWords, BadScript}
 use Rattle.run_replies.specs.Hearing.{file_end_of, file_text, span_of}
-use Rattle.run_replies.specs.declared.status.Status.TheVariants as ends
+use Rattle.run_ends.specs.declared.status.Status.TheVariants as ends
 
 -- bytes that are a sample file of at least `span` samples
 pub record IsSearchable (bytes : List ℕ) (span : ℕ) : Type 0 where
@@ -133,11 +133,6 @@ IsRestFault reading len (Short place) =
 IsRestFault reading len (Extra place) =
     (place ≡ file_end reading.header) × (sample_len (width_of reading.header) * reading.left < len)
 IsRestFault reading len _ = ⊥
-
--- how a run ends that went through or not
-abbrev pub ended : {T : Type 0} → Result T Status → Status
-ended (Ok done) = Done
-ended (Err status) = status
 
 -- a fault of the file or of the outside
 abbrev pub IsFault : Status → Type 0

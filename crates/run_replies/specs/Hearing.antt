@@ -17,7 +17,7 @@ use Rattle.event_tap.specs.EventLines.{event_line}
 use Rattle.event_tap.specs.declared.tuned_text.TunedText.TheVariants.{Listed, RateSetTwo, Slots}
 use Rattle.run_replies.specs.CleanFiles.{cell_energy}
 use Rattle.run_replies.specs.Ranks.{survey_text}
-use Rattle.run_replies.specs.declared.status.Status.TheVariants.{Done, NoSync}
+use Rattle.run_ends.specs.declared.status.Status.TheVariants.{Done, NoSync}
 use Rattle.command_line.specs.declared.job.Job.TheVariants as jobs
 use Rattle.heard_events.specs.declared.channel.Channel.TheVariants as channels
 

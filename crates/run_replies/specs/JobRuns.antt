@@ -1,23 +1,20 @@
--- What a run promises that receives a sample file, makes one, or tries a link. It ends so, over
--- this source and this sink.
-use Rattle.run_replies.specs.Common.{Width, ConsumesAtMost, Rose, FileFault, ScriptFault, KeptTap}
-use Rattle.run_replies.specs.Common.{plan_named, Job, Status}
-use Rattle.std.specs.Prelude.{◌≡◌, ◌≢◌, ℕ, ◌≤◌, ◌⊎◌, List, Option, IfSome, IsOk, Err}
+-- The contract of a run that receives a sample file, and of a run of any job, which ended with this
+-- status over this source and this sink. That of a run of `make` is in `run_ends/specs/Make`.
+use Rattle.run_replies.specs.Common.{ConsumesAtMost, Rose, FileFault, KeptTap, Job, Status}
+use Rattle.std.specs.Prelude.{◌≡◌, ◌≢◌, ℕ, ◌≤◌, ◌⊎◌, List, IfSome}
 use Rattle.std.specs.Io.KnownBytes.{Appends, IsAtEnd}
 use Rattle.run_replies.specs.Broken.{IsCut, IsLong, WritesAll, WritesFirst}
 use Rattle.run_replies.specs.Find.{BeginsFile, IsEnd, IsFaultIn, IsHeaderFault, IsOfFiles}
 use Rattle.run_replies.specs.Find.{IsSearchable, TakesNoMore, WritesNoMore, WritesText}
 use Rattle.run_replies.specs.Hearing.{IsUnheard, span_of}
-use Rattle.run_replies.specs.Make.{WritesMadeFile, WritesNoMoreMade}
 use Rattle.run_replies.specs.Replies.{IsPromising, BoundsInput, WritesWhole, IsEndOf}
 use Rattle.run_replies.specs.Replies.{WritesTaken, ReadsInput, GainsNothingOr, IsReply}
 use Rattle.run_replies.specs.Replies.{IsEarlyFault, IsAnswered, Begins, IsVerdict}
-use Rattle.run_replies.specs.Flows.{Flow}
+use Rattle.run_ends.specs.Flows.{Flow}
 use Rattle.run_replies.specs.Trials.{trial_line}
 use Rattle.command_line.specs.declared.job.Job.TheVariants.{Trial}
 use Rattle.cdma_io.specs.declared.file_fault.FileFault.TheVariants as file
-use Rattle.cell_script.specs.declared.script_fault.ScriptFault.TheVariants as script
-use Rattle.run_replies.specs.declared.status.Status.TheVariants as ends
+use Rattle.run_ends.specs.declared.status.Status.TheVariants as ends
 
 -- a sample file was received, with these taps
 pub record ReceivesFile (taps : List KeptTap) (job : Job) (status : Status)
@@ -44,30 +41,6 @@ pub record ReceivesFile (taps : List KeptTap) (job : Job) (status : Status)
   pub written : WritesNoMore taps job source.before source.after sink.before sink.after
   pub cut : IsCut status → WritesFirst taps job source.before source.after sink.before sink.after
   pub long : IsLong status → WritesAll taps job source.before sink.before sink.after
-  pub later_source : source.faults ≤ source.faults_after
-  pub later_sink : sink.faults ≤ sink.faults_after
-
--- the file of a script's cell was made
-pub record MakesFile (width : Width) (status : Status)
-    (source sink : Flow) : Type 0 where
-  pub done : status ≡ ends.Done →
-      IfSome source.before (λ bytes. WritesMadeFile width bytes sink.before sink.after)
-  pub at_end : status ≡ ends.Done → IsAtEnd source.after
-  pub others : (status ≢ ends.NoSync) × (status ≢ ends.BadWords) ×
-      ((fault : FileFault) → status ≢ ends.BadFile fault)
-  pub memory : status ≡ ends.NoMemory → sink.Same
-  pub early : status ≡ ends.NoMemory →
-      source.Same ⊎ IfSome source.before (λ bytes. IsOk (plan_named width bytes))
-  pub bad_script : (fault : ScriptFault) → status ≡ ends.BadScript fault →
-      (fault ≢ script.OutOfMemory) × sink.Same ×
-      IfSome source.before (λ bytes. plan_named width bytes ≡ Err fault)
-  pub read_fault : status ≡ ends.ReadFault → Rose source.faults source.faults_after
-  pub unwritten : status ≡ ends.ReadFault → sink.Same
-  pub write_fault : status ≡ ends.WriteFault → Rose sink.faults sink.faults_after
-  pub lawful : status ≡ ends.WriteFault →
-      IfSome source.before (λ bytes. IsOk (plan_named width bytes))
-  pub written : WritesNoMoreMade width source.before sink.before sink.after
-  pub bound : ConsumesAtMost 1048577 source.before source.after
   pub later_source : source.faults ≤ source.faults_after
   pub later_sink : sink.faults ≤ sink.faults_after
 

@@ -4,13 +4,10 @@ pub mod CleanLinks
 pub mod Common
 pub mod Find
 pub mod Findings
-pub mod Flows
 pub mod Hearing
 pub mod JobRuns
-pub mod Make
 pub mod Ranks
 pub mod Replies
 pub mod Runs
-pub mod Status
 pub mod Trials
 pub mod TuningLaw

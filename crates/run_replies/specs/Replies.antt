@@ -11,13 +11,13 @@ use Rattle.run_replies.specs.Broken.{WritesAll, WritesFirst}
 use Rattle.run_replies.specs.Find.{BeginsFile, BeginsText, IsFaultIn, IsHeaderFault, IsSearchable}
 use Rattle.run_replies.specs.Find.{TakesNoMore}
 use Rattle.run_replies.specs.Hearing.{IsUnheard, file_end_of, file_text, span_of}
-use Rattle.run_replies.specs.Make.{BeginsMadeFile, made_file}
+use Rattle.run_ends.specs.Make.{BeginsMadeFile, made_file}
 use Rattle.run_replies.specs.Trials.{trial_line}
 use Rattle.command_line.specs.Args.{job_limits}
 use Rattle.command_line.specs.declared.job.Job.TheVariants.{Make, Trial}
 use Rattle.cdma_io.specs.declared.file_fault.FileFault.TheVariants as file
 use Rattle.cell_script.specs.declared.script_fault.ScriptFault.TheVariants as script
-use Rattle.run_replies.specs.declared.status.Status.TheVariants as ends
+use Rattle.run_ends.specs.declared.status.Status.TheVariants as ends
 
 -- ---- replies
 

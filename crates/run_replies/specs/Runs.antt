@@ -16,11 +16,11 @@ use Rattle.run_replies.specs.Hearing.{clean_end, clean_events}
 use Rattle.run_replies.specs.Replies.{AnswersAfter, Begins, BoundsInput, IsAnswered, IsEarlyFault}
 use Rattle.run_replies.specs.Replies.{IsEndOf, IsPromising, IsReply, IsVerdict, ReadsInput, Reply}
 use Rattle.run_replies.specs.Replies.{ReadsWell, WritesWhole, WritesTaken, GainsNothingOr}
-use Rattle.run_replies.specs.Status.{code_of, end_line}
-use Rattle.run_replies.specs.Flows.{Flow}
+use Rattle.run_ends.specs.Status.{code_of, end_line}
+use Rattle.run_ends.specs.Flows.{Flow}
 use Rattle.run_replies.specs.Trials.{trial_line}
 use Rattle.cdma_io.specs.declared.file_fault.FileFault.TheVariants as file
-use Rattle.run_replies.specs.declared.status.Status.TheVariants as ends
+use Rattle.run_ends.specs.declared.status.Status.TheVariants as ends
 
 -- A run of the job that arguments name, or of arguments that name none, ended so, with taps of
 -- these forms, over this source and this sink; the last type says that nothing was written.

@@ -3,7 +3,7 @@
 ghost use Rattle.cdma_replay.specs.Common.{AppendsPrefix, HasCause, sample_len};
 ghost use Rattle.std.specs.Prelude.{◌≡◌, ◌≤◌, ◌+◌, ◌-◌, ◌*◌, min, length, take, OnOk, OnErr};
 ghost use Rattle.std.specs.Io.KnownBytes.{Appends};
-ghost use Rattle.run_replies.specs.Make.{made_file, piece_bytes};
+ghost use Rattle.run_ends.specs.Make.{made_file, piece_bytes};
 
 use base_modulator::Cell;
 use cdma_io::{Failed, Sink, Width, header_bytes, sample_bytes_into, write_all};

@@ -2,13 +2,13 @@
 
 ghost use Rattle.std.specs.Prelude.{◌≡◌, ◌≤◌, ◌+◌, ◌++◌, ◌↔◌, Some, length, IsAscii, IsTrue};
 ghost use Rattle.std.specs.Prelude.{decimal};
-ghost use Rattle.run_replies.specs.Status.{code_of, end_line, file_status, fault_kind_text};
-ghost use Rattle.run_replies.specs.Status.{located, script_line, text_of};
+ghost use Rattle.run_ends.specs.Status.{code_of, end_line, file_status, fault_kind_text};
+ghost use Rattle.run_ends.specs.Status.{located, script_line, text_of};
 
 use cdma_io::FileFault;
 use cell_script::ScriptFault;
 use chip_core::OutOfMemory;
-use event_tap::Text;
+use line_text::Text;
 use std::{fmt, str};
 
 /// How a run ended.
@@ -34,7 +34,7 @@ pub enum Status {
     ReadFault,
     /// A write of the output failed.
     WriteFault,
-    /// There was no memory to begin with.
+    /// Memory ran out before anything was written.
     NoMemory,
     /// The input isn't the script of a cell that can be sent.
     BadScript(ScriptFault),
@@ -48,7 +48,7 @@ impl Status {
         matches!(self, Status::Done)
     }
 
-    /// Its text.
+    /// Returns its text.
     pub fn text(&self) -> Text
         ensures value { result ≡ text_of self.now }
         ensures most { length result ≤ 64 }
@@ -79,7 +79,7 @@ impl Status {
         }
     }
 
-    /// The exit status of the process: 0 if the run is done.
+    /// Returns the exit status of the process: 0 if the run is done.
     pub fn code(&self) -> u8
         ensures { result ≡ code_of self.now }
     {
@@ -108,7 +108,7 @@ impl fmt::Display for Status {
     }
 }
 
-// The kind of a fault of the file.
+// Returns the kind of a fault of the file.
 fn kind(fault: FileFault) -> &'static str
     ensures value { result.now ≡ fault_kind_text fault }
     ensures ascii { IsAscii result.now }
@@ -126,7 +126,7 @@ fn kind(fault: FileFault) -> &'static str
     }
 }
 
-// The text of this piece.
+// Returns the text of this piece.
 fn piece(piece: &str) -> Text
     requires ascii { IsAscii piece.now }
     requires room { length piece.now ≤ 1024 }
@@ -137,7 +137,7 @@ fn piece(piece: &str) -> Text
     text
 }
 
-// The text of these two pieces.
+// Returns the text of these two pieces.
 fn joined(front: &str, back: &str) -> Text
     requires ascii { IsAscii front.now }
     requires ascii_back { IsAscii back.now }
@@ -149,7 +149,7 @@ fn joined(front: &str, back: &str) -> Text
     text
 }
 
-// The text of this piece and a number in decimal.
+// Returns the text of this piece and a number in decimal.
 fn numbered(piece: &str, number: u64) -> Text
     requires ascii { IsAscii piece.now }
     requires room { length piece.now ≤ 44 }
@@ -161,7 +161,7 @@ fn numbered(piece: &str, number: u64) -> Text
     text
 }
 
-// The text of a kind of fault, and its place where it has one.
+// Returns the text of a kind of fault, with its place if it has one.
 fn located(kind: &str, place: Option<u64>) -> Text
     requires ascii { IsAscii kind.now }
     requires short { length kind.now ≤ 10 }
@@ -175,7 +175,7 @@ fn located(kind: &str, place: Option<u64>) -> Text
     text
 }
 
-// The text of what is wrong with a script.
+// Returns the text of the fault of a script.
 fn script_text(fault: ScriptFault) -> Text
     ensures value { result ≡ script_line fault }
     ensures most { length result ≤ 64 }
@@ -193,7 +193,7 @@ fn script_text(fault: ScriptFault) -> Text
 
 impl From<OutOfMemory> for Status {
     ghost use Rattle.std.specs.Prelude.{◌≡◌};
-    ghost use Rattle.run_replies.specs.declared.status.Status.TheVariants.{NoMemory};
+    ghost use Rattle.run_ends.specs.declared.status.Status.TheVariants.{NoMemory};
 
     ghost from_gives = { λ _ status. status ≡ NoMemory };
 
@@ -204,7 +204,7 @@ impl From<OutOfMemory> for Status {
 
 impl From<FileFault> for Status {
     ghost use Rattle.std.specs.Prelude.{◌≡◌};
-    ghost use Rattle.run_replies.specs.Status.{file_status};
+    ghost use Rattle.run_ends.specs.Status.{file_status};
 
     ghost from_gives = { λ fault status. status ≡ file_status fault };
 
@@ -218,7 +218,7 @@ impl From<FileFault> for Status {
 
 impl From<ScriptFault> for Status {
     ghost use Rattle.std.specs.Prelude.{◌≡◌};
-    ghost use Rattle.run_replies.specs.Status.{script_status};
+    ghost use Rattle.run_ends.specs.Status.{script_status};
 
     ghost from_gives = { λ fault status. status ≡ script_status fault };
 

@@ -1,16 +1,23 @@
--- The exit status and the text of each end of a run, and how a fault of the file or of the script
--- ends one.
+-- The exit status and the text of each end of a run, and the end for each fault of a file or a
+-- script.
 use Rattle.std.specs.Prelude.{ℕ, List, [], ◌∷◌, ◌++◌, codes, decimal, Option, None, Some}
+use Rattle.std.specs.Prelude.{Result, Ok, Err}
 use Rattle.cdma_io.specs.declared.file_fault.FileFault.{FileFault}
 use Rattle.cdma_io.specs.SampleFile.{fault_place}
 use Rattle.cell_script.specs.declared.script_fault.ScriptFault.{ScriptFault}
-use Rattle.run_replies.specs.declared.status.Status.{Status}
-use Rattle.run_replies.specs.declared.status.Status.TheVariants.{Done, NoSync, BadWords, BadFile}
-use Rattle.run_replies.specs.declared.status.Status.TheVariants.{ReadFault, WriteFault, NoMemory}
-use Rattle.run_replies.specs.declared.status.Status.TheVariants.{BadScript}
+use Rattle.run_ends.specs.declared.status.Status.{Status}
+use Rattle.run_ends.specs.declared.status.Status.TheVariants.{Done, NoSync, BadWords, BadFile}
+use Rattle.run_ends.specs.declared.status.Status.TheVariants.{ReadFault, WriteFault, NoMemory}
+use Rattle.run_ends.specs.declared.status.Status.TheVariants.{BadScript}
 use Rattle.cdma_io.specs.declared.file_fault.FileFault.TheVariants as file
 use Rattle.cell_script.specs.declared.script_fault.ScriptFault.TheVariants as script
 
+-- the end of a run by its result
+abbrev pub ended : {T : Type 0} → Result T Status → Status
+ended (Ok done) = Done
+ended (Err status) = status
+
+-- the exit status
 abbrev pub code_of : Status → ℕ
 code_of Done = 0
 code_of NoSync = 1
@@ -42,12 +49,12 @@ fault_kind_text (file.Extra place) = codes "extra"
 fault_kind_text file.ReadFault = codes "read fault"
 fault_kind_text (file.TooFew count) = codes "too few"
 
--- a kind, and the place in decimal where there is one
+-- a kind, and the place in decimal if there is one
 abbrev pub located : List ℕ → Option ℕ → List ℕ
 located kind None = codes "bad file: " ++ kind
 located kind (Some place) = codes "bad file: " ++ kind ++ codes " at " ++ decimal place
 
--- what is wrong with a script, and the number in decimal where there is one
+-- the fault of a script, and the number in decimal if there is one
 abbrev pub script_line : ScriptFault → List ℕ
 script_line (script.Line n) = codes "bad script: line " ++ decimal n
 script_line (script.Walsh row) = codes "bad script: walsh " ++ decimal row
@@ -68,7 +75,7 @@ text_of WriteFault = codes "write fault"
 text_of NoMemory = codes "out of memory"
 text_of (BadScript fault) = script_line fault
 
--- the line that tells it on the stream of errors: none where the run is done
+-- the line on standard error, empty if the run is done
 abbrev pub end_line : Status → List ℕ
 end_line Done = []
 end_line status = text_of status ++ 10 ∷ []

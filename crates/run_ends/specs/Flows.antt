@@ -1,8 +1,8 @@
 -- A source or a sink, before a run and after it.
 use Rattle.std.specs.Prelude.{◌≡◌, ℕ, List, Option}
 
--- The bytes that it tells before and after, its counts of faults, and a type that says that it is
--- as it was.
+-- Its bytes before and after the run, if they are known, its counts of faults, and a type that says
+-- that it is unchanged.
 pub record Flow : Type 1 where
   pub before : Option (List ℕ)
   pub after : Option (List ℕ)
@@ -19,6 +19,6 @@ flow before after faults faults_after Same = record {
   Same = Same;
 }
 
--- that of a source or a sink which tells these bytes and counts these faults
+-- the flow of a source or a sink with these functions for its bytes and its count of faults
 abbrev pub flow_of : {S : Type 0} → (S → Option (List ℕ)) → (S → ℕ) → S → S → Flow
 flow_of bytes faults old new = flow (bytes old) (bytes new) (faults old) (faults new) (new ≡ old)
