@@ -3,6 +3,7 @@ pub mod Common
 pub mod Files
 pub mod Moves
 pub mod Opening
+pub mod Prefixes
 pub mod Reading
 pub mod Spelling
 pub mod Uniqueness

@@ -19,7 +19,7 @@ unfoldable pub use Rattle.clean_link.proofs.Common.{heard_within, made_samples}
 pub use Rattle.command_line.specs.Args.{IsLawfulTraffic}
 pub use Rattle.command_line.specs.declared.job.Job.{Job}
 pub use Rattle.command_line.specs.declared.job.Job.TheVariants.{Make, Trial}
-pub use Rattle.event_tap.proofs.Prefixes.{begins_more, front_begins, on_err, on_ok, prefix_after, prefix_before, prefix_of, taken_begins}
+pub use Rattle.cdma_io.proofs.Prefixes.{begins_more, front_begins, on_err, on_ok, prefix_after, prefix_before, prefix_of, taken_begins}
 pub use Rattle.event_tap.proofs.Runs.{run_taps-append, run_taps-more, run_text-append, run_text-more, run_text-none}
 unfoldable pub use Rattle.event_tap.specs.EventLines.{event_line}
 pub use Rattle.event_tap.specs.Taps.{IsKept, KeptTap, heard_text, taps_after}

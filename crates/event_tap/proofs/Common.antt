@@ -2,7 +2,7 @@
 pub use Rattle.std.proofs.Common.{Err, None, Ok, OnErr, OnOk, Option, Result, Some, codes, decimal, slice_index_or, slice_set, ◌≢◌}
 pub use Rattle.std.proofs.lemmas.Fmt.{length-decimal-le}
 pub use Rattle.std.proofs.lemmas.List.{at_drop_more, drop-set-lt, drop_at, flat_map_more, get_or-map, get_or_default, length-map, take-set}
-pub use Rattle.std.proofs.lemmas.List.{length-set, map-append, take-append-le, take_at, take_more, take_more_set}
+pub use Rattle.std.proofs.lemmas.List.{length-set, map-append, take_at, take_more, take_more_set}
 pub use Rattle.std.proofs.lemmas.List.Sums.{AllPass-from_list_all}
 pub use Rattle.std.proofs.lemmas.Str.Ascii.{IsAscii-from_all}
 pub use Rattle.std.specs.List.{list_all, remove}

@@ -5,4 +5,3 @@ mod TrafficTexts
 pub mod Runs
 pub mod TapLists
 pub mod Texts
-pub mod Prefixes

@@ -1,36 +1,16 @@
 -- Lemmas on lists of taps.
 use Rattle.event_tap.proofs.Common.{◌≡◌, ℕ, zero, suc, ◌+◌, ◌≤◌, ◌<◌, All, List, [], ◌∷◌, ◌++◌, length, map, take, drop, refl, sym, ap, ◌∙◌}
 use Rattle.event_tap.proofs.Common.{subst, arith, rules, append_assoc, append-nil, length-append, Option, None, Some, slice_index_or, Event}
-use Rattle.event_tap.proofs.Common.{slice_set, take-append-le, get_or-map, length-map, length-set, take_more_set, take-set, drop-set-lt}
+use Rattle.event_tap.proofs.Common.{slice_set, get_or-map, length-map, length-set, take_more_set, take-set, drop-set-lt}
 use Rattle.event_tap.proofs.Common.{at_drop_more, map-append, take_at, drop_at, length-take-le, remove, Appends}
 use Rattle.std.proofs.lemmas.List.Elements.{All-append, All-set, All-take, All-drop, All-map, All-get_or}
-use Rattle.std.proofs.Math.Seq.{take-append-add}
 use Rattle.std.proofs.KnownBytes.{Appends-trans}
+use Rattle.cdma_io.proofs.Prefixes.{prefix_after, prefix_before}
 use Rattle.cdma_io.specs.Outside.{AppendsPrefix}
 use Rattle.event_tap.specs.Taps.{KeptTap, IsKept, kept_or_done, heard_text, kept_by, tap_after, kept_with, left_after, line_text, form_line}
 use Rattle.event_tap.specs.Taps.{taps_after}
 use Rattle.event_tap.specs.declared.tap.Heard.{Heard}
 use Rattle.event_tap.specs.declared.tap.Heard.TheVariants.{Keep, Done}
-
--- a beginning of a list is one of a longer list
-pub prefix_before : (old new : Option (List ℕ)) (a b : List ℕ) → AppendsPrefix old new a →
-    AppendsPrefix old new (a ++ b)
-prefix_before old new a b part = record {
-  count = part.count;
-  fits = omega (arith, part.fits, length-append a b);
-  appended = subst (Appends old new) (sym (take-append-le part.count a b part.fits)) part.appended;
-}
-
--- a list, and a beginning of the next
-pub prefix_after : (old mid new : Option (List ℕ)) (a b : List ℕ) → Appends old mid a →
-    AppendsPrefix mid new b → AppendsPrefix old new (a ++ b)
-prefix_after old mid new a b before part = record {
-  count = length a + part.count;
-  fits = omega (arith, part.fits, length-append a b);
-  appended =
-      subst (Appends old new) (sym (take-append-add a b part.count))
-      (Appends-trans old mid new a (take part.count b) before part.appended);
-}
 
 -- what contracts see of a tap
 abbrev pub seen : {T : Type 0} → (T → ℕ) → (T → ℕ) → T → KeptTap

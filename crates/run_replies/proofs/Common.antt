@@ -31,7 +31,7 @@ pub use Rattle.clean_signal.proofs.noise.Rounding.{near-equal, near-same}
 pub use Rattle.clean_signal.specs.NearFiles.{IsNearFile, IsPlanFile}
 pub use Rattle.command_line.specs.Args.{IsLawfulJob, IsPaging}
 pub use Rattle.command_line.specs.declared.job.Job.TheVariants.{Follow, Make, Trial}
-pub use Rattle.event_tap.proofs.Prefixes.{front_begins, taken_begins}
+pub use Rattle.cdma_io.proofs.Prefixes.{front_begins, taken_begins}
 unfoldable pub use Rattle.event_tap.specs.Taps.{run_text}
 pub use Rattle.pilot_search.proofs.BestPhase.{best_phase-is}
 pub use Rattle.pilot_search.proofs.NearPlaces.{one_delta}

@@ -6,7 +6,7 @@ use Rattle.std.proofs.KnownBytes.{Appends-trans}
 use Rattle.std.proofs.Math.Seq.{take-add}
 use Rattle.std.proofs.lemmas.List.{take_more}
 use Rattle.std.proofs.lemmas.Option.{get_or_from_slice_get, slice_get_within}
-use Rattle.event_tap.proofs.Prefixes.{prefix_after, prefix_before}
+use Rattle.cdma_io.proofs.Prefixes.{prefix_after, prefix_before}
 use Rattle.pilot_survey.specs.declared.rank.Rank.{Rank}
 use Rattle.run_replies.specs.Ranks.{rank_line}
 unfoldable use Rattle.run_replies.specs.Ranks.{ranks_text}

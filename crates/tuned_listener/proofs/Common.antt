@@ -12,7 +12,7 @@ pub use Rattle.cdma_io.proofs.Common.{Appends, Bool, List, [], ap, append-nil, a
 pub use Rattle.cdma_io.proofs.Common.{length, length-append, length-take, refl, rules, subst, sym, take, true, zero, ℕ, ℤ, ◌*◌, ◌++◌, ◌+◌}
 pub use Rattle.cdma_io.proofs.Common.{◌-◌, ◌<◌, ◌∙◌, ◌∷◌, ◌≡◌, ◌≤◌}
 pub use Rattle.cdma_io.specs.Outside.{AppendsPrefix}
-pub use Rattle.event_tap.proofs.Prefixes.{begins_more, on_err, on_ok, prefix_after, prefix_before, taken_begins}
+pub use Rattle.cdma_io.proofs.Prefixes.{begins_more, on_err, on_ok, prefix_after, prefix_before, taken_begins}
 pub use Rattle.event_tap.specs.PagingLines.{paging_line, slot_line}
 pub use Rattle.event_tap.specs.SlotLines.{frame_of_slot, frame_of_slot_end, is_heard, is_slot_within, lines_by_times, lines_if_marked}
 pub use Rattle.event_tap.specs.SlotLines.{lines_of_slot, lines_of_slots, slot_bound, slot_lines}
