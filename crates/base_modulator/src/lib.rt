@@ -1,5 +1,5 @@
 //! The base station: a script names a cell and the link to it, and the cell's samples are what a
-//! handset would receive.
+//! handset would receive. [`make`] writes them as a sample file.
 //!
 //! TIA/EIA-95-B, 7.1.3.1: the forward channels of a cell, spread by their Walsh rows and by the
 //! pilot's codes. What a plan says and what is sent by it is `cell_plan`'s, how a script is read
@@ -8,6 +8,7 @@
 
 mod cell;
 pub mod laws;
+mod making;
 
 pub use cell::Cell;
 pub use cell_plan::{
@@ -15,4 +16,5 @@ pub use cell_plan::{
     Series, SyncPlan, TrafficFrame, TrafficPlan,
 };
 pub use cell_script::{ScriptFault, script_text};
+pub use making::make;
 pub use trial_link::{trial_script, trial_serial_number};

@@ -1,20 +1,17 @@
 -- What the proofs of this crate cite of what lies below, and of its own definitions.
-pub use Rattle.std.proofs.Common.{Box, Err, Global, IfSome, IsNone, IsOk, None, Ok, OnOk, Option, Result, Some, le_refl, min, slice_get}
+pub use Rattle.std.proofs.Common.{Box, Err, Global, IfSome, IsNone, None, Ok, OnOk, Option, Result, Some, min, slice_get}
 pub use Rattle.std.proofs.KnownBytes.{Appends-nil, Appends-trans, Consumes-kept, Consumes-nil, Consumes-trans}
 pub use Rattle.std.proofs.lemmas.Grind.{common_steps, merely}
-pub use Rattle.std.proofs.lemmas.List.{drop-map, length-replicate, take-append-le, take-map, take_all, take_at, take_more, take_rest}
-pub use Rattle.std.proofs.lemmas.Option.{IfSome_then, get_or_from_slice_get, slice_get_within}
+pub use Rattle.std.proofs.lemmas.List.{length-replicate, take_all, take_at, take_more, take_rest}
+pub use Rattle.std.proofs.lemmas.Option.{get_or_from_slice_get, slice_get_within}
 pub use Rattle.std.specs.Prelude.{IfOk}
 pub use Rattle.cdma_io.specs.declared.header.Header.{Header}
 pub use Rattle.cell_plan.specs.Transmitter.{CellState, header_of}
 pub use Rattle.cell_plan.specs.declared.plan.CellPlan.{CellPlan}
-pub use Rattle.cell_script.specs.Script.{named}
-pub use Rattle.cell_script.specs.declared.script_fault.ScriptFault.{ScriptFault}
-pub use Rattle.cell_script.specs.declared.script_fault.ScriptFault.TheVariants.{OutOfMemory}
 pub use Rattle.chip_core.specs.declared.assignment.Traffic.{Traffic}
 pub use Rattle.chip_core.specs.declared.width.Width.{Width}
 pub use Rattle.chip_core.specs.declared.width.Width.TheVariants.{Sixteen}
-pub use Rattle.clean_link.proofs.Common.{All-append, filter-append, is_frame, is_page, is_sync, places-more, sample_with, samples_of}
+pub use Rattle.clean_link.proofs.Common.{All-append, filter-append, is_frame, is_page, is_sync, places-more, samples_of}
 unfoldable pub use Rattle.clean_link.proofs.Common.{heard_within, made_samples}
 pub use Rattle.command_line.specs.Args.{IsLawfulTraffic}
 pub use Rattle.command_line.specs.declared.job.Job.{Job}
@@ -29,7 +26,7 @@ pub use Rattle.heard_events.proofs.EventsGrown.{events_sooner, heard_none}
 pub use Rattle.heard_events.specs.declared.channel.Channel.{Channel}
 pub use Rattle.heard_events.specs.declared.event.Event.TheVariants.{Pilot}
 pub use Rattle.heard_events.specs.declared.settings.Settings.{Settings}
-pub use Rattle.mobile_core.proofs.Common.{AreNear, ForSome, IsTimed, Tuning, append-nil, append_assoc, cases_lt, event_list, events_at}
+pub use Rattle.mobile_core.proofs.Common.{AreNear, ForSome, IsTimed, Tuning, append-nil, append_assoc, event_list, events_at}
 pub use Rattle.mobile_core.proofs.Common.{ints, length-append, places, replicate, sync_stream, take-add, tuning_by}
 pub use Rattle.mobile_core.specs.AfterMark.{IsSoundAssignment}
 pub use Rattle.mobile_core.specs.Standing.{IsStep, StandsFor, Steps, events_left, has_room, steps_left}
@@ -39,7 +36,7 @@ pub use Rattle.run_replies.proofs.Bounds.{none_most, opening_most, passed_most, 
 pub use Rattle.run_replies.proofs.Common.{All, Consumes, IsAtEnd, IsOfFiles, IsEndOf, Keeps, PassesSamples, Reading, ◌≢◌}
 pub use Rattle.run_replies.proofs.Common.{WritesNoMore, WritesText, best_phase, energy, flat_map, header_spelling, length-header_spelling}
 pub use Rattle.run_replies.proofs.Common.{length-made, length-samples, near_deltas, opening, sample_len-mono}
-unfoldable pub use Rattle.run_replies.proofs.Common.{made_file, plan_named}
+unfoldable pub use Rattle.run_replies.proofs.Common.{plan_named}
 pub use Rattle.run_replies.proofs.CutFiles.{has_bytes, lost, no_fewer, no_long_cut, opening_few, same_header, span_few, unopened}
 pub use Rattle.run_replies.proofs.Ends.{told_alike}
 pub use Rattle.run_replies.proofs.Faults.{fault_of_count, fault_of_opening, fault_of_rest, fault_of_span, rest_cut_fault, rest_extra_fault}
@@ -52,9 +49,8 @@ pub use Rattle.run_replies.specs.Findings.{findings_text}
 pub use Rattle.run_replies.specs.Hearing.{AreNearTo, AreReady, ByFrames, ByTaps, GainsPrefix, GainsText, Listening, LosesSamples}
 pub use Rattle.run_replies.specs.Hearing.{Unheard, end_when, is_told, listening, span_of, tuning_for}
 unfoldable pub use Rattle.run_replies.specs.Hearing.{best_pilot, file_end_of, file_text, told}
-pub use Rattle.run_ends.specs.Make.{WritesNoMoreMade, piece_bytes, sample_bytes}
 unfoldable pub use Rattle.run_replies.specs.Ranks.{ranks_text, survey_text}
-pub use Rattle.run_ends.specs.Status.{file_status, script_status}
+pub use Rattle.run_ends.specs.Status.{file_status}
 pub use Rattle.run_replies.specs.Trials.{LeavesRoom, count_of, counts_with, is_good, one_if, summary, trial_samples, trial_settings}
 pub use Rattle.run_replies.specs.Trials.{trial_span, trial_tuning}
 unfoldable pub use Rattle.run_replies.specs.Trials.{counts_of, trial_line}

@@ -1,10 +1,11 @@
 -- Lemmas on the events of a trial, counted one by one.
 use Rattle.cdma_replay.proofs.Common.{◌≡◌, ℕ, ◌+◌, ◌≤◌, Bool, true, false, List, [], ◌∷◌, ◌++◌, length, take, drop, refl, sym, ap, ◌∙◌, map}
-use Rattle.cdma_replay.proofs.Common.{subst, arith, length-append, filter, drop-map, take-map, take_all, filter-append, take-add, of_sample}
-use Rattle.cdma_replay.proofs.Common.{Sample, made_samples, sample_with, samples_of, CellPlan, CellState, trial_plan, Width, Sixteen, Event}
+use Rattle.cdma_replay.proofs.Common.{subst, arith, length-append, filter, take_all, filter-append, take-add, of_sample}
+use Rattle.cdma_replay.proofs.Common.{Sample, made_samples, samples_of, CellPlan, CellState, trial_plan, Width, Sixteen, Event}
 use Rattle.cdma_replay.proofs.Common.{best_phase, length-made, events, StandsFor, Tuning, Mobile, LeavesRoom, count_of, counts_of, is_frame}
 use Rattle.cdma_replay.proofs.Common.{counts_with, is_good, is_page, is_sync, one_if, summary, trial_line, trial_samples, trial_span}
 use Rattle.cdma_replay.proofs.Common.{trial_tuning, Counts}
+use Rattle.base_modulator.proofs.GivenSamples.{next_made}
 use Rattle.cdma_replay.proofs.Hearings.{all_given, taken_more}
 
 -- ---- one event more
@@ -116,21 +117,7 @@ counted_all t one other counts heard samples taken n so_far all stepped last =
 
 -- ---- the cell's samples, piece by piece
 
-pub samples_back : (samples : List Sample) → map sample_with (map of_sample samples) ≡ samples
-samples_back [] = refl
-samples_back (s ∷ samples) = ap (λ (ss : List Sample). s ∷ ss) (samples_back samples)
-
--- the next n samples, as they are given
-pub next_made : (plan : CellPlan) (given n : ℕ) (out : List Sample) →
-    map of_sample out ≡ take n (drop given (samples_of plan)) → out ≡ take n (drop given (made_samples plan))
-unfolding made_samples
-next_made plan given n out is =
-    sym (samples_back out)
-    ∙ ap (map sample_with) is
-    ∙ sym (take-map sample_with n (drop given (samples_of plan)))
-    ∙ ap (take n) (sym (drop-map sample_with given (samples_of plan)))
-
--- after those before
+-- the next samples after those before
 pub made_more : (plan : CellPlan) (given n : ℕ) (out : List Sample) → out ≡ take n (drop given (made_samples plan)) →
     take given (made_samples plan) ++ out ≡ take (given + n) (made_samples plan)
 made_more plan given n out is =

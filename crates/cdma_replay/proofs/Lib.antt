@@ -3,6 +3,5 @@ pub mod Common
 pub mod HeardRest
 pub mod Hearings
 pub mod Lines
-pub mod MadeFiles
 pub mod Refused
 mod Counting

@@ -6,7 +6,6 @@ pub use Rattle.command_line.specs.Args.{IsFingers, IsLawfulJob, IsWorkers, job_n
 pub use Rattle.event_tap.specs.Taps.{IsKept, KeptTap, run_taps, run_text}
 pub use Rattle.heard_events.specs.declared.event.Event.{Event}
 pub use Rattle.mobile_core.specs.declared.mobile.Mobile.{Mobile}
-pub use Rattle.run_ends.specs.Make.{MakesFile}
 pub use Rattle.run_ends.specs.Status.{ended}
 pub use Rattle.run_replies.specs.Common.{HasBits, IsLawfulHeader, Tuning, events, sample_len}
 pub use Rattle.run_replies.specs.Common.{sample_spelling, width_of}

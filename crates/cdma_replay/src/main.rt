@@ -8,7 +8,6 @@
 
 mod handset;
 mod listener;
-mod making;
 mod opening;
 #[cfg(test)]
 mod outside_tests;

@@ -5,9 +5,9 @@ ghost use Rattle.std.specs.Prelude.{◌≡◌, map};
 ghost use Rattle.run_replies.specs.Runs.{RunsCommand};
 ghost use Rattle.run_ends.specs.Flows.{flow_of};
 
-use crate::making::make;
 use crate::receiving::receive;
 use crate::trial::trial;
+use base_modulator::make;
 use cdma_io::{Sink, Source};
 use command_line::{Job, WordFault, words_of};
 use event_tap::{Tap, Taps};

@@ -45,7 +45,7 @@ pub use Rattle.run_replies.specs.Find.{BeginsFile, IsEnd, IsFault, IsFaultIn, Is
 pub use Rattle.run_replies.specs.Find.{IsSearchable, PassesSamples, TakesNoMore, TakesSpan, WritesNoMore, WritesText, file_end, most_taken}
 pub use Rattle.run_replies.specs.Hearing.{IsUnheard, clean_end, end_when, is_told, listening, settings_for, span_of, tuning_for}
 unfoldable pub use Rattle.run_replies.specs.Hearing.{clean_events, file_end_of, file_text, told}
-pub use Rattle.run_ends.specs.Make.{MakesFile, WritesMadeFile, WritesNoMoreMade}
+pub use Rattle.run_ends.specs.Make.{MakesFile, WritesMadeFile}
 unfoldable pub use Rattle.run_ends.specs.Make.{made_file}
 pub use Rattle.run_replies.specs.Replies.{Answers, AnswersAfter, Begins, GainsNothingOr, IsAnswered, IsEarlyFault, IsFaultyFile, IsFileEnd}
 pub use Rattle.run_replies.specs.Replies.{BoundsInput, IsEndOf, IsFaultyScript, IsFileReply, IsLawfulInput, IsPromising, IsReply}

@@ -4,8 +4,7 @@ use Rattle.run_replies.proofs.Common.{◌≡◌, ℕ, ◌≤◌, ◌++◌, List,
 use Rattle.run_replies.proofs.Common.{[], Bool, flat_map, Appends-nil, Sample, Rose, FileFault, ReadFault, Header, header_spelling, Status}
 use Rattle.run_replies.proofs.Common.{sample_spelling, width_of, KeptTap, front_begins, Done, NoSync, BadFile, NoMemory, WriteFault, IsEnd}
 use Rattle.run_replies.proofs.Common.{file_status, BeginsFile, IsFault, TakesNoMore, TakesSpan, WritesNoMore, ended, IsUnheard}
-use Rattle.run_replies.proofs.Common.{end_when, is_told, listening, span_of, Follow, ReceivesFile, Job, IsOk, Width, IsAtEnd}
-use Rattle.run_replies.proofs.Common.{plan_named, WritesNoMoreMade, WritesMadeFile, ConsumesAtMost, MakesFile}
+use Rattle.run_replies.proofs.Common.{end_when, is_told, listening, span_of, Follow, ReceivesFile, Job}
 
 -- a status that comes of a fault of the file blames a read, or the file's bytes
 pub by_file_status : (P : Status → Type 0) (fault : FileFault) → P Status.ReadFault →
@@ -109,53 +108,6 @@ module _ {taps : List KeptTap} {job : Job} {source sink : Flow} where
     written = written;
     cut = λ cut. absurd cut;
     long = λ long. absurd long;
-    later_source = later;
-    later_sink = later_sink;
-  }
-
--- ---- runs that read a lawful script
-
-module _ {width : Width} {source sink : Flow} where
-  -- all of its file was written
-  pub made_whole : IfSome source.before (λ bytes. WritesMadeFile width bytes sink.before sink.after) → IsAtEnd source.after →
-      WritesNoMoreMade width source.before sink.before sink.after → ConsumesAtMost 1048577 source.before source.after →
-      source.faults ≤ source.faults_after → sink.faults ≤ sink.faults_after →
-      MakesFile width Done source sink
-  made_whole done ends written bound later later_sink = record {
-    done = λ is. done;
-    at_end = λ is. ends;
-    others = (λ is. cc, λ is. cc, λ fault is. cc);
-    memory = λ is. absurd (cc);
-    early = λ is. absurd (cc);
-    bad_script = λ fault is. absurd (cc);
-    read_fault = λ is. absurd (cc);
-    unwritten = λ is. absurd (cc);
-    write_fault = λ is. absurd (cc);
-    lawful = λ is. absurd (cc);
-    written = written;
-    bound = bound;
-    later_source = later;
-    later_sink = later_sink;
-  }
-
-  -- or a write failed
-  pub made_part : Rose sink.faults sink.faults_after →
-      IfSome source.before (λ bytes. IsOk (plan_named width bytes)) → WritesNoMoreMade width source.before sink.before sink.after →
-      ConsumesAtMost 1048577 source.before source.after → source.faults ≤ source.faults_after → sink.faults ≤ sink.faults_after →
-      MakesFile width WriteFault source sink
-  made_part lost lawful written bound later later_sink = record {
-    done = λ is. absurd (cc);
-    at_end = λ is. absurd (cc);
-    others = (λ is. cc, λ is. cc, λ fault is. cc);
-    memory = λ is. absurd (cc);
-    early = λ is. absurd (cc);
-    bad_script = λ fault is. absurd (cc);
-    read_fault = λ is. absurd (cc);
-    unwritten = λ is. absurd (cc);
-    write_fault = λ is. lost;
-    lawful = λ is. lawful;
-    written = written;
-    bound = bound;
     later_source = later;
     later_sink = later_sink;
   }

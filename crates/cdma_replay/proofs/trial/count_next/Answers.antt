@@ -1,5 +1,6 @@
 use Rattle.cdma_replay.proofs.Common.{◌≡◌, List, length, subst, take, Sample, made_samples, events, StandsFor, counts_of}
-use Rattle.cdma_replay.proofs.Counting.{made_more, next_made}
+use Rattle.base_modulator.proofs.GivenSamples.{next_made}
+use Rattle.cdma_replay.proofs.Counting.{made_more}
 use Rattle.cdma_replay.proofs.trial.count_next.Goals as goal
 
 -- The samples that are filled in are the link's next ones, so with those before them they are a

@@ -1,7 +1,9 @@
-use Rattle.cdma_replay.proofs.Common.{[], inl, inr, refl, arith, Appends-nil, IfSome_then, ended_by}
-use Rattle.run_replies.proofs.Ends.{made_part, made_whole}
-use Rattle.cdma_replay.proofs.MadeFiles.{writes_part, writes_whole}
-use Rattle.cdma_replay.proofs.making.make_file.Goals as goal
+use Rattle.std.proofs.Common.{[], inl, inr, refl, arith}
+use Rattle.std.proofs.KnownBytes.{Appends-nil}
+use Rattle.std.proofs.lemmas.Option.{IfSome_then}
+use Rattle.run_ends.proofs.Ends.{ended_by}
+use Rattle.base_modulator.proofs.MadeFiles.{made_part, made_whole, writes_part, writes_whole}
+use Rattle.base_modulator.proofs.making.make_file.Goals as goal
 
 -- the script names no cell, or isn't read
 pub returns-in_err-cell : goal.returns-in_err-cell

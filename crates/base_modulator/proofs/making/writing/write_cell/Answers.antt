@@ -1,6 +1,9 @@
-use Rattle.cdma_replay.proofs.Common.{◌≡◌, ◌-◌, min, ap, ◌∙◌, arith, rules, err_from_is_err_and, CellPlan, CellState}
-use Rattle.cdma_replay.proofs.MadeFiles.{header_cut, header_whole, piece_cut, piece_more, pieces_all}
-use Rattle.cdma_replay.proofs.making.writing.write_cell.Goals as goal
+use Rattle.std.proofs.Common.{◌≡◌, ◌-◌, min, ap, ◌∙◌, arith, rules}
+use Rattle.std.proofs.lemmas.Result.{err_from_is_err_and}
+use Rattle.cell_plan.specs.Transmitter.{CellState}
+use Rattle.cell_plan.specs.declared.plan.CellPlan.{CellPlan}
+use Rattle.base_modulator.proofs.MadeFiles.{header_cut, header_whole, piece_cut, piece_more, pieces_all}
+use Rattle.base_modulator.proofs.making.writing.write_cell.Goals as goal
 
 pub returns-in_err-write_all-clause-err : goal.returns-in_err-write_all-clause-err
 returns-in_err-write_all-clause-err g c =

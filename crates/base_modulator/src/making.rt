@@ -1,18 +1,21 @@
-//! The command `make`: writes the samples of a script's cell as a file.
+//! The command `make`: writes the samples of a script's cell as a sample file.
 
-ghost use Rattle.cdma_replay.specs.Common.{FileFault, ConsumesAtMost, Rose, ended, MakesFile};
+ghost use Rattle.cdma_io.specs.Outside.{ConsumesAtMost, Rose};
+ghost use Rattle.cdma_io.specs.declared.file_fault.FileFault.{FileFault};
 ghost use Rattle.std.specs.Prelude.{◌≡◌, ◌≢◌, ◌<◌, ◌≤◌, ◌*◌, length, vec_len, Ok, Err, IsOk, IfOk};
 ghost use Rattle.std.specs.Prelude.{IfErr, OnOk, IfSome};
 ghost use Rattle.std.specs.Io.KnownBytes.{IsAtEnd};
 ghost use Rattle.cell_script.specs.declared.script_fault.ScriptFault.{ScriptFault};
 ghost use Rattle.cell_script.specs.Script.{plan_named};
 ghost use Rattle.run_ends.specs.Flows.{flow_of};
+ghost use Rattle.run_ends.specs.Make.{MakesFile};
+ghost use Rattle.run_ends.specs.Status.{ended};
 
 mod writing;
 
-use crate::workspace::PIECE;
-use base_modulator::{Cell, ScriptFault};
+use crate::cell::Cell;
 use cdma_io::{Failed, Sink, Source, Width, fill};
+use cell_script::ScriptFault;
 use chip_core::{OutOfMemory, Sample};
 use run_ends::Status;
 use std::alloc::Global;
@@ -21,6 +24,9 @@ use writing::write_cell;
 /// The most bytes that are read: one more than the longest script, so that a longer input is
 /// noticed.
 const MOST_READ: usize = 1_048_577;
+
+/// How many samples are written at once, at most.
+const PIECE: usize = 4096;
 
 /// The buffers for reading a script and writing its cell, allocated before anything is read.
 #[derive(Drop)]
@@ -102,12 +108,16 @@ fn make_file<S: Source, K: Sink>(
     }
 }
 
-/// Reads a script (at most one byte more than the longest one) and writes the file of its cell,
-/// header first, with samples of this width.
+/// Reads a script and writes the sample file of the cell that it names: the header, then the samples
+/// of the cell's forward channels (TIA/EIA-95-B, 7.1.3.1) in this width.
 ///
-/// All memory is allocated before anything is written. Nothing is written if the script is
-/// rejected.
-// No other command is to have its frame beneath its own.
+/// At most 1,048,577 bytes are read, one more than the longest script has. Nothing is written if the
+/// script is rejected.
+///
+/// Returns [`Status::ReadFault`] or [`Status::WriteFault`] only if the source's or the sink's count
+/// of faults rose, [`Status::BadScript`] with the fault of a script that names no cell, and
+/// [`Status::NoMemory`] only before anything is written.
+// Not inlined: no other command should have this stack frame below its own.
 #[inline(never)]
 pub fn make<S: Source, K: Sink>(
     alloc: Global,

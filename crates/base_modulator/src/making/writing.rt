@@ -1,11 +1,12 @@
 //! Writes the file of a cell.
 
-ghost use Rattle.cdma_replay.specs.Common.{AppendsPrefix, HasCause, sample_len};
+ghost use Rattle.cdma_io.specs.Outside.{AppendsPrefix, HasCause};
+ghost use Rattle.cdma_io.specs.SampleFile.{sample_len};
 ghost use Rattle.std.specs.Prelude.{◌≡◌, ◌≤◌, ◌+◌, ◌-◌, ◌*◌, min, length, take, OnOk, OnErr};
 ghost use Rattle.std.specs.Io.KnownBytes.{Appends};
 ghost use Rattle.run_ends.specs.Make.{made_file, piece_bytes};
 
-use base_modulator::Cell;
+use crate::cell::Cell;
 use cdma_io::{Failed, Sink, Width, header_bytes, sample_bytes_into, write_all};
 use chip_core::Sample;
 

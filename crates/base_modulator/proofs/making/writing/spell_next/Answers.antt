@@ -1,6 +1,6 @@
-use Rattle.cdma_replay.proofs.Common.{length, ◌∙◌}
-use Rattle.cdma_replay.proofs.MadeFiles.{piece_spelled}
-use Rattle.cdma_replay.proofs.making.writing.spell_next.Goals as goal
+use Rattle.std.proofs.Common.{length, ◌∙◌}
+use Rattle.base_modulator.proofs.MadeFiles.{piece_spelled}
+use Rattle.base_modulator.proofs.making.writing.spell_next.Goals as goal
 
 pub returns-clause-spelled : goal.returns-clause-spelled
 returns-clause-spelled c =

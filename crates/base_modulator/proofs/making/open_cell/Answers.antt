@@ -1,9 +1,13 @@
-use Rattle.cdma_replay.proofs.Common.{IfSome, ◌≡◌, ◌≢◌, sym, ap, ◌∙◌, subst, rules, Ok, Err, take, length, plan_named, ScriptFault}
-use Rattle.cdma_replay.proofs.Common.{OutOfMemory, script_status, ended_by}
-use Rattle.cdma_replay.proofs.MadeFiles.{bad_script_is, memory_is, read_lawful, read_named, read_names, read_to_end}
-use Rattle.cdma_replay.proofs.making.open_cell.Given.{Over}
-use Rattle.cdma_replay.proofs.making.open_cell.Goals.{In-Ok}
-use Rattle.cdma_replay.proofs.making.open_cell.Goals as goal
+use Rattle.std.proofs.Common.{IfSome, ◌≡◌, ◌≢◌, sym, ap, ◌∙◌, subst, rules, Ok, Err, take, length}
+use Rattle.cell_script.specs.Script.{plan_named}
+use Rattle.cell_script.specs.declared.script_fault.ScriptFault.{ScriptFault}
+use Rattle.cell_script.specs.declared.script_fault.ScriptFault.TheVariants.{OutOfMemory}
+use Rattle.run_ends.proofs.Ends.{ended_by}
+use Rattle.run_ends.specs.Status.{script_status}
+use Rattle.base_modulator.proofs.MadeFiles.{bad_script_is, memory_is, read_lawful, read_named, read_names, read_to_end}
+use Rattle.base_modulator.proofs.making.open_cell.Given.{Over}
+use Rattle.base_modulator.proofs.making.open_cell.Goals.{In-Ok}
+use Rattle.base_modulator.proofs.making.open_cell.Goals as goal
 
 -- the bytes that were read name what the script does
 same_names : (g : Over) (c : In-Ok g) → IfSome (g.S.Source.rest c.args.source.now)

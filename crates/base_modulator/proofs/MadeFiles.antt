@@ -1,13 +1,36 @@
 -- Lemmas on scripts that are read, and on files of cells that are written.
-use Rattle.cdma_replay.proofs.Common.{◌≡◌, ◌≢◌, ℕ, ◌+◌, ◌<◌, ◌≤◌, List, [], ◌++◌, length, map, take, drop, refl, sym, ap, ◌∙◌, subst, arith}
-use Rattle.cdma_replay.proofs.Common.{append_assoc, Header, inl, inr, append-nil, le_refl, Option, None, Some, IfSome, IsOk, Result, Ok}
-use Rattle.cdma_replay.proofs.Common.{flat_map, Appends, Consumes, IsAtEnd, Appends-trans, cases_lt, take-append-le, take_all, take-add}
-use Rattle.cdma_replay.proofs.Common.{flat_map-append, of_sample, Sample, Width, AppendsPrefix, header_spelling, sample_spelling, CellPlan}
-use Rattle.cdma_replay.proofs.Common.{ScriptFault, OutOfMemory, named, plan_named, samples_of, header_of, prefix_before, prefix_after}
-use Rattle.cdma_replay.proofs.Common.{prefix_of, taken_begins, script_status, length-made, made_samples, WritesNoMoreMade, made_file}
-use Rattle.cdma_replay.proofs.Common.{piece_bytes, length-take-le, take-append-drop, sample_bytes}
-use Rattle.cdma_replay.proofs.Counting.{next_made}
+use Rattle.std.proofs.Common.{◌≡◌, ◌≢◌, ℕ, ◌+◌, ◌<◌, ◌≤◌, List, [], ◌++◌, length, map, take, drop, refl, sym, ap, ◌∙◌, subst, arith, inl, inr}
+use Rattle.std.proofs.Common.{le_refl, Option, None, Some, IfSome, IsOk, Result, Ok}
+use Rattle.std.proofs.KnownBytes.{Appends-trans}
+use Rattle.std.proofs.Math.Seq.{take-add}
+use Rattle.std.proofs.lemmas.Bool.{cases_lt}
+use Rattle.std.proofs.lemmas.Grind.{flat_map-append}
+use Rattle.std.proofs.lemmas.List.{append-nil, append_assoc, length-map, length-take-le, take-append-drop, take-append-le, take_all}
+use Rattle.std.specs.Io.KnownBytes.{Appends, Consumes, IsAtEnd}
+use Rattle.std.specs.List.{flat_map}
+use Rattle.chip_core.proofs.Places.{length-map-places}
+use Rattle.chip_core.specs.Complex.{of_sample}
+use Rattle.chip_core.specs.declared.sample.Sample.{Sample}
+use Rattle.chip_core.specs.declared.width.Width.{Width}
+use Rattle.cdma_io.proofs.Prefixes.{prefix_after, prefix_before, prefix_of, taken_begins}
+use Rattle.cdma_io.specs.Outside.{AppendsPrefix, ConsumesAtMost, Rose}
+use Rattle.cdma_io.specs.SampleFile.{header_spelling, sample_spelling}
+use Rattle.cdma_io.specs.declared.header.Header.{Header}
+use Rattle.cell_plan.specs.Sampled.{sample_with}
+unfoldable use Rattle.cell_plan.specs.Sampled.{made_samples}
+use Rattle.cell_plan.specs.Signal.{sample_of}
+unfoldable use Rattle.cell_plan.specs.Signal.{samples_of}
+use Rattle.cell_plan.specs.Transmitter.{header_of}
+use Rattle.cell_plan.specs.declared.plan.CellPlan.{CellPlan}
 use Rattle.cell_script.proofs.ScriptAnswers.{too_big}
+use Rattle.cell_script.specs.Script.{plan_named}
+use Rattle.cell_script.specs.declared.script_fault.ScriptFault.{ScriptFault}
+use Rattle.cell_script.specs.declared.script_fault.ScriptFault.TheVariants.{OutOfMemory}
+use Rattle.run_ends.specs.Flows.{Flow}
+use Rattle.run_ends.specs.Make.{MakesFile, WritesMadeFile, WritesNoMoreMade, piece_bytes, sample_bytes}
+unfoldable use Rattle.run_ends.specs.Make.{made_file}
+use Rattle.run_ends.specs.Status.{script_status}
+use Rattle.base_modulator.proofs.GivenSamples.{next_made}
 use Rattle.run_ends.specs.declared.status.Status.TheVariants as Status
 
 -- ---- scripts
@@ -124,11 +147,13 @@ front_more width plan given n =
 
 -- all of them, and those after them
 front_all : (width : Width) (plan : CellPlan) → file_front width plan plan.link.samples ≡ made_file width plan
-unfolding made_file
+unfolding made_file made_samples samples_of
 front_all width plan =
+    let long : length (made_samples plan) ≡ plan.link.samples =
+    length-map (samples_of plan) sample_with ∙ length-map-places (sample_of plan) plan.link.samples in
     ap (λ (samples : List Sample).
     header_spelling (header_of width plan) ++ flat_map (sample_spelling width) samples)
-    (take_all plan.link.samples (made_samples plan) (omega (arith, length-made plan)))
+    (take_all plan.link.samples (made_samples plan) (omega (arith, long)))
 
 front_and_rest : (width : Width) (plan : CellPlan) (given : ℕ) → file_front width plan given
     ++ flat_map (sample_spelling width) (drop given (made_samples plan)) ≡ made_file width plan
@@ -213,3 +238,50 @@ pub writes_whole : (width : Width) (plan : CellPlan) (rest old new : Option (Lis
 writes_whole width plan rest old new is all =
     let file = made_file width plan in
     writes_part width plan rest old new is (prefix_of old new file file all (take_all (length file) file (omega arith)))
+
+-- ---- runs over a script that names a cell
+
+module _ {width : Width} {source sink : Flow} where
+  -- all of its file was written
+  pub made_whole : IfSome source.before (λ bytes. WritesMadeFile width bytes sink.before sink.after) → IsAtEnd source.after →
+      WritesNoMoreMade width source.before sink.before sink.after → ConsumesAtMost 1048577 source.before source.after →
+      source.faults ≤ source.faults_after → sink.faults ≤ sink.faults_after →
+      MakesFile width Status.Done source sink
+  made_whole done ends written bound later later_sink = record {
+    done = λ is. done;
+    at_end = λ is. ends;
+    others = (λ is. cc, λ is. cc, λ fault is. cc);
+    memory = λ is. absurd (cc);
+    early = λ is. absurd (cc);
+    bad_script = λ fault is. absurd (cc);
+    read_fault = λ is. absurd (cc);
+    unwritten = λ is. absurd (cc);
+    write_fault = λ is. absurd (cc);
+    lawful = λ is. absurd (cc);
+    written = written;
+    bound = bound;
+    later_source = later;
+    later_sink = later_sink;
+  }
+
+  -- or a write failed
+  pub made_part : Rose sink.faults sink.faults_after →
+      IfSome source.before (λ bytes. IsOk (plan_named width bytes)) → WritesNoMoreMade width source.before sink.before sink.after →
+      ConsumesAtMost 1048577 source.before source.after → source.faults ≤ source.faults_after → sink.faults ≤ sink.faults_after →
+      MakesFile width Status.WriteFault source sink
+  made_part lost lawful written bound later later_sink = record {
+    done = λ is. absurd (cc);
+    at_end = λ is. absurd (cc);
+    others = (λ is. cc, λ is. cc, λ fault is. cc);
+    memory = λ is. absurd (cc);
+    early = λ is. absurd (cc);
+    bad_script = λ fault is. absurd (cc);
+    read_fault = λ is. absurd (cc);
+    unwritten = λ is. absurd (cc);
+    write_fault = λ is. lost;
+    lawful = λ is. lawful;
+    written = written;
+    bound = bound;
+    later_source = later;
+    later_sink = later_sink;
+  }

@@ -1,6 +1,7 @@
-use Rattle.cdma_replay.proofs.Common.{◌≡◌, ◌-◌, ◌≤◌, length, Appends}
-use Rattle.cdma_replay.proofs.MadeFiles.{file_front}
-use Rattle.cdma_replay.proofs.making.writing.write_cell.Given as goal
+use Rattle.std.proofs.Common.{◌≡◌, ◌-◌, ◌≤◌, length}
+use Rattle.std.specs.Io.KnownBytes.{Appends}
+use Rattle.base_modulator.proofs.MadeFiles.{file_front}
+use Rattle.base_modulator.proofs.making.writing.write_cell.Given as goal
 
 abbrev pub invariant-loop-width : goal.invariant-loop-width
 invariant-loop-width g l = record {

@@ -1,0 +1,2 @@
+pub mod GivenSamples
+mod MadeFiles
