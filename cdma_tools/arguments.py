@@ -62,14 +62,10 @@ class PartParser(argparse.ArgumentParser):
         self.exit(WRONG, f"{self.prog}: {printable(message)} (--help lists all arguments)\n")
 
 
-class VersionAction(argparse.Action):
+class VersionAction(argparse._VersionAction):
     """The option --version: prints the version of a tool, and ends."""
 
-    def __init__(self, option_strings: Sequence[str], dest: str = "", **more: Any) -> None:
-        """Keeps no value."""
-        super().__init__(option_strings, argparse.SUPPRESS, nargs=0, default=argparse.SUPPRESS, **more)
-
-    def __call__(self, parser: Any, options: argparse.Namespace, value: Any, name: str | None = None) -> None:
+    def __call__(self, parser: Any, *values: Any) -> None:
         """Prints the version, and ends the process."""
         parser.print_version()
         parser.exit()

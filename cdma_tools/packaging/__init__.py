@@ -3,8 +3,9 @@
 | Module | Content |
 |---|---|
 | `tree` | files of an installation, how they are put below a prefix and removed again |
-| `manuals` | a manual page for each command, made from its parser |
-| `completions` | completions of the tools for bash and zsh |
+| `parsers` | the parser of each command, from which manual pages and completions are made |
+| `manuals` | a manual page for each command |
+| `completions` | completions of the tools for bash and zsh, by shtab |
 | `program_completions` | those of cdma_replay, which say what is wrong with its arguments |
 | `archive` | the built program as an archive with its checksum |
 | `gate_log` | the log of the gate that goes with the archive |

@@ -1,130 +1,99 @@
-"""Completions for bash and zsh: the options of a command, the choices of an option, its parts, otherwise file names."""
+"""Completions for bash and zsh, by shtab: options, their choices, the parts of a command, otherwise names of files.
+
+shtab gets each parser in the form that it understands (`prepared`). What version 1.5.5 still gets wrong is replaced in
+its text (`mended`), each time by what shtab itself would have to write. A version with another text is refused.
+"""
 
 import argparse
-import re
-import shlex
-from collections.abc import Iterator
-from typing import NamedTuple
 
-from cdma_tools.packaging.manuals import parser_of
+import shtab
 
-SCRIPT = """# What bash completes for {name}.
+from cdma_tools.arguments import Within
+from cdma_tools.overwriting import OutputFolder
+from cdma_tools.packaging.parsers import in_a_line, mended, parser_of
+
+# shtab's script runs in a subshell, so that its variables and functions don't get into the user's shell. The words `=`
+# are left out, into which bash splits --option=value. Names of files come from readline, which knows blanks and `~`.
+BASH = """# What bash completes for {name}.
 {function}() {{
-    local word=${{COMP_WORDS[COMP_CWORD]}} before=${{COMP_WORDS[COMP_CWORD - 1]}}
-    case $before in
-{choices}    esac
-    case $word in
-        -*) mapfile -t COMPREPLY < <(compgen -W {options} -- "$word") ;;
-{parts}    esac
+    mapfile -t COMPREPLY < <(
+{script}
+        [ "${{COMP_WORDS[COMP_CWORD]}}" != = ] || COMP_WORDS[++COMP_CWORD]=
+        words=("${{COMP_WORDS[@]:0:COMP_CWORD + 1}}") COMP_WORDS=()
+        for word in "${{words[@]}}"; do
+            [ "$word" = = ] || COMP_WORDS+=("$word")
+        done
+        COMP_CWORD=$((${{#COMP_WORDS[@]}} - 1))
+        _shtab{function}
+        [ ${{#COMPREPLY[@]}} -eq 0 ] || printf '%s\\n' "${{COMPREPLY[@]}}"
+    )
 }}
 complete -o default -F {function} {name}
 """
-CHOICE = """        {options})
-            mapfile -t COMPREPLY < <(compgen -W {words} -- "$word")
-            return
-            ;;
-"""
-PARTS = """        *) [ "$COMP_CWORD" -ne 1 ] || mapfile -t COMPREPLY < <(compgen -W {words} -- "$word") ;;
-"""
-ZSH_SCRIPT = """#compdef {name}
-# What zsh completes for {name}.
-_arguments -s \\
-{options}    '*:file:_files'
-"""
 
 
-class Option(NamedTuple):
-    """An option as a shell completes it: its names, its help in one line, its value's name, and its choices."""
-
-    names: list[str]
-    told: str
-    value: str  # empty if it takes none
-    choices: list[str]
-    is_repeated: bool
+def parts_of(parser: argparse.ArgumentParser) -> list[argparse.ArgumentParser]:
+    """Returns the parsers of a command's parts; none if it has none."""
+    actions = (action for action in parser._actions if isinstance(action, argparse._SubParsersAction))
+    return [part for action in actions for part in action.choices.values()]
 
 
-def options_of(parser: argparse.ArgumentParser) -> Iterator[argparse.Action]:
-    """The options of a command, and of its parts."""
-    for action in parser._actions:
-        if action.option_strings:
-            yield action
+def is_repeated(action: argparse.Action) -> bool:
+    """Whether an argument without an option takes several words."""
+    return not action.option_strings and action.nargs in ("+", "*", argparse.REMAINDER)
+
+
+def prepare(action: argparse.Action, shell: str, is_of_part: bool) -> None:
+    """Gives an argument, of a command or of a part of one, the form that shtab understands."""
+    action.help = in_a_line(action.help or "").replace("%%", "%").partition("; ")[0]
+    action.choices = None if action.choices is None else list(action.choices)  # shtab takes a dict for parts
+    if shell == "bash" or action.nargs == 0:
+        return
+    if action.choices is None and not isinstance(action.type, Within):
+        is_folder = isinstance(action.type, type) and issubclass(action.type, OutputFolder)
+        setattr(action, "complete", shtab.DIRECTORY if is_folder else shtab.FILE)
+        # shtab leaves out an argument of the command itself if it has no choices, and writes one of a part twice if it
+        # has some.
+        action.choices = None if action.option_strings or is_of_part else shtab.Required.FILE
+    if is_repeated(action):
+        action.nargs = "+"
+    # With the sign zsh also completes the value in --option=value.
+    action.option_strings = [f"{name}=" if name.startswith("--") else name for name in action.option_strings]
+
+
+def prepared(parser: argparse.ArgumentParser, shell: str, is_part: bool = False) -> argparse.ArgumentParser:
+    """Returns a parser in the form that shtab understands."""
     for action in parser._actions:
         if isinstance(action, argparse._SubParsersAction):
-            for part in action.choices.values():
-                yield from (option for option in part._actions if option.option_strings)
-
-
-def parts_of(parser: argparse.ArgumentParser) -> list[str]:
-    """Returns the names of a command's parts, of which the first argument is one; empty if it has none."""
-    parts = (action.choices for action in parser._actions if isinstance(action, argparse._SubParsersAction))
-    return [str(name) for choices in parts for name in choices]
-
-
-def help_of(action: argparse.Action) -> str:
-    """The help of an option up to its first semicolon, in one line."""
-    told = re.sub(r"\s+", " ", action.help or "").replace("%%", "%")
-    return told.partition("; ")[0]
-
-
-def value_of(action: argparse.Action) -> str:
-    """Returns the name of an option's value, empty if it takes none."""
-    if action.nargs == 0:
-        return ""
-    named = action.metavar[0] if isinstance(action.metavar, tuple) else action.metavar
-    return str(named or action.dest)
-
-
-def completed(parser: argparse.ArgumentParser) -> list[Option]:
-    """Returns the options of a command for a shell; if several parts have an option, it is the first's."""
-    found: dict[tuple[str, ...], Option] = {}
-    for action in options_of(parser):
-        names = tuple(action.option_strings)
-        choices = [str(choice) for choice in action.choices or ()]
-        is_repeated = isinstance(action, argparse._AppendAction)
-        found.setdefault(names, Option(list(names), help_of(action), value_of(action), choices, is_repeated))
-    return list(found.values())
+            for choice in action._choices_actions:
+                prepared(action.choices[choice.dest], shell, is_part=True).description = choice.help
+        else:
+            prepare(action, shell, is_part)
+    return parser
 
 
 def completion_of(name: str, module: str) -> str:
-    """The completion of a command for bash."""
-    parser = parser_of(name, module)
-    options, parts = completed(parser), parts_of(parser)
-    names = sorted({option for one in options for option in one.names})
-    choices = "".join(
-        CHOICE.format(options="|".join(one.names), words=shlex.quote(" ".join(one.choices)))
-        for one in options
-        if one.choices
-    )
-    return SCRIPT.format(
-        name=name,
-        function="_" + name.replace("-", "_"),
-        choices=choices,
-        options=shlex.quote(" ".join(names)),
-        parts=PARTS.format(words=shlex.quote(" ".join(parts))) if parts else "",
-    )
-
-
-def masked(text: str, letters: str) -> str:
-    """Returns a text with these letters and the backslash escaped."""
-    return re.sub(f"[{re.escape(letters)}\\\\]", lambda found: "\\" + found[0], text)
-
-
-def zsh_lines(option: Option) -> Iterator[str]:
-    """The specifications of an option's names for zsh's `_arguments`, each quoted for the shell."""
-    others = "*" if option.is_repeated else f"({' '.join(option.names)})"
-    value = ""
-    if option.value:
-        words = " ".join(masked(choice, " ():") for choice in option.choices)
-        value = f":{masked(option.value, ':')}:" + (f"({words})" if words else "_files")
-    for name in option.names:
-        sign = "=" if option.value and name.startswith("--") else ""
-        yield shlex.quote(f"{others}{name}{sign}[{masked(option.told, '[]:')}]{value}")
+    """Returns the completion of a command for bash."""
+    script = shtab.complete(prepared(parser_of(name, module), "bash"), "bash")
+    # It offers only the first choice: its list needs [@], and is then separated by blanks.
+    script = mended(script, r"(?<=_choices)(?=\"\n  current_action_choices=)", "[@]")
+    script = mended(script, r"(?<=local IFS=\$')(?=\\n')", " ")
+    # It completes the command by itself, with each word taken for the name of a file.
+    script = mended(script, rf"complete -o filenames -F \w+ {name}\Z", "")
+    return BASH.format(name=name, function="_" + name.replace("-", "_"), script=script)
 
 
 def zsh_completion_of(name: str, module: str) -> str:
-    """The completion of a command for zsh."""
-    parser = parser_of(name, module)
-    lines = [line for option in completed(parser) for line in zsh_lines(option)]
-    if parts := parts_of(parser):
-        lines.append(shlex.quote(f"1:part:({' '.join(parts)})"))
-    return ZSH_SCRIPT.format(name=name, options="".join(f"    {line} \\\n" for line in lines))
+    """Returns the completion of a command for zsh."""
+    parser = prepared(parser_of(name, module), "zsh")
+    parts = parts_of(parser)
+    repeated = sum(is_repeated(action) for one in (parser, *parts) for action in one._actions)
+    script = shtab.complete(parser, "zsh")
+    # An argument that takes several words takes one, and excludes the others: zsh writes several as *.
+    script = mended(script, r'(?<=")\(\*\)(?=:)', "*", repeated)
+    # Its lists are variables of the user's shell.
+    script = mended(script, r"(?m)^(?=_shtab_\w+_options=)", "local -a ", 1 + len(parts))
+    # It takes a part for granted: without any, its place would be that of an argument.
+    if not parts:
+        script = mended(script, rf" \\\n    ': :\w+_commands' \\\n    '\*::: :->{name}'", "")
+    return script + "\n"

@@ -1,23 +1,14 @@
 """A manual page for each command, made of the parser that its --help shows."""
 
 import argparse
-import importlib
 import re
-import sys
 from collections.abc import Iterator
-from unittest import mock
 
 from cdma_tools import RELEASED, __version__
-from cdma_tools.arguments import STATUS, Parser
+from cdma_tools.arguments import STATUS
+from cdma_tools.packaging.parsers import parser_of
 
 HEAD = '.\\" Made of the parser of {name}.\n.TH {title} 1 "{date}" "cdma-replay {version}" "User Commands"\n'
-
-
-def parser_of(name: str, module: str) -> Parser:
-    """Returns the parser of a command, under its installed name."""
-    with mock.patch.object(sys, "argv", [name]):
-        made: Parser = importlib.import_module(f"cdma_tools.commands.{module}").parser()
-    return made
 
 
 def escaped(text: str) -> str:

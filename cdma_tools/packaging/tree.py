@@ -8,7 +8,7 @@ from collections.abc import Iterable, Iterator
 from typing import NamedTuple
 
 from cdma_tools.errors import Refused
-from cdma_tools.packaging import completions, manuals, program_completions
+from cdma_tools.packaging import program_completions
 from cdma_tools.places import PACKAGE, TOP
 from cdma_tools.starting import INSTALLED
 from cdma_tools.writing import write_beside
@@ -137,6 +137,8 @@ def program_completion_files() -> Iterator[Entry]:
 
 def command_files(modules: str) -> Iterator[Entry]:
     """Yields each command, its manual page and its completions; it imports from the folder `modules` of its prefix."""
+    from cdma_tools.packaging import completions, manuals  # completions need a package that nothing else needs
+
     for name, module in commands().items():
         text = COMMAND.format(module=module, command=name, modules=modules)
         yield Entry(f"bin/{name}", text.encode(), EXECUTABLE)
@@ -166,9 +168,9 @@ def put(prefix: str, entry: Entry) -> None:
 
 
 def put_all(prefix: str, files: Iterable[Entry]) -> list[str]:
-    """Puts files below a prefix, with a list of them, and returns their places."""
+    """Puts files below a prefix, with a list of them, and returns their places; nothing if one can't be made."""
     places = []
-    for entry in files:
+    for entry in list(files):
         put(prefix, entry)
         places.append(entry.place)
     put(prefix, Entry(LIST, "".join(f"{place}\n" for place in [*places, LIST]).encode(), PLAIN))

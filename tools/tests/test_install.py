@@ -8,8 +8,9 @@ import unittest
 
 from cdma_tools.packaging import tree
 from cdma_tools.program import NOT_INSTALLED
-from tools.tests.helping import ROOT, run_tool, temporary_folder
+from tools.tests.helping import PYTHON, ROOT, TOOLS, needs, run_tool, temporary_folder
 
+MAKERS = ("shtab",)  # the package that makes completions
 STANDS_FOR = b"#!/bin/sh\necho bad words >&2\nexit 2\n"
 
 
@@ -36,6 +37,7 @@ class Installs(unittest.TestCase):
         return sorted(os.path.join(path, name) for path, _, names in os.walk(self.prefix) for name in names)
 
     def test_all_is_in_place_and_taken_away_again(self) -> None:
+        needs(*MAKERS)
         for _ in range(2):
             status, wrote, said = run_tool("install", "--program", self.program, self.prefix)
             self.assertEqual((status, said), (0, ""))
@@ -55,6 +57,7 @@ class Installs(unittest.TestCase):
         self.refused_as("nothing is installed there", "--remove", self.prefix)
 
     def test_links_of_installed_pages_lead_to_installed_files(self) -> None:
+        needs(*MAKERS)
         self.assertEqual(run_tool("install", "--program", self.program, self.prefix)[0], 0)
         documents = os.path.join(self.prefix, "share", "doc", "cdma-replay")
         pages = [path for path in self.files() if path.startswith(documents) and path.endswith(".md")]
@@ -77,6 +80,7 @@ class Installs(unittest.TestCase):
 
     @unittest.skipUnless(importlib.util.find_spec("scipy"), "no scipy: install the package python3-scipy")
     def test_an_installed_command_finds_the_program_beside_it(self) -> None:
+        needs(*MAKERS)
         self.assertEqual(run_tool("install", "--program", self.program, self.prefix)[0], 0)
         command = os.path.join(self.prefix, "bin", "cdma-listen")
         link = os.path.join(os.path.dirname(self.prefix), "cdma-listen")
@@ -125,6 +129,21 @@ class Installs(unittest.TestCase):
         self.refused("no program at .*: build it first", *words)
         self.keep(STANDS_FOR)
         self.refused("Not a directory|File exists", "--program", self.program, self.program)
+
+    def test_a_missing_package_is_named_and_nothing_is_installed(self) -> None:
+        """Modules before the packages' stand for an installation that lacks one of them."""
+        needs(*MAKERS)
+        command = [PYTHON, "-B", os.path.join(TOOLS, "install"), "--program", self.program, self.prefix]
+        for module, package in zip(MAKERS, ("python3-shtab",), strict=True):
+            with self.subTest(module):
+                folder = temporary_folder(self.addCleanup)
+                with open(os.path.join(folder, f"{module}.py"), "w", encoding="utf-8") as file:
+                    file.write(f"raise ModuleNotFoundError({f'No module named {module!r}'!r}, name={module!r})\n")
+                environment = {**os.environ, "PYTHONPATH": folder}
+                ran = subprocess.run(command, capture_output=True, text=True, env=environment, timeout=300)
+                why = f"No module named {module!r}: install the package {package}, and run /usr/bin/python3"
+                self.assertEqual((ran.returncode, ran.stdout, ran.stderr), (1, "", f"install: {why}\n"))
+                self.assertEqual(self.files(), [])
 
     def test_words(self) -> None:
         self.refused("required: PREFIX", status=2)

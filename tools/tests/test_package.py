@@ -5,12 +5,9 @@ from __future__ import annotations
 
 import importlib.util
 import os
-import pty
 import re
-import select
 import shutil
 import subprocess
-import time
 import unittest
 import unittest.mock
 
@@ -19,9 +16,8 @@ from tools.tests.helping import NO_PROGRAM, PROGRAM, PYTHON, ROOT, needs, run_in
 needs("numpy", "scipy")
 
 import cdma_tools  # noqa: E402
-from cdma_model.words import COMMANDS  # noqa: E402
 from cdma_tools.errors import Refused  # noqa: E402
-from cdma_tools.packaging import archive, completions, debian, gate_log, program_completions, tree  # noqa: E402
+from cdma_tools.packaging import archive, debian, gate_log, tree  # noqa: E402
 from cdma_tools.places import data_folder  # noqa: E402
 from cdma_tools.program import NAME  # noqa: E402
 from cdma_tools.starting import INSTALLED  # noqa: E402
@@ -119,135 +115,6 @@ class Installed(unittest.TestCase):
             self.assertTrue(os.path.isfile(os.path.join(prefix, tree.ZSH, f"_{name}")))
         for place in (os.path.join(tree.BASH, NAME), os.path.join(tree.ZSH, f"_{NAME}")):
             self.assertTrue(os.path.isfile(os.path.join(prefix, place)))
-
-
-@unittest.skipUnless(shutil.which("zsh"), "no zsh: install the package zsh")
-class OfZsh(unittest.TestCase):
-    """What zsh makes of a line and the Tab key."""
-
-    def setUp(self) -> None:
-        self.folder = temporary_folder(self.addCleanup)
-        for name, module in tree.commands().items():
-            with open(os.path.join(self.folder, f"_{name}"), "w", encoding="utf-8") as file:
-                file.write(completions.zsh_completion_of(name, module))
-        with open(os.path.join(self.folder, "_cdma_replay"), "w", encoding="utf-8") as file:
-            file.write(program_completions.zsh_completion())
-
-    def read(self, terminal: int, pattern: bytes) -> bytes:
-        """Reads what a terminal shows up to a pattern's group, and returns that."""
-        shown, until = b"", time.monotonic() + 60
-        while time.monotonic() < until:
-            if select.select([terminal], [], [], 0.2)[0]:
-                shown += os.read(terminal, 4_096)
-            if found := re.search(pattern, shown):
-                return found[1]
-        self.fail(f"zsh shows {shown!r}, and not {pattern!r}")
-
-    def completed(self, line: str) -> str:
-        """Returns the line after the Tab key, as zsh then runs it after a `print`."""
-        ours, theirs = pty.openpty()
-        environment = {"PATH": "/usr/bin:/bin", "HOME": self.folder, "TERM": "dumb"}
-        with subprocess.Popen(
-            ["zsh", "-f", "-i"], stdin=theirs, stdout=theirs, stderr=theirs, env=environment, start_new_session=True
-        ) as zsh:
-            os.close(theirs)
-            start = f"fpath=({self.folder} $fpath); autoload -Uz compinit; compinit -u -D; bindkey -e; PS1="
-            os.write(ours, f"{start}; print READ''Y\n".encode())
-            self.read(ours, rb"(READY)\r\n")
-            # The end of the line shows what the tabulator did, whenever zsh has done it: keys wait for their turn.
-            os.write(ours, f"{line}\t\x01print -r -- TOL''D \n".encode())
-            told = self.read(ours, rb"TOLD (.*?)\r\n")
-            zsh.kill()
-        os.close(ours)
-        return told.decode()
-
-    def test_each_command(self) -> None:
-        for name in tree.commands():
-            with self.subTest(name):
-                self.assertEqual(self.completed(f"{name} --vers"), f"{name} --version")
-
-    def test_options_and_choices(self) -> None:
-        for line, told in (
-            ("cdma-scan --conjugate t", "cdma-scan --conjugate try"),
-            ("cdma-scan --conjugate=t", "cdma-scan --conjugate=try"),
-            ("cdma-draw survey --ti", "cdma-draw survey --title"),
-            ("cdma-curve --path 7:1 --pa", "cdma-curve --path 7:1 --path"),
-            ("cdma-scan --all --al", "cdma-scan --all --al"),
-            ("cdma-draw surv", "cdma-draw survey"),
-            ("cdma-script ch", "cdma-script check"),
-        ):
-            with self.subTest(line):
-                self.assertEqual(self.completed(line), told)
-
-    def test_the_program(self) -> None:
-        """A wrong argument isn't completed; the reason is shown below the line."""
-        for line, told in (
-            ("cdma_replay fi", "cdma_replay find"),
-            ("cdma_replay survey --wi", "cdma_replay survey --width"),
-            ("cdma_replay make --bits=1", "cdma_replay make --bits=16"),
-            ("cdma_replay find --esn 1 --sp", "cdma_replay find --esn 1 --sp"),
-            ("cdma_replay fund --sp", "cdma_replay fund --sp"),
-        ):
-            with self.subTest(line):
-                self.assertEqual(self.completed(line).rstrip("= "), told)
-
-
-class OfBash(unittest.TestCase):
-    """What bash completes for a command, and what it says of the program if nothing can be completed."""
-
-    def completed(self, *words: str, name: str = NAME) -> tuple[list[str], str]:
-        """Returns what the Tab key offers for the last word, and what is said."""
-        module = tree.commands().get(name)
-        made = completions.completion_of(name, module) if module else program_completions.bash_completion()
-        script = f"""{made}
-            COMP_WORDS=("$@") COMP_CWORD=$(($# - 1)) COMP_LINE="$*"
-            _{name.replace("-", "_")}
-            printf '%s\\n' "${{COMPREPLY[@]}}" """
-        ran = subprocess.run(["bash", "-c", script, "bash", name, *words], capture_output=True, text=True, timeout=60)
-        return ran.stdout.split(), ran.stderr.strip().split("\n")[0]
-
-    def test_the_tools(self) -> None:
-        """Options, choices and parts; a word of another kind is left to bash, which completes the names of files."""
-        for name, words, offered in (
-            ("cdma-scan", ["--conjugate", ""], ["yes", "no", "try"]),
-            ("cdma-scan", ["--conj"], ["--conjugate"]),
-            ("cdma-draw", ["survey", "--ti"], ["--title"]),
-            ("cdma-draw", ["surv"], ["survey"]),
-            ("cdma-draw", ["survey", "surv"], []),
-            ("cdma-script", [""], ["check", "show", "new", "words"]),
-            ("cdma-scan", ["radio"], []),
-        ):
-            with self.subTest(name=name, words=words):
-                self.assertEqual(self.completed(*words, name=name), (offered, ""))
-
-    def test_what_is_offered(self) -> None:
-        for words, offered in (
-            (["f"], ["find", "follow"]),
-            (["list", "--"], ["--span", "--workers", "--fingers", "--esn", "--row", "--offset", "--k"]),
-            (["list", "--esn", "00c0ffee", "--row", "=", "10", "--o"], ["--offset"]),
-            (["find", "--span", "64", "--s"], []),
-            (["make", "--bits", ""], ["8", "16"]),
-            (["follow", "--paging", "=", ""], list("1234567")),
-            (["follow", "--fingers", "="], list("123")),
-        ):
-            with self.subTest(words):
-                self.assertEqual(self.completed(*words), (offered, ""))
-
-    def test_what_is_said(self) -> None:
-        for words, said in (
-            (["fund", "--"], "fund is not a command: find follow rate2 list idle survey make trial"),
-            (["find", "--esn", "00c0ffee", "--"], "find has no --esn: --span --workers"),
-            (["find", "--span", ""], "--span: 64 to 32,768"),
-            (["idle", "--key", "="], "--key: eight hex digits"),
-        ):
-            with self.subTest(words):
-                self.assertEqual(self.completed(*words), ([], said))
-
-    def test_each_option_is_offered_where_the_program_takes_it(self) -> None:
-        """The table of the completions is held to the model's, which reads arguments as the program does."""
-        self.assertEqual(self.completed("")[0], list(COMMANDS))
-        for command, options in COMMANDS.items():
-            self.assertEqual(self.completed(command, "--")[0], [f"--{name}" for name in options])
 
 
 def missing_packages() -> str:
@@ -356,6 +223,7 @@ class OfTheProgram(Installed):
     """An installation of the built program below a prefix."""
 
     def test_a_prefix(self) -> None:
+        needs("shtab")
         prefix = os.path.join(self.folder, "prefix")
         status, wrote, said = run_tool("install", "--program", str(PROGRAM), prefix)
         self.assertEqual((status, said), (0, ""))
