@@ -27,6 +27,14 @@ FAILED_AS = {
     "conformance_recordings": 2,
     "gate_times": 2,
 }
+# Debian's packages of modules, as far as they have other names than python3-MODULE.
+PACKAGES = {"build_manpages": "python3-argparse-manpage"}
+
+
+def package_of(module: str) -> str:
+    """Returns the package of Debian that has a module."""
+    name = module.split(".")[0]
+    return PACKAGES.get(name, f"python3-{name}")
 
 
 def run(name: str, ready: Callable[[], None]) -> int:
@@ -66,11 +74,11 @@ def status_of(name: str, arguments: list[str] | None = None, ready: Callable[[],
     except Refused as why:
         said(called(name), str(why))
     except ModuleNotFoundError as missing:
-        package = (missing.name or "").split(".")[0]
         if missing.name == f"cdma_tools.commands.{name}":
             said(called(name), "this version has no such command")
         else:
-            said(called(name), f"{missing}: install the package python3-{package}, and run /usr/bin/python3")
+            package = package_of(missing.name or "")
+            said(called(name), f"{missing}: install the package {package}, and run /usr/bin/python3")
     except MemoryError:
         said(called(name), "out of memory")
     except BrokenPipeError:

@@ -25,5 +25,5 @@ def mended(text: str, pattern: str, new: str, times: int = 1) -> str:
     """Returns a package's text with a pattern replaced; refuses a text that doesn't have it this number of times."""
     made, found = re.subn(pattern, lambda _: new, text)
     if found != times:
-        raise Refused(f"shtab has changed: {pattern} is in its text {found} times, not {times}")
+        raise Refused(f"shtab or argparse-manpage has changed: {pattern} is in its text {found} times, not {times}")
     return made

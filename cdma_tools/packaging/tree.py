@@ -137,7 +137,7 @@ def program_completion_files() -> Iterator[Entry]:
 
 def command_files(modules: str) -> Iterator[Entry]:
     """Yields each command, its manual page and its completions; it imports from the folder `modules` of its prefix."""
-    from cdma_tools.packaging import completions, manuals  # completions need a package that nothing else needs
+    from cdma_tools.packaging import completions, manuals  # they need packages that nothing else needs
 
     for name, module in commands().items():
         text = COMMAND.format(module=module, command=name, modules=modules)

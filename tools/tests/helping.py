@@ -19,7 +19,7 @@ import warnings
 from collections.abc import Callable, Sequence
 from types import ModuleType
 
-from cdma_tools.commands import status_of
+from cdma_tools.commands import package_of, status_of
 
 ROOT = os.path.dirname(os.path.dirname(os.path.dirname(os.path.abspath(__file__))))
 TOOLS = os.path.join(ROOT, "tools")
@@ -40,7 +40,7 @@ def needs(*names: str) -> None:
     """Skips a module of tests if a package that it needs is missing."""
     for name in names:
         if importlib.util.find_spec(name) is None:
-            raise unittest.SkipTest(f"no {name}: install the package python3-{name}")
+            raise unittest.SkipTest(f"no {name}: install the package {package_of(name)}")
 
 
 def temporary_folder(clean: Callable[..., object]) -> str:

@@ -244,7 +244,7 @@ class OfAnotherVersion(unittest.TestCase):
             written = shtab.complete(completions.prepared(parser_of("cdma-channel", "channel"), shell), shell)
             self.assertIn(told, written)
             with self.subTest(told), unittest.mock.patch("shtab.complete", return_value=written.replace(told, "")):
-                with self.assertRaisesRegex(Refused, "^shtab has changed: .* times, not "):
+                with self.assertRaisesRegex(Refused, "^shtab or argparse-manpage has changed: .* times, not "):
                     make("cdma-channel", "channel")
 
 

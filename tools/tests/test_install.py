@@ -10,7 +10,7 @@ from cdma_tools.packaging import tree
 from cdma_tools.program import NOT_INSTALLED
 from tools.tests.helping import PYTHON, ROOT, TOOLS, needs, run_tool, temporary_folder
 
-MAKERS = ("shtab",)  # the package that makes completions
+MAKERS = ("shtab", "build_manpages")  # the packages that make completions and manual pages
 STANDS_FOR = b"#!/bin/sh\necho bad words >&2\nexit 2\n"
 
 
@@ -134,7 +134,7 @@ class Installs(unittest.TestCase):
         """Modules before the packages' stand for an installation that lacks one of them."""
         needs(*MAKERS)
         command = [PYTHON, "-B", os.path.join(TOOLS, "install"), "--program", self.program, self.prefix]
-        for module, package in zip(MAKERS, ("python3-shtab",), strict=True):
+        for module, package in zip(MAKERS, ("python3-shtab", "python3-argparse-manpage"), strict=True):
             with self.subTest(module):
                 folder = temporary_folder(self.addCleanup)
                 with open(os.path.join(folder, f"{module}.py"), "w", encoding="utf-8") as file:

@@ -223,7 +223,7 @@ class OfTheProgram(Installed):
     """An installation of the built program below a prefix."""
 
     def test_a_prefix(self) -> None:
-        needs("shtab")
+        needs("shtab", "build_manpages")
         prefix = os.path.join(self.folder, "prefix")
         status, wrote, said = run_tool("install", "--program", str(PROGRAM), prefix)
         self.assertEqual((status, said), (0, ""))
