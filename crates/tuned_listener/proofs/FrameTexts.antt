@@ -1,7 +1,7 @@
 -- What is written of frames in order, and what they leave of a slot, as frames go on.
 use Rattle.tuned_listener.proofs.Common.{◌≡◌, ℕ, List, [], ◌∷◌, ◌++◌, refl, sym, ap, ◌∙◌, append-nil, append_assoc, flat_map, CheckForm}
 use Rattle.tuned_listener.proofs.Common.{Mark, SoftFrame, slot_after, slot_more, tuned_frame_text, frames_text, listed_text, rate2_text}
-use Rattle.tuned_listener.proofs.Common.{TunedText, Listed, RateSetTwo}
+use Rattle.tuned_listener.proofs.Common.{TunedText, Listed, RateSetTwo, Option, Some, option_to_list}
 
 -- what frames leave of a slot
 pub kept_after : (kept xs ys : List SoftFrame) → slot_after kept (xs ++ ys) ≡ slot_after (slot_after kept xs) ys
@@ -9,13 +9,14 @@ unfolding slot_after
 kept_after kept [] ys = refl
 kept_after kept (frame ∷ xs) ys = kept_after (slot_more kept frame) xs ys
 
-pub kept_after_one : (kept : List SoftFrame) (frame : SoftFrame) → slot_after kept (frame ∷ []) ≡ slot_more kept frame
-unfolding slot_after
-kept_after_one kept frame = refl
-
 pub kept_after_none : (kept : List SoftFrame) → slot_after kept [] ≡ kept
 unfolding slot_after
 kept_after_none kept = refl
+
+pub kept_after_shown : (kept : List SoftFrame) (shown : Option SoftFrame) (frame : SoftFrame) → shown ≡ Some frame →
+    slot_more kept frame ≡ slot_after kept (option_to_list shown)
+unfolding slot_after
+kept_after_shown kept shown frame is = rw is refl
 
 module _ (form : TunedText) (check : CheckForm) (m : Mark) where
   -- the text of frames, and of those after them
@@ -29,14 +30,17 @@ module _ (form : TunedText) (check : CheckForm) (m : Mark) where
       ap (λ (text : List ℕ). first ++ text) (texts_joined slot xs ys)
       ∙ sym (append_assoc first (frames_text form check m slot xs) (frames_text form check m (slot_after slot xs) ys))
 
-  pub text_of_one : (kept : List SoftFrame) (frame : SoftFrame) → frames_text form check m kept (frame ∷ [])
-      ≡ tuned_frame_text form check m (slot_more kept frame) frame
-  unfolding frames_text
-  text_of_one kept frame = append-nil (tuned_frame_text form check m (slot_more kept frame) frame)
-
   pub text_of_none : (kept : List SoftFrame) → frames_text form check m kept [] ≡ []
   unfolding frames_text
   text_of_none kept = refl
+
+  -- one frame's text, and what it leaves of a slot
+  pub text_of_shown : (kept : List SoftFrame) (shown : Option SoftFrame) (frame : SoftFrame) → shown ≡ Some frame →
+      tuned_frame_text form check m (slot_more kept frame) frame
+      ≡ frames_text form check m kept (option_to_list shown)
+  unfolding frames_text
+  text_of_shown kept shown frame is =
+      rw is (sym (append-nil (tuned_frame_text form check m (slot_more kept frame) frame)))
 
   -- where the text of a frame is the same whatever is kept of its slot, that of frames is their
   -- texts one after the other

@@ -1,14 +1,14 @@
 -- The text of the frames after a mark, as it is written frame by frame.
 use Rattle.tuned_listener.proofs.Common.{◌≡◌, ℕ, zero, suc, ◌+◌, ◌≤◌, Bool, true, false, List, [], ◌∷◌, ◌++◌, map, filter, length, take, ap}
-use Rattle.tuned_listener.proofs.Common.{drop, refl, sym, ◌∙◌, subst, arith, inl, inr, nat_le, Option, None, Some, append_assoc, take-add}
-use Rattle.tuned_listener.proofs.Common.{length-append, StartsWith, Appends, range_with_len, option_to_list, Appends-nil, Appends-trans}
+use Rattle.tuned_listener.proofs.Common.{drop, refl, sym, ◌∙◌, subst, arith, inl, inr, nat_le, Option, append_assoc, take-add}
+use Rattle.tuned_listener.proofs.Common.{length-append, StartsWith, Appends, range_with_len, option_to_list, Appends-trans, tuned_text_of}
 use Rattle.tuned_listener.proofs.Common.{and_from, cases_Bool, cases_lt, false_from_ne_true, le-leb, map-append, take-append-drop, take_all}
 use Rattle.tuned_listener.proofs.Common.{places, Sample, AppendsPrefix, channel_stream, paging_bound, frames_within, soft_frame, IsTimed}
-use Rattle.tuned_listener.proofs.Common.{soft_frames, IsTunedTo, IsTunerStep, Tuning, Channel, Mark, SoftFrame, Tuner, TunerStep, slot_more}
-use Rattle.tuned_listener.proofs.Common.{frames_sooner, HoldsFrames, WritesFrames, WritesFramesPart, slot_after, tuned_frame_text, Arrivals}
+use Rattle.tuned_listener.proofs.Common.{soft_frames, IsTunedTo, IsTunerStep, Tuning, Channel, Mark, SoftFrame, Tuner, TunerStep}
+use Rattle.tuned_listener.proofs.Common.{frames_sooner, HoldsFrames, WritesFrames, WritesFramesPart, slot_after, Arrivals}
 use Rattle.tuned_listener.proofs.Common.{frames_text, text_from, FrameWriter, TunedText, begins_more, prefix_before, prefix_after, by_parts}
 use Rattle.tuned_listener.proofs.Common.{taken_begins, frames_in, is_by, channel_ordered}
-use Rattle.tuned_listener.proofs.FrameTexts.{kept_after, kept_after_none, kept_after_one, text_of_none, text_of_one, texts_joined}
+use Rattle.tuned_listener.proofs.FrameTexts.{kept_after, texts_joined}
 use Rattle.chip_core.proofs.Ranges as ranges
 
 -- ---- frames go on
@@ -125,125 +125,86 @@ abbrev kept_with : Tuning → Channel → Mark → List Sample → Option SoftFr
 kept_with t channel m heard shown = slot_after (kept_of t channel m heard) (option_to_list shown)
 
 module _ (t : Tuning) (channel : Channel) (m : Mark) (form : TunedText) where
-  module _ (heard : List Sample) (shown : Option SoftFrame) where
-    -- the text of what a step gives
-    pub frame_written : (frame : SoftFrame) (old new : Option (List ℕ)) → shown ≡ Some frame →
-        Appends old new (tuned_frame_text form t.check30 m
-        (slot_more (kept_of t channel m heard) frame) frame) →
-        Appends old new (shown_text form t channel m heard shown)
-    frame_written frame old new is written =
-        subst (λ (x : Option SoftFrame). Appends old new (shown_text form t channel m heard x)) (sym is)
-        (subst (Appends old new) (sym (text_of_one form t.check30 m (kept_of t channel m heard) frame)) written)
-
-    pub frame_cut : (frame : SoftFrame) (old new : Option (List ℕ)) → shown ≡ Some frame →
-        AppendsPrefix old new (tuned_frame_text form t.check30 m
-        (slot_more (kept_of t channel m heard) frame) frame) →
-        AppendsPrefix old new (shown_text form t channel m heard shown)
-    frame_cut frame old new is part =
-        subst (λ (x : Option SoftFrame). AppendsPrefix old new (shown_text form t channel m heard x)) (sym is)
-        (subst (AppendsPrefix old new) (sym (text_of_one form t.check30 m (kept_of t channel m heard) frame)) part)
-
-    pub none_written : (old : Option (List ℕ)) → shown ≡ None →
-        Appends old old (shown_text form t channel m heard shown)
-    none_written old is =
-        subst (λ (x : Option SoftFrame). Appends old old (shown_text form t channel m heard x)) (sym is)
-        (subst (Appends old old) (sym (text_of_none form t.check30 m (kept_of t channel m heard))) (Appends-nil old))
-
-    -- what a writer keeps of a slot then
-    pub frame_kept : (frame : SoftFrame) (writer : FrameWriter) → shown ≡ Some frame →
-        HoldsFrames writer t.check30 (slot_more (kept_of t channel m heard) frame) →
-        HoldsFrames writer t.check30 (kept_with t channel m heard shown)
-    frame_kept frame writer is =
-        subst (HoldsFrames writer t.check30)
-        (sym (ap (kept_with t channel m heard) is
-        ∙ kept_after_one (kept_of t channel m heard) frame))
-
-    pub none_kept : (writer : FrameWriter) → shown ≡ None → HoldsFrames writer t.check30 (kept_of t channel m heard) →
-        HoldsFrames writer t.check30 (kept_with t channel m heard shown)
-    none_kept writer is =
-        subst (HoldsFrames writer t.check30)
-        (sym (ap (kept_with t channel m heard) is
-        ∙ kept_after_none (kept_of t channel m heard)))
-
   module _ (one other : Tuner) (writer : FrameWriter) (heard samples next : List Sample)
       (taken : ℕ) (step : TunerStep) (old mid new : Option (List ℕ))
       (left : next ≡ drop taken samples) (does : IsTunerStep one other next step)
       (so_far : WritesFrames t channel m form one writer heard (heard ++ take taken samples) old mid)
-    where
-      abbrev so_many : List Sample
-      so_many = heard ++ take taken samples
+      (same : tuned_text_of writer ≡ form) where
+    abbrev so_many : List Sample
+    so_many = heard ++ take taken samples
 
-      -- the samples that were taken then
-      joined : so_many ++ take step.taken next ≡ heard ++ take (taken + step.taken) samples
-      joined = step_joined heard samples next taken step.taken left
+    -- the samples that were taken then
+    joined : so_many ++ take step.taken next ≡ heard ++ take (taken + step.taken) samples
+    joined = step_joined heard samples next taken step.taken left
 
-      tuned : IsTunedTo t channel m other (heard ++ take (taken + step.taken) samples)
-      tuned = subst (IsTunedTo t channel m other) joined (does.stands t channel m so_many so_far.tuned)
+    tuned : IsTunedTo t channel m other (heard ++ take (taken + step.taken) samples)
+    tuned = subst (IsTunedTo t channel m other) joined (does.stands t channel m so_many so_far.tuned)
 
-      -- the frames that have ended then
-      frames_then : soft_frames t channel m (heard ++ take (taken + step.taken) samples)
-          ≡ soft_frames t channel m so_many ++ option_to_list step.frame
-      frames_then = ap (soft_frames t channel m) (sym joined) ∙ does.gives t channel m so_many so_far.tuned
+    -- the frames that have ended then
+    frames_then : soft_frames t channel m (heard ++ take (taken + step.taken) samples)
+        ≡ soft_frames t channel m so_many ++ option_to_list step.frame
+    frames_then = ap (soft_frames t channel m) (sym joined) ∙ does.gives t channel m so_many so_far.tuned
 
-      -- the text of a step's frame
-      step_text : text_from form t channel m heard
-          ++ (so_far.text ++ shown_text form t channel m so_many step.frame)
-          ≡ text_from form t channel m (heard ++ take (taken + step.taken) samples)
-      step_text =
-          let text = shown_text form t channel m so_many step.frame in
-          sym (append_assoc (text_from form t channel m heard) so_far.text text)
-          ∙ ap (λ (bytes : List ℕ). bytes ++ text) so_far.all
-          ∙ sym (texts_joined form t.check30 m [] (soft_frames t channel m so_many) (option_to_list step.frame))
-          ∙ ap (frames_text form t.check30 m []) (sym frames_then)
+    -- the text of a step's frame
+    step_text : text_from form t channel m heard
+        ++ (so_far.text ++ shown_text form t channel m so_many step.frame)
+        ≡ text_from form t channel m (heard ++ take (taken + step.taken) samples)
+    step_text =
+        let text = shown_text form t channel m so_many step.frame in
+        sym (append_assoc (text_from form t channel m heard) so_far.text text)
+        ∙ ap (λ (bytes : List ℕ). bytes ++ text) so_far.all
+        ∙ sym (texts_joined form t.check30 m [] (soft_frames t channel m so_many) (option_to_list step.frame))
+        ∙ ap (frames_text form t.check30 m []) (sym frames_then)
 
-      -- what is kept of a slot after it
-      step_kept : kept_with t channel m so_many step.frame
-          ≡ kept_of t channel m (heard ++ take (taken + step.taken) samples)
-      step_kept =
-          sym (kept_after [] (soft_frames t channel m so_many) (option_to_list step.frame))
-          ∙ ap (slot_after []) (sym frames_then)
+    -- what is kept of a slot after it
+    step_kept : kept_with t channel m so_many step.frame
+        ≡ kept_of t channel m (heard ++ take (taken + step.taken) samples)
+    step_kept =
+        sym (kept_after [] (soft_frames t channel m so_many) (option_to_list step.frame))
+        ∙ ap (slot_after []) (sym frames_then)
 
-      -- it was written
-      pub writes_more : (writer' : FrameWriter) → Appends mid new (shown_text form t channel m so_many step.frame) →
-          HoldsFrames writer' t.check30 (kept_with t channel m so_many step.frame) →
-          WritesFrames t channel m form other writer' heard (heard ++ take (taken + step.taken) samples) old new
-      writes_more writer' written holds =
-          let text = shown_text form t channel m so_many step.frame in
-          record {
-            text = so_far.text ++ text;
-            written = Appends-trans old mid new so_far.text text so_far.written written;
-            all = step_text;
-            tuned = tuned;
-            holds = subst (HoldsFrames writer' t.check30) step_kept holds;
-          }
+    -- it was written
+    pub writes_more : (writer' : FrameWriter) →
+        Appends mid new (shown_text (tuned_text_of writer) t channel m so_many step.frame) →
+        HoldsFrames writer' t.check30 (kept_with t channel m so_many step.frame) →
+        WritesFrames t channel m form other writer' heard (heard ++ take (taken + step.taken) samples) old new
+    writes_more writer' written holds =
+        let text = shown_text form t channel m so_many step.frame in
+        record {
+          text = so_far.text ++ text;
+          written = Appends-trans old mid new so_far.text text so_far.written (rw same at written);
+          all = step_text;
+          tuned = tuned;
+          holds = subst (HoldsFrames writer' t.check30) step_kept holds;
+        }
 
-      -- a write failed in the middle of it
-      pub writes_part : AppendsPrefix mid new (shown_text form t channel m so_many step.frame) →
-          WritesFramesPart t channel m form heard (heard ++ samples) old new
-      writes_part part =
-          let now = heard ++ take (taken + step.taken) samples in
-          let last = drop (taken + step.taken) samples in
-          let text = shown_text form t channel m so_many step.frame in
-          let (rest, later) = text_goes_on t channel m tuned.given.clocked.timed form now last in
-          let whole_samples : now ++ last ≡ heard ++ samples =
-          append_assoc heard (take (taken + step.taken) samples) last
-          ∙ ap (λ (xs : List Sample). heard ++ xs) (take-append-drop (taken + step.taken) samples) in
-          let before = text_from form t channel m heard in
-          let all = so_far.text ++ (text ++ rest) in
-          let whole : text_from form t channel m (heard ++ samples) ≡ before ++ all =
-          ap (text_from form t channel m) (sym whole_samples)
-          ∙ later
-          ∙ ap (λ (bytes : List ℕ). bytes ++ rest) (sym step_text)
-          ∙ append_assoc before (so_far.text ++ text) rest
-          ∙ ap (λ (bytes : List ℕ). before ++ bytes) (append_assoc so_far.text text rest) in
-          let cut : AppendsPrefix old new all =
-          prefix_after old mid new so_far.text (text ++ rest) so_far.written (prefix_before mid new text rest part) in
-          record {
-            text = take cut.count all;
-            written = cut.appended;
-            begins = subst (λ (bytes : List ℕ). StartsWith bytes (before ++ take cut.count all)) (sym whole)
-                (begins_more before all (take cut.count all) (taken_begins all cut.count cut.fits));
-          }
+    -- a write failed in the middle of it
+    pub writes_part : AppendsPrefix mid new (shown_text (tuned_text_of writer) t channel m so_many step.frame) →
+        WritesFramesPart t channel m form heard (heard ++ samples) old new
+    writes_part part =
+        let now = heard ++ take (taken + step.taken) samples in
+        let last = drop (taken + step.taken) samples in
+        let text = shown_text form t channel m so_many step.frame in
+        let (rest, later) = text_goes_on t channel m tuned.given.clocked.timed form now last in
+        let whole_samples : now ++ last ≡ heard ++ samples =
+        append_assoc heard (take (taken + step.taken) samples) last
+        ∙ ap (λ (xs : List Sample). heard ++ xs) (take-append-drop (taken + step.taken) samples) in
+        let before = text_from form t channel m heard in
+        let all = so_far.text ++ (text ++ rest) in
+        let whole : text_from form t channel m (heard ++ samples) ≡ before ++ all =
+        ap (text_from form t channel m) (sym whole_samples)
+        ∙ later
+        ∙ ap (λ (bytes : List ℕ). bytes ++ rest) (sym step_text)
+        ∙ append_assoc before (so_far.text ++ text) rest
+        ∙ ap (λ (bytes : List ℕ). before ++ bytes) (append_assoc so_far.text text rest) in
+        let cut : AppendsPrefix old new all =
+        prefix_after old mid new so_far.text (text ++ rest) so_far.written (prefix_before mid new text rest (rw same at part)) in
+        record {
+          text = take cut.count all;
+          written = cut.appended;
+          begins = subst (λ (bytes : List ℕ). StartsWith bytes (before ++ take cut.count all)) (sym whole)
+              (begins_more before all (take cut.count all) (taken_begins all cut.count cut.fits));
+        }
 
   -- all samples were taken
   pub writes_all : (tuner : Tuner) (writer : FrameWriter) (heard samples : List Sample) (taken : ℕ)

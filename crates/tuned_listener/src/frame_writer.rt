@@ -4,8 +4,10 @@ ghost use Rattle.tuned_listener.specs.Common.{CheckForm as TheCheck, Sample as T
 ghost use Rattle.tuned_listener.specs.Common.{soft_frames, frame_most, IsSoundMark, slot_after};
 ghost use Rattle.tuned_listener.specs.Common.{Channel as TheChannel, SoftFrame as TheFrame};
 ghost use Rattle.tuned_listener.specs.Common.{slot_more, listed_text, rate2_text, tuned_frame_text};
+ghost use Rattle.event_tap.specs.TunedTexts.{frames_text};
 ghost use Rattle.std.specs.Prelude.{◌≡◌, ◌≤◌, ◌+◌, ◌++◌, List, [], length, IfOk, OnOk, OnErr};
-ghost use Rattle.std.specs.Prelude.{sum_by, unsigned_abs};
+ghost use Rattle.std.specs.Prelude.{IfSome, sum_by, unsigned_abs};
+ghost use Rattle.std.specs.Option.{option_to_list};
 ghost use Rattle.std.specs.Io.KnownBytes.{Appends};
 ghost use Rattle.cdma_io.specs.Outside.{AppendsPrefix, HasCause};
 ghost use Rattle.tuned_listener.specs.Tuners.{IsTunedTo, samples_left};
@@ -147,6 +149,39 @@ impl FrameWriter {
             FrameWriter::Slots(slots) => slots.write(mark, frame, sink),
         }
     }
+
+    /// Writes what is made of the frame with which a step ends, if there is one.
+    fn write_shown<K: Sink>(
+        &mut self,
+        mark: &Mark,
+        shown: &Option<SoftFrame>,
+        sink: &mut K,
+    ) -> Result<(), Failed>
+        requires ready { IsReady self.old }
+        requires mark { IsSoundMark mark.now }
+        requires small { IfSome shown.now
+            (λ (frame : TheFrame). sum_by unsigned_abs frame.descrambled ≤ frame_most) }
+        ensures ready { IsReady self.new }
+        ensures text { tuned_text_of self.new ≡ tuned_text_of self.old }
+        ensures holds { (check : TheCheck) (slot : List TheFrame) →
+            HoldsFrames self.old check slot →
+            HoldsFrames self.new check (slot_after slot (option_to_list shown.now)) }
+        ensures ok { OnOk result ((check : TheCheck) (slot : List TheFrame) →
+            HoldsFrames self.old check slot → Appends (K.written sink.old) (K.written sink.new)
+            (frames_text (tuned_text_of self.old) check mark.now slot
+            (option_to_list shown.now))) }
+        ensures err { OnErr result ((check : TheCheck) (slot : List TheFrame) →
+            HoldsFrames self.old check slot →
+            AppendsPrefix (K.written sink.old) (K.written sink.new)
+            (frames_text (tuned_text_of self.old) check mark.now slot
+            (option_to_list shown.now))) }
+        ensures cause { HasCause (K.faults sink.old) (K.faults sink.new) result }
+    {
+        match shown {
+            Some(frame) => self.write(mark, frame, sink),
+            None => Ok(()),
+        }
+    }
 }
 
 /// Gives samples to the receiver of a channel's frames after a mark, and writes what is made of
@@ -181,9 +216,7 @@ pub(crate) fn hear_frames<K: Sink>(
     while taken < samples.len() {
         let step = tuner.step(&samples[taken..]);
         taken += step.taken;
-        if let Some(frame) = step.frame {
-            writer.write(mark, &frame, sink)?;
-        }
+        writer.write_shown(mark, &step.frame, sink)?;
     }
     Ok(())
 }
