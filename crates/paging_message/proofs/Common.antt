@@ -30,8 +30,7 @@ pub use Rattle.message_layout.proofs.Round.{reading_again, reading_there}
 pub use Rattle.quality_bits.proofs.Common.{and_parts, awaits_more, completed, continued, leb-true, length-binary, length-replicate, lt-ltb}
 pub use Rattle.quality_bits.proofs.Common.{take-append-le, take_all, taken_more}
 unfoldable pub use Rattle.quality_bits.proofs.Common.{front_capsule, places}
-pub use Rattle.quality_bits.proofs.Decoded.{AreRead, Tells, bad_body_told, one_message, read_by_spelling, tells_by_body, turned_back}
-pub use Rattle.quality_bits.proofs.Decoded.{uncapsuled}
+pub use Rattle.quality_bits.proofs.Decoded.{AreRead, decodes_capsule, decodes_no_capsule, one_message, read_by_spelling, turned_back}
 pub use Rattle.quality_bits.proofs.Opened.{stated_bounds, stated_from}
 pub use Rattle.quality_bits.proofs.Streams.{bodies-more, extended, from_last_start_more, from_last_start_new}
 pub use Rattle.quality_bits.specs.Pieces.{Piece, bodies, from_last_start, piece}

@@ -4,7 +4,6 @@ use Rattle.paging_message.specs.Common.{CheckForm, list_said, if_spelled}
 use Rattle.std.specs.Prelude.{ℕ, ◌-◌, ◌%◌, ◌==◌, ◌&&◌, if◌then◌else◌, Bool, List, length, take}
 use Rattle.std.specs.Prelude.{drop, nat_le, Option, Some, None}
 pub use Rattle.chip_core.specs.Readings.{number_at}
-pub use Rattle.quality_bits.specs.Faults.{reading_of}
 use Rattle.paging_message.specs.Admitted.{admits}
 use Rattle.paging_message.specs.Layouts.{paging_shape_of}
 use Rattle.paging_message.specs.Messages.{message_from, paging_capsule}

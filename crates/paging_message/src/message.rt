@@ -1,8 +1,8 @@
 //! Converts messages to and from their bodies and capsules.
 
-ghost use Rattle.paging_message.specs.Common.{line_names, shape, FillsCapsule, IsWhole, M30};
-ghost use Rattle.std.specs.Prelude.{◌≡◌, ◌↔◌, IfOk, IfSome, IsTrue, Some};
-ghost use Rattle.quality_bits.specs.Kinds.{IsChecked};
+ghost use Rattle.paging_message.specs.Common.{line_names, shape, FillsCapsule, M30};
+ghost use Rattle.std.specs.Prelude.{◌≡◌, IfSome, Some};
+ghost use Rattle.quality_bits.specs.Faults.{Decodes};
 ghost use Rattle.paging_message.specs.Layouts.{paging_names_of, paging_shape_of};
 
 use crate::channels::{CHANNEL_LIST, ChannelList};
@@ -31,7 +31,7 @@ pub enum PagingMessage {
 impl PagingMessage {
     ghost use Rattle.paging_message.specs.Messages.{contents_of, message_from, paging_kind_of};
     ghost use Rattle.paging_message.specs.Messages.{message_body, paging_capsule, IsPagingMessage};
-    ghost use Rattle.paging_message.specs.Reading.{body_reading, paging_reading, reading_of};
+    ghost use Rattle.paging_message.specs.Reading.{body_reading, paging_reading};
     ghost use Rattle.paging_message.specs.declared.message.PagingMessage.{
       PagingMessage as TheMessage,
     };
@@ -58,18 +58,8 @@ impl PagingMessage {
     /// outside 5 to 148 octets; otherwise `BadCheck` exactly if the check differs; otherwise
     /// `BadBody` exactly if the body is not that of a message.
     pub fn decode(capsule: &Bits, form: CheckForm) -> Result<PagingMessage, MessageFault>
-        ensures found { IfOk result
-            (λ m. IsPagingMessage m × (capsule.now ≡ paging_capsule form m)) }
-        ensures only { (m : TheMessage) → IsPagingMessage m → capsule.now ≡ paging_capsule form m →
-            result ≡ Ok m }
-        ensures reading { reading_of result ≡ paging_reading form capsule.now }
-
-        ensures bad_length { (result ≡ Err MessageFault.BadLength) ↔ ¬ (IsWhole capsule.now) }
-        ensures bad_check { (result ≡ Err MessageFault.BadCheck) ↔
-            (IsWhole capsule.now × ¬ (IsChecked M30 form capsule.now)) }
-        ensures bad_body { (result ≡ Err MessageFault.BadBody) ↔
-            (IsWhole capsule.now × IsChecked M30 form capsule.now
-            × ((m : TheMessage) → IsPagingMessage m → ¬ (capsule.now ≡ paging_capsule form m))) }
+        ensures { Decodes M30 form IsPagingMessage (paging_capsule form) (paging_reading form)
+            capsule.now result }
     {
         let count = body_count(Kind::M30, form, capsule)?;
         let body = BitSlice::of(capsule, 8, count);

@@ -1,10 +1,12 @@
--- Capsules decoded as messages, whatever the messages are: what each exit of a decoder says.
+-- Capsules decoded as messages, for any type of message: what each exit of a decoder returns.
 use Rattle.quality_bits.proofs.Common.{◌≡◌, ℕ, ◌+◌, ◌-◌, Bool, true, false, List, length, take, drop, refl, sym, ap, subst, ◌∙◌, arith, Ok}
 use Rattle.quality_bits.proofs.Common.{Option, Some, None, Result, Err, inl, inr, IfOk, ok_or, ◌↔◌, cases_Bool, same_from, same_refl, Kind}
 use Rattle.quality_bits.proofs.Common.{are_same, CheckForm, IsChecked, generator_of, FillsCapsule, IsWhole, capsule, if_spelled}
+use Rattle.quality_bits.specs.declared.capsule.CapsuleFault.{CapsuleFault}
+use Rattle.quality_bits.specs.declared.capsule.CapsuleFault.TheVariants as capsules
 use Rattle.quality_bits.specs.declared.message_fault.MessageFault.{MessageFault}
-use Rattle.quality_bits.specs.declared.message_fault.MessageFault.TheVariants.{BadBody}
-use Rattle.quality_bits.specs.Faults.{reading_of}
+use Rattle.quality_bits.specs.declared.message_fault.MessageFault.TheVariants.{BadBody, BadCheck, BadLength}
+use Rattle.quality_bits.specs.Faults.{Decodes, fault_of, reading_of}
 use Rattle.quality_bits.proofs.Wholes.{checked-capsule, inner, inner-capsule, whole-capsule}
 
 -- messages that are spelled as bodies of capsules, and read of bodies and of capsules
@@ -94,101 +96,106 @@ read_by_spelling kind form Is body spelled of_body of_capsule cut is spells read
           ((there inside m both.0).0, both.1 ∙ sym (spells m));
     }
 
--- WHAT A DECODER SAYS
--- the result is the message whose capsule the bits are, and a fault where there is none
-pub record Tells {M : Type 0} (Is : M → Type 0) (spelled : M → List Bool) (of_capsule : List Bool → Option M)
-    (bits : List Bool) (result : Result M MessageFault) : Type 0 where
-  pub found : IfOk result (λ m. Is m × (bits ≡ spelled m))
-  pub only : (m : M) → Is m → bits ≡ spelled m → result ≡ Ok m
-  pub reading : reading_of result ≡ of_capsule bits
-
+-- WHAT A DECODER RETURNS
 no_reading : {M : Type 0} (of_capsule : List Bool → Option M) (bits : List Bool) (read : Option M) →
     of_capsule bits ≡ read → ((m : M) → ¬ (of_capsule bits ≡ Some m)) → None ≡ of_capsule bits
 no_reading of_capsule bits None e never = sym e
 no_reading of_capsule bits (Some m) e never = absurd (never m e)
 
-tells_none : {M : Type 0} {kind : Kind} {form : CheckForm} {Is : M → Type 0} {body spelled : M → List Bool}
-    {of_body of_capsule : List Bool → Option M} (bits : List Bool) (fault : MessageFault) →
-    AreRead kind form Is body spelled of_body of_capsule → ((m : M) → Is m → ¬ (bits ≡ spelled m)) →
-    Tells Is spelled of_capsule bits (Err fault)
-tells_none {of_capsule = of_capsule} bits fault are never =
-    record {
-      found = tt;
-      only = λ m is same. absurd (never m is same);
-      reading = no_reading of_capsule bits (of_capsule bits) refl (λ m e.
-          let is = are.capsule_there bits m e in
-          never m is.0 is.1);
-    }
+-- that a capsule's body cannot be counted
+abbrev pub uncounted : CapsuleFault → Result ℕ CapsuleFault
+uncounted fault = Err fault
 
--- a fault is not a value
-err_is_no_ok : {A E : Type 0} {value : A} {fault : E} → ¬ (Err fault ≡ Ok value)
-err_is_no_ok same = cc
+module _ {M : Type 0} {kind : Kind} {form : CheckForm} {Is : M → Type 0} {body spelled : M → List Bool}
+    {of_body of_capsule : List Bool → Option M} (bits : List Bool)
+    (are : AreRead kind form Is body spelled of_body of_capsule) where
+  abbrev failed : MessageFault → Result M MessageFault
+  failed fault = Err fault
 
--- where there is no capsule
-pub uncapsuled : {M E : Type 0} {fault : E} {kind : Kind} {form : CheckForm} {Is : M → Type 0} {body spelled : M → List Bool}
-    {of_body of_capsule : List Bool → Option M} (bits : List Bool) (result : Result M MessageFault) →
-    AreRead kind form Is body spelled of_body of_capsule →
-    ((inside : List Bool) → FillsCapsule kind inside → bits ≡ capsule kind form inside →
-    Err fault ≡ Ok (length inside)) →
-    IfOk result (λ m. true ≡ false) → Tells Is spelled of_capsule bits result
-uncapsuled bits (Ok m) are only fault = absurd (cc)
-uncapsuled {body = body} bits (Err fault) are only is_fault =
-    tells_none bits fault are (λ m is same.
-    err_is_no_ok (only (body m) (are.fills m is) (same ∙ are.spells m)))
+  -- a fault, if no message is spelled so
+  decodes_fault : (fault : MessageFault) → ((m : M) → Is m → ¬ (bits ≡ spelled m)) →
+      ((failed fault ≡ failed BadLength) ↔ ¬ (IsWhole bits)) →
+      ((failed fault ≡ failed BadCheck) ↔ (IsWhole bits × ¬ (IsChecked kind form bits))) →
+      ((failed fault ≡ failed BadBody)
+      ↔ (IsWhole bits × IsChecked kind form bits × ((m : M) → Is m → ¬ (bits ≡ spelled m)))) →
+      Decodes kind form Is spelled of_capsule bits (Err fault)
+  decodes_fault fault never long checked bad =
+      record {
+        found = tt;
+        only = λ m is same. absurd (never m is same);
+        reading = no_reading of_capsule bits (of_capsule bits) refl (λ m e.
+            let is = are.capsule_there bits m e in
+            never m is.0 is.1);
+        bad_length = long;
+        bad_check = checked;
+        bad_body = bad;
+      }
 
--- what the body of a message's capsule is read as
-body_read : {M : Type 0} {kind : Kind} {form : CheckForm} {Is : M → Type 0} {body spelled : M → List Bool}
-    {of_body of_capsule : List Bool → Option M} (bits inside : List Bool) (m : M) →
-    AreRead kind form Is body spelled of_body of_capsule → bits ≡ capsule kind form inside → Is m → bits ≡ spelled m →
-    of_body inside ≡ Some m
-body_read {kind = kind} {form = form} {body = body} {of_body = of_body} bits inside m are found is same =
-    ap of_body (body_of_capsule kind form bits inside (body m) found (same ∙ are.spells m)) ∙ are.again m is
+  -- a list of bits that is no capsule spells no message
+  spells_none : (fault : CapsuleFault) → ((inside : List Bool) → FillsCapsule kind inside →
+      bits ≡ capsule kind form inside → uncounted fault ≡ Ok (length inside)) →
+      (m : M) → Is m → ¬ (bits ≡ spelled m)
+  spells_none fault only m is same =
+      let wrong = only (body m) (are.fills m is) (same ∙ are.spells m) in
+      absurd (cc)
 
-told_of_body : {M : Type 0} {kind : Kind} {form : CheckForm} {Is : M → Type 0} {body spelled : M → List Bool}
-    {of_body of_capsule : List Bool → Option M} (bits inside : List Bool) (read : Option M) →
-    AreRead kind form Is body spelled of_body of_capsule →
-    FillsCapsule kind inside × (bits ≡ capsule kind form inside) → read ≡ of_body inside →
-    Tells Is spelled of_capsule bits (ok_or read BadBody)
-told_of_body bits inside None are found e =
-    tells_none bits BadBody are (λ m is same.
-    let both : None ≡ Some m = e ∙ body_read bits inside m are found.1 is same in
-    absurd (cc))
-told_of_body {kind = kind} {form = form} {spelled = spelled} {of_capsule = of_capsule} bits inside (Some m) are found e =
-    let is = are.there inside m found.0 (sym e) in
-    let same : bits ≡ spelled m = found.1 ∙ ap (capsule kind form) is.1 ∙ sym (are.spells m) in
-    record {
-      found = (is.0, same);
-      only = λ n other there.
-          let both : Some m ≡ Some n = e ∙ body_read bits inside n are found.1 other there in
-          cc;
-      reading = sym (ap of_capsule same ∙ are.capsule_again m is.0);
-    }
+  -- the fault of a list of bits that is no capsule
+  pub decodes_no_capsule : (fault : CapsuleFault) (result : Result M MessageFault) →
+      ((inside : List Bool) → FillsCapsule kind inside →
+      bits ≡ capsule kind form inside → uncounted fault ≡ Ok (length inside)) →
+      ((uncounted fault ≡ uncounted capsules.BadLength) ↔ ¬ (IsWhole bits)) →
+      ((uncounted fault ≡ uncounted capsules.BadCheck) ↔ (IsWhole bits × ¬ (IsChecked kind form bits))) →
+      result ≡ Err (fault_of fault) → Decodes kind form Is spelled of_capsule bits result
+  decodes_no_capsule capsules.BadLength result only long checked is =
+      let none = long.0 refl in
+      rw is (decodes_fault BadLength (spells_none capsules.BadLength only)
+      (λ e. none, λ e. refl)
+      (λ e. absurd (cc), λ whole. absurd (none whole.0))
+      (λ e. absurd (cc), λ whole. absurd (none whole.0)))
+  decodes_no_capsule capsules.BadCheck result only long checked is =
+      let bad = checked.0 refl in
+      rw is (decodes_fault BadCheck (spells_none capsules.BadCheck only)
+      (λ e. absurd (cc), λ none. absurd (none bad.0))
+      (λ e. bad, λ e. refl)
+      (λ e. absurd (cc), λ whole. absurd (bad.1 whole.1)))
 
--- where its body is read, or is that of no message
-pub tells_by_body : {M : Type 0} {kind : Kind} {form : CheckForm} {Is : M → Type 0} {body spelled : M → List Bool}
-    {of_body of_capsule : List Bool → Option M} (bits inside : List Bool) (read : Option M)
-    (result : Result M MessageFault) → AreRead kind form Is body spelled of_body of_capsule →
-    FillsCapsule kind inside × (bits ≡ capsule kind form inside) → read ≡ of_body inside →
-    result ≡ ok_or read BadBody → Tells Is spelled of_capsule bits result
-tells_by_body bits inside read result are found e is = rw is (told_of_body bits inside read are found e)
+  -- what the body of a message's capsule is read as
+  body_read : (inside : List Bool) (m : M) → bits ≡ capsule kind form inside → Is m →
+      bits ≡ spelled m → of_body inside ≡ Some m
+  body_read inside m found is same =
+      ap of_body (body_of_capsule kind form bits inside (body m) found (same ∙ are.spells m)) ∙ are.again m is
 
--- it was a capsule
-pub whole_checked : (kind : Kind) (form : CheckForm) (bits inside : List Bool) →
-    FillsCapsule kind inside × (bits ≡ capsule kind form inside) → IsWhole bits × IsChecked kind form bits
-whole_checked kind form bits inside found = (
-  subst IsWhole (sym found.1) (whole-capsule kind form inside found.0),
-  subst (IsChecked kind form) (sym found.1) (checked-capsule kind form inside),
-)
+  -- what is returned for a capsule with this body: the message that is read of it, or its fault
+  decodes_body : (inside : List Bool) (read : Option M) →
+      FillsCapsule kind inside × (bits ≡ capsule kind form inside) → read ≡ of_body inside →
+      IsWhole bits → IsChecked kind form bits →
+      Decodes kind form Is spelled of_capsule bits (ok_or read BadBody)
+  decodes_body inside None found e whole checked =
+      let never : (m : M) → Is m → ¬ (bits ≡ spelled m) = λ m is same.
+      let both : None ≡ Some m = e ∙ body_read inside m found.1 is same in
+      absurd (cc) in
+      decodes_fault BadBody never
+      (λ e. absurd (cc), λ none. absurd (none whole))
+      (λ e. absurd (cc), λ none. absurd (none.1 checked))
+      (λ e. (whole, checked, never), λ none. refl)
+  decodes_body inside (Some m) found e whole checked =
+      let is = are.there inside m found.0 (sym e) in
+      let same : bits ≡ spelled m = found.1 ∙ ap (capsule kind form) is.1 ∙ sym (are.spells m) in
+      record {
+        found = (is.0, same);
+        only = λ n other there.
+            let both : Some m ≡ Some n = e ∙ body_read inside n found.1 other there in
+            cc;
+        reading = sym (ap of_capsule same ∙ are.capsule_again m is.0);
+        bad_length = (λ e. absurd (cc), λ none. absurd (none whole));
+        bad_check = (λ e. absurd (cc), λ none. absurd (none.1 checked));
+        bad_body = (λ e. absurd (cc), λ none. absurd (none.2 m is.0 same));
+      }
 
--- its body is that of no message
-pub bad_body_told : {M : Type 0} {Is : M → Type 0} {spelled : M → List Bool} {of_capsule : List Bool → Option M}
-    (kind : Kind) (form : CheckForm) (bits inside : List Bool) (read : Option M) (result : Result M MessageFault) →
-    FillsCapsule kind inside × (bits ≡ capsule kind form inside) → result ≡ ok_or read BadBody →
-    Tells Is spelled of_capsule bits result → (result ≡ Err BadBody)
-    ↔ (IsWhole bits × IsChecked kind form bits × ((m : M) → Is m → ¬ (bits ≡ spelled m)))
-bad_body_told kind form bits inside None result found fault tells =
-    let whole = whole_checked kind form bits inside found in
-    (λ bad. (whole.0, whole.1, λ m is same. absurd (cc (tells.only m is same))), λ none. fault)
-bad_body_told {Is = Is} {spelled = spelled} kind form bits inside (Some m) result found message tells =
-    let is : Is m × (bits ≡ spelled m) = rw message at tells.found in
-    (λ bad. absurd (cc (bad, message)), λ none. absurd (none.2 m is.0 is.1))
+  pub decodes_capsule : (inside : List Bool) (read : Option M) (result : Result M MessageFault) →
+      FillsCapsule kind inside × (bits ≡ capsule kind form inside) → read ≡ of_body inside →
+      result ≡ ok_or read BadBody → Decodes kind form Is spelled of_capsule bits result
+  decodes_capsule inside read result found e is =
+      rw is (decodes_body inside read found e
+      (subst IsWhole (sym found.1) (whole-capsule kind form inside found.0))
+      (subst (IsChecked kind form) (sym found.1) (checked-capsule kind form inside)))

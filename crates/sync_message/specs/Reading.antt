@@ -4,7 +4,6 @@ use Rattle.sync_message.specs.Common.{if_spelled, SyncFields}
 use Rattle.std.specs.Prelude.{◌-◌, ◌%◌, ◌==◌, ◌&&◌, Bool, if◌then◌else◌, List, length, take, drop}
 use Rattle.std.specs.Prelude.{nat_le, Option, None}
 use Rattle.chip_core.specs.declared.check_form.CheckForm.{CheckForm}
-pub use Rattle.quality_bits.specs.Faults.{reading_of}
 use Rattle.sync_message.specs.Layouts.{sync_body_reading}
 use Rattle.sync_message.specs.SyncMessage.{sync_capsule}
 

@@ -1,9 +1,9 @@
 //! Converts the message to and from its capsule.
 
-ghost use Rattle.sync_message.specs.Common.{FillsCapsule, IsWhole, M30, SyncFields as TheFields};
-ghost use Rattle.std.specs.Prelude.{◌≡◌, ◌↔◌, IfOk, IsTrue, SomeIff};
-ghost use Rattle.quality_bits.specs.Kinds.{IsChecked};
-ghost use Rattle.sync_message.specs.Reading.{sync_reading, reading_of};
+ghost use Rattle.sync_message.specs.Common.{FillsCapsule, M30, SyncFields as TheFields};
+ghost use Rattle.std.specs.Prelude.{◌≡◌, ◌↔◌, IsTrue, SomeIff};
+ghost use Rattle.quality_bits.specs.Faults.{Decodes};
+ghost use Rattle.sync_message.specs.Reading.{sync_reading};
 ghost use Rattle.sync_message.specs.Rows.{sync_values};
 ghost use Rattle.sync_message.specs.SyncMessage.{IsSyncMessage, sync_body, sync_capsule};
 ghost use Rattle.sync_message.specs.Tails.{IsTail};
@@ -81,17 +81,8 @@ impl SyncMessage {
     /// outside 5 to 148 octets; otherwise `BadCheck` exactly if the check differs; otherwise
     /// `BadBody` exactly if the body is not that of a message.
     pub fn decode(capsule: &Bits, form: CheckForm) -> Result<SyncMessage, MessageFault>
-        ensures found { IfOk result (λ m. IsSyncMessage m × (capsule.now ≡ sync_capsule form m)) }
-        ensures only { (m : TheFields) → IsSyncMessage m → capsule.now ≡ sync_capsule form m →
-            result ≡ Ok m }
-        ensures reading { reading_of result ≡ sync_reading form capsule.now }
-
-        ensures bad_length { (result ≡ Err MessageFault.BadLength) ↔ ¬ (IsWhole capsule.now) }
-        ensures bad_check { (result ≡ Err MessageFault.BadCheck) ↔
-            (IsWhole capsule.now × ¬ (IsChecked M30 form capsule.now)) }
-        ensures bad_body { (result ≡ Err MessageFault.BadBody) ↔
-            (IsWhole capsule.now × IsChecked M30 form capsule.now
-            × ((m : TheFields) → IsSyncMessage m → ¬ (capsule.now ≡ sync_capsule form m))) }
+        ensures { Decodes M30 form IsSyncMessage (sync_capsule form) (sync_reading form)
+            capsule.now result }
     {
         let count = body_count(Kind::M30, form, capsule)?;
         let body = BitSlice::of(capsule, 8, count);

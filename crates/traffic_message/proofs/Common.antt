@@ -20,8 +20,7 @@ pub use Rattle.message_layout.proofs.Parts.{some_is}
 pub use Rattle.message_layout.proofs.Plain.{plain_back, plain_of, plain_spelled, rest_back}
 pub use Rattle.message_layout.proofs.Round.{reading_again, reading_there}
 pub use Rattle.message_layout.specs.declared.layout.Presence.TheVariants.{Flagged}
-pub use Rattle.quality_bits.proofs.Decoded.{AreRead, Tells, bad_body_told, one_message, read_by_spelling, tells_by_body, turned_back}
-pub use Rattle.quality_bits.proofs.Decoded.{uncapsuled}
+pub use Rattle.quality_bits.proofs.Decoded.{AreRead, decodes_capsule, decodes_no_capsule, one_message, read_by_spelling, turned_back}
 pub use Rattle.traffic_message.specs.Admitted.{HasTrafficMessage}
 unfoldable pub use Rattle.traffic_message.specs.Admitted.{traffic_admits}
 pub use Rattle.traffic_message.specs.Common.{CheckForm, Contents, FieldsFit, FillsCapsule, Head, IsOf, M16, MessageShape, capsule, spelled}

@@ -9,7 +9,7 @@ pub use Rattle.message_layout.specs.Shapes.{LineNames, MessageShape, line_names,
 pub use Rattle.message_layout.specs.Spelling.{IsOf}
 unfoldable pub use Rattle.message_layout.specs.Spelling.{spelling}
 pub use Rattle.message_layout.specs.declared.contents.Contents.{Contents}
-pub use Rattle.quality_bits.specs.Capsules.{FillsCapsule, IsWhole, if_spelled}
+pub use Rattle.quality_bits.specs.Capsules.{FillsCapsule, if_spelled}
 unfoldable pub use Rattle.quality_bits.specs.Capsules.{capsule, front_capsule, is_stated}
 pub use Rattle.quality_bits.specs.declared.kind.Kind.TheVariants.{M16}
 pub use Rattle.traffic_message.specs.declared.fields.Head.{Head}

@@ -4,7 +4,6 @@ use Rattle.traffic_message.specs.Common.{number_at, values_at, CheckForm, if_spe
 use Rattle.std.specs.Prelude.{ℕ, ◌-◌, ◌%◌, ◌==◌, ◌&&◌, if◌then◌else◌, Bool, List, length, take}
 use Rattle.std.specs.Prelude.{drop, get_or, nat_le, Option, None}
 use Rattle.message_layout.specs.Reading.{mapped, reading}
-pub use Rattle.quality_bits.specs.Faults.{reading_of}
 use Rattle.traffic_message.specs.Layouts.{body_from, form_at, traffic_shape_of}
 use Rattle.traffic_message.specs.Messages.{Message, traffic_capsule}
 use Rattle.traffic_message.specs.Widths.{head_widths}

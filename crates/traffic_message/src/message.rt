@@ -1,12 +1,12 @@
 //! The messages, to and from their bodies and capsules.
 
-ghost use Rattle.traffic_message.specs.Common.{FieldsFit, FillsCapsule, IsWhole, M16};
-ghost use Rattle.std.specs.Prelude.{◌≡◌, ◌↔◌, IfOk, IfSome, Some};
-ghost use Rattle.quality_bits.specs.Kinds.{IsChecked};
+ghost use Rattle.traffic_message.specs.Common.{FieldsFit, FillsCapsule, M16};
+ghost use Rattle.std.specs.Prelude.{◌≡◌, IfSome, Some};
+ghost use Rattle.quality_bits.specs.Faults.{Decodes};
 ghost use Rattle.traffic_message.specs.Layouts.{head_contents, head_in};
 ghost use Rattle.traffic_message.specs.Messages.{head_fields, head_values, traffic_message_body};
 ghost use Rattle.traffic_message.specs.Messages.{traffic_capsule, IsTrafficMessage, Message};
-ghost use Rattle.traffic_message.specs.Reading.{traffic_body_reading, is_traffic_body, reading_of};
+ghost use Rattle.traffic_message.specs.Reading.{traffic_body_reading, is_traffic_body};
 ghost use Rattle.traffic_message.specs.Reading.{traffic_reading};
 
 use crate::body::TrafficBody;
@@ -81,18 +81,8 @@ impl TrafficMessage {
     /// outside 5 to 148 octets; otherwise `BadCheck` exactly if the check of 16 bits differs;
     /// otherwise `BadBody` exactly if the body is not that of a message.
     pub fn decode(capsule: &Bits, form: CheckForm) -> Result<TrafficMessage, MessageFault>
-        ensures found { IfOk result
-            (λ m. IsTrafficMessage m × (capsule.now ≡ traffic_capsule form m)) }
-        ensures only { (m : Message) → IsTrafficMessage m → capsule.now ≡ traffic_capsule form m →
-            result ≡ Ok m }
-        ensures reading { reading_of result ≡ traffic_reading form capsule.now }
-
-        ensures bad_length { (result ≡ Err MessageFault.BadLength) ↔ ¬ (IsWhole capsule.now) }
-        ensures bad_check { (result ≡ Err MessageFault.BadCheck) ↔
-            (IsWhole capsule.now × ¬ (IsChecked M16 form capsule.now)) }
-        ensures bad_body { (result ≡ Err MessageFault.BadBody) ↔
-            (IsWhole capsule.now × IsChecked M16 form capsule.now
-            × ((m : Message) → IsTrafficMessage m → ¬ (capsule.now ≡ traffic_capsule form m))) }
+        ensures { Decodes M16 form IsTrafficMessage (traffic_capsule form) (traffic_reading form)
+            capsule.now result }
     {
         let count = body_count(Kind::M16, form, capsule)?;
         let body = BitSlice::of(capsule, 8, count);
