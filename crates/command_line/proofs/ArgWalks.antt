@@ -10,7 +10,8 @@ use Rattle.command_line.proofs.Common.{first_of, bundle_passes, settle_passes, t
 use Rattle.command_line.proofs.Common.{long_passes, use_passes, step_passes, default_passes, is_valid, is_given, level_passes, built_takes}
 use Rattle.command_line.proofs.Common.{entered_passes, Shape, new_rule, new_app, is_simple, built, matches_of, names_of, entered, Given}
 use Rattle.command_line.proofs.Common.{CommandLine, OptionEntry, Text, added, given_after, has_name, is_allowed, is_joined, option_joined}
-use Rattle.command_line.proofs.Common.{parted, option_text, value_in, row_of}
+use Rattle.command_line.proofs.Common.{append_assoc, parted, option_text, value_in, row_of}
+use Rattle.std.proofs.lemmas.List.Sums.{fold-append}
 use Rattle.command_line.proofs.ArgTests.{IsPlain, none_stays, value_plain}
 use Rattle.clap.specs.declared.builder.value_parser.ValueParser.TheVariants as vp
 use Rattle.clap.specs.declared.builder.value_parser.Reading.TheVariants as reading
@@ -366,34 +367,18 @@ lead_parted command rows h before onward arg name text long e held =
     )
 
 -- two walks, one after the other
-after_one : (command : Text) (rows : List OptionEntry) (h : Held) (arg : Text) (args : List Text)
-    (onward given : Given) → Leads command (names_in rows) h (arg ∷ []) onward →
-    ((mid : Held) → IsHeld (names_in rows) mid onward →
-    Leads command (names_in rows) mid args given) →
-    Leads command (names_in rows) h (arg ∷ args) given
-after_one command rows h arg args onward given first more =
+leads_on : (command : Text) (names : List Text) (h : Held) (front args : List Text)
+    (onward given : Given) → Leads command names h front onward →
+    ((mid : Held) → IsHeld names mid onward → Leads command names mid args given) →
+    Leads command names h (front ++ args) given
+leads_on command names h front args onward given first more =
     let last = more first.0 first.2 in (
       last.0,
       record {
-        passes = λ rest. first.1.passes (args ++ rest) ∙ last.1.passes rest;
-        walked = ap (λ (w : Walk). fold (walked (opts (names_in rows)) []) w args) first.1.walked
-            ∙ last.1.walked;
-      },
-      last.2,
-    )
-
-after_two : (command : Text) (rows : List OptionEntry) (h : Held) (arg text : Text)
-    (args : List Text) (onward given : Given) → Leads command (names_in rows) h (arg ∷ text ∷ []) onward →
-    ((mid : Held) → IsHeld (names_in rows) mid onward →
-    Leads command (names_in rows) mid args given) →
-    Leads command (names_in rows) h (arg ∷ text ∷ args) given
-after_two command rows h arg text args onward given first more =
-    let last = more first.0 first.2 in (
-      last.0,
-      record {
-        passes = λ rest. first.1.passes (args ++ rest) ∙ last.1.passes rest;
-        walked = ap (λ (w : Walk). fold (walked (opts (names_in rows)) []) w args) first.1.walked
-            ∙ last.1.walked;
+        passes = λ rest. ap (walk_passes (shape command names) [] (walk_from h)) (append_assoc front args rest)
+            ∙ first.1.passes (args ++ rest) ∙ last.1.passes rest;
+        walked = fold-append (walked (opts names) []) (walk_from h) front args
+            ∙ ap (λ (w : Walk). fold (walked (opts names) []) w args) first.1.walked ∙ last.1.walked;
       },
       last.2,
     )
@@ -427,7 +412,7 @@ args_lead command rows (arg ∷ text ∷ args) h before given held e =
     on_joined name value long None is rest more = let bad : None ≡ Some given =
         sym (none_stays rows (text ∷ args)) ∙ rest in search rules
     on_joined name value long (Some onward) is rest more =
-        after_one command rows h arg (text ∷ args) onward given
+        leads_on command (names_in rows) h (arg ∷ []) (text ∷ args) onward given
         (lead_joined command rows h before onward arg name value long is held) (λ mid held2. more onward mid held2 rest)
 
     on_parted : (name : Text) → long_of arg ≡ Some (name, None) → (onward : Option Given) →
@@ -439,7 +424,7 @@ args_lead command rows (arg ∷ text ∷ args) h before given held e =
     on_parted name long None is rest more = let bad : None ≡ Some given =
         sym (none_stays rows args) ∙ rest in search rules
     on_parted name long (Some onward) is rest more =
-        after_two command rows h arg text args onward given
+        leads_on command (names_in rows) h (arg ∷ text ∷ []) args onward given
         (lead_parted command rows h before onward arg name text long is held) (λ mid held2. more onward mid held2 rest)
 
     go : (p : Option (Text × Option Text)) → long_of arg ≡ p →
