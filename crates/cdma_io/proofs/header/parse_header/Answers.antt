@@ -1,6 +1,7 @@
 use Rattle.cdma_io.proofs.Common.{common_steps, ints, sym, ap, ◌∙◌, arith, rules, most_samples}
 use Rattle.cdma_io.proofs.ByteNumbers.{AreBytes}
-use Rattle.cdma_io.proofs.Opening.{parsed_count, parsed_flags, parsed_header, parsed_magic, parsed_spelling, parsed_version}
+use Rattle.cdma_io.proofs.Opening.{AreParsed, parsed_count, parsed_flags, parsed_header, parsed_magic, parsed_spelling, parsed_version}
+use Rattle.cdma_io.proofs.header.parse_header.Goals.{After-read_u64-count}
 use Rattle.cdma_io.proofs.header.parse_header.Goals as goal
 
 pub returns-then-not-starts_with-clause-value : goal.returns-then-not-starts_with-clause-value
@@ -21,34 +22,31 @@ returns-then-flags-ge4-clause-value c =
     c.read_u16-version.ensures (sym c.is_known.ensures ∙ c.if-not-is_known.false)
     c.read_u16-flags.ensures c.if-flags-ge4.true
 
+-- the fields that are read before the number of samples is judged
+are_parsed : (c : After-read_u64-count) →
+    AreParsed c.args.bytes.now c.read_u16-version.result c.read_u16-flags.result c.read_u64-count.result
+are_parsed c = record {
+  long = c.requires;
+  begins = sym c.starts_with.ensures.value ∙ c.if-not-starts_with.false;
+  version_is = c.read_u16-version.ensures;
+  known = sym c.is_known.ensures ∙ c.if-not-is_known.false;
+  flags_are = c.read_u16-flags.ensures;
+  few = c.if-flags-ge4.false;
+  count_is = c.read_u64-count.ensures;
+}
+
 pub returns-then-count-most_for-clause-value : goal.returns-then-count-most_for-clause-value
 returns-then-count-most_for-clause-value c =
     parsed_count c.args.bytes.now c.read_u16-version.result c.read_u16-flags.result
     c.read_u64-count.result
-    (record {
-      long = c.requires;
-      begins = sym c.starts_with.ensures.value ∙ c.if-not-starts_with.false;
-      version_is = c.read_u16-version.ensures;
-      known = sym c.is_known.ensures ∙ c.if-not-is_known.false;
-      flags_are = c.read_u16-flags.ensures;
-      few = c.if-flags-ge4.false;
-      count_is = c.read_u64-count.ensures;
-    })
+    (are_parsed (goal.at.returns-then-count-most_for-clause-value c).After-read_u64-count)
     _ (c.most_for.ensures.value ∙ ap most_samples c.width_for.ensures) c.if-count-most_for.true
 
 pub returns-clause-value : goal.returns-clause-value
 returns-clause-value c =
     parsed_header c.args.bytes.now c.read_u16-version.result c.read_u16-flags.result
     c.read_u64-count.result c.check_form.result c.check_form-2.result
-    (record {
-      long = c.requires;
-      begins = sym c.starts_with.ensures.value ∙ c.if-not-starts_with.false;
-      version_is = c.read_u16-version.ensures;
-      known = sym c.is_known.ensures ∙ c.if-not-is_known.false;
-      flags_are = c.read_u16-flags.ensures;
-      few = c.if-flags-ge4.false;
-      count_is = c.read_u64-count.ensures;
-    })
+    (are_parsed (goal.at.returns-clause-value c).After-read_u64-count)
     _ (c.most_for.ensures.value ∙ ap most_samples c.width_for.ensures) c.if-count-most_for.false
     (search rules) (search rules)
 
