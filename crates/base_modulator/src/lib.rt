@@ -9,6 +9,7 @@
 mod cell;
 pub mod laws;
 mod making;
+mod trial;
 
 pub use cell::Cell;
 pub use cell_plan::{
@@ -17,4 +18,5 @@ pub use cell_plan::{
 };
 pub use cell_script::{ScriptFault, script_text};
 pub use making::make;
+pub use trial::trial_cell;
 pub use trial_link::{trial_script, trial_serial_number};
