@@ -36,7 +36,6 @@ pub use Rattle.run_replies.proofs.Bounds.{none_most, opening_most, passed_most, 
 pub use Rattle.run_replies.proofs.Common.{All, Consumes, IsAtEnd, IsOfFiles, IsEndOf, Keeps, PassesSamples, Reading, ◌≢◌}
 pub use Rattle.run_replies.proofs.Common.{WritesNoMore, WritesText, best_phase, energy, flat_map, header_spelling, length-header_spelling}
 pub use Rattle.run_replies.proofs.Common.{length-made, length-samples, near_deltas, opening, sample_len-mono}
-unfoldable pub use Rattle.run_replies.proofs.Common.{plan_named}
 pub use Rattle.run_replies.proofs.CutFiles.{has_bytes, lost, no_fewer, no_long_cut, opening_few, same_header, span_few, unopened}
 pub use Rattle.run_replies.proofs.Ends.{told_alike}
 pub use Rattle.run_replies.proofs.Faults.{fault_of_count, fault_of_opening, fault_of_rest, fault_of_span, rest_cut_fault, rest_extra_fault}
@@ -64,7 +63,6 @@ pub use Rattle.pilot_search.specs.declared.paths.Near.{Near}
 pub use Rattle.pilot_search.specs.declared.sweeping.Best.{Best}
 pub use Rattle.pilot_survey.proofs.Common.{ranking}
 pub use Rattle.pilot_survey.specs.declared.rank.Rank.{Rank}
-pub use Rattle.trial_link.proofs.TrialPlans.{trial_named}
 unfoldable pub use Rattle.trial_link.specs.Trial.{trial_plan}
 pub use Rattle.tuned_listener.proofs.Common.{Appends, StartsWith, err_from_is_err_and, filter, flat_map-append, flat_map_ext_places, low_of}
 pub use Rattle.tuned_listener.proofs.Common.{length-take-le, range_with_len, take-append-drop, timed_of, zero}

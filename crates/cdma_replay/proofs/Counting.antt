@@ -1,7 +1,7 @@
 -- Lemmas on the events of a trial, counted one by one.
 use Rattle.cdma_replay.proofs.Common.{◌≡◌, ℕ, ◌+◌, ◌≤◌, Bool, true, false, List, [], ◌∷◌, ◌++◌, length, take, drop, refl, sym, ap, ◌∙◌, map}
 use Rattle.cdma_replay.proofs.Common.{subst, arith, length-append, filter, take_all, filter-append, take-add, of_sample}
-use Rattle.cdma_replay.proofs.Common.{Sample, made_samples, samples_of, CellPlan, CellState, trial_plan, Width, Sixteen, Event}
+use Rattle.cdma_replay.proofs.Common.{Sample, made_samples, samples_of, CellPlan, CellState, trial_plan, Sixteen, Event}
 use Rattle.cdma_replay.proofs.Common.{best_phase, length-made, events, StandsFor, Tuning, Mobile, LeavesRoom, count_of, counts_of, is_frame}
 use Rattle.cdma_replay.proofs.Common.{counts_with, is_good, is_page, is_sync, one_if, summary, trial_line, trial_samples, trial_span}
 use Rattle.cdma_replay.proofs.Common.{trial_tuning, Counts}
@@ -130,10 +130,6 @@ pub made_all : (plan : CellPlan) (given : ℕ) → plan.link.samples ≤ given �
 made_all plan given all = take_all given (made_samples plan) (omega (arith, length-made plan, all))
 
 -- ---- the line
-
-pub state_is : (c : CellState) (w : Width) (p : CellPlan) (n : ℕ) → c.width ≡ w → c.plan ≡ p →
-    c.given ≡ n → c ≡ record { width = w; plan = p; given = n }
-state_is c w p n e f g = rw (← e, ← f, ← g) refl
 
 -- a trial's cell before its first sample
 abbrev pub fresh_cell : ℕ → CellState

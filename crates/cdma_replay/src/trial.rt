@@ -16,8 +16,8 @@ ghost use Rattle.run_replies.specs.Trials.{trial_settings};
 
 use crate::handset::{boxed_handset, settings_for};
 use crate::workspace::Workspace;
-use base_modulator::{Cell, trial_script, trial_serial_number};
-use cdma_io::{Failed, Header, Sink, Width, write_all};
+use base_modulator::{Cell, trial_cell, trial_serial_number};
+use cdma_io::{Failed, Header, Sink, write_all};
 use chip_core::{OutOfMemory, Sample};
 use event_tap::Text;
 use mobile_core::{Mobile, Settings, Traffic};
@@ -43,19 +43,6 @@ fn settings_by(number: u64, header: &Header) -> Settings
         offset: 0,
     };
     settings_for(header, 1, 1, Some(traffic))
-}
-
-/// The cell of a number, before its first sample. Its script is lawful, so only memory can be
-/// wanting.
-fn cell_for(alloc: Global, number: u64) -> Result<Cell, OutOfMemory>
-    ensures { IfOk result (λ cell. cell ≡
-        record { width = Sixteen; plan = trial_plan number; given = 0 }) }
-{
-    let script = trial_script(alloc, number)?;
-    match Cell::new(alloc, &script, Width::Sixteen) {
-        Ok(cell) => Ok(cell),
-        Err(_wanting) => Err(OutOfMemory),
-    }
 }
 
 /// Gives samples to a handset and counts its events.
@@ -160,7 +147,7 @@ fn followed<R: Threads + Sync, G: Gate + Sync>(
     requires { IsWorkers workers }
     ensures { IfOk result (λ line. line ≡ trial_line number) }
 {
-    let mut cell = cell_for(alloc, number)?;
+    let mut cell = trial_cell(alloc, number)?;
     let Workspace {
         codes,
         mut span,
