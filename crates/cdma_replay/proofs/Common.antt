@@ -23,7 +23,7 @@ pub use Rattle.event_tap.specs.Taps.{IsKept, KeptTap, heard_text, taps_after}
 unfoldable pub use Rattle.event_tap.specs.Taps.{run_taps, run_text}
 pub use Rattle.event_tap.specs.declared.tuned_text.TunedText.{TunedText}
 pub use Rattle.heard_events.proofs.EventsGrown.{events_sooner, heard_none}
-pub use Rattle.heard_events.specs.declared.channel.Channel.{Channel}
+pub use Rattle.heard_events.specs.declared.channel.CodeChannel.{CodeChannel}
 pub use Rattle.heard_events.specs.declared.event.Event.TheVariants.{Pilot}
 pub use Rattle.heard_events.specs.declared.settings.Settings.{Settings}
 pub use Rattle.mobile_core.proofs.Common.{AreNear, ForSome, IsTimed, Tuning, append-nil, append_assoc, event_list, events_at}

@@ -4,7 +4,8 @@ use Rattle.cdma_replay.proofs.Common.{arith, append_assoc, append-nil, length-ap
 use Rattle.cdma_replay.proofs.Common.{Err, OnOk, length-replicate, take_all, take_at, take_rest, flat_map-append, flat_map, range_with_len}
 use Rattle.cdma_replay.proofs.Common.{StartsWith, Appends, Appends-nil, Appends-trans, places, places-more, flat_map_ext_places, Sample}
 use Rattle.cdma_replay.proofs.Common.{AppendsPrefix, events, events_at, heard_within, event_list, ForSome, Traffic, IsLawfulTraffic, low_of}
-use Rattle.cdma_replay.proofs.Common.{IsSoundAssignment, AreNear, IsStep, StandsFor, Steps, events_left, has_room, IsTimed, Tuning, Channel}
+use Rattle.cdma_replay.proofs.Common.{IsSoundAssignment, AreNear, IsStep, StandsFor, Steps, events_left, has_room, IsTimed, Tuning}
+use Rattle.cdma_replay.proofs.Common.{CodeChannel}
 use Rattle.cdma_replay.proofs.Common.{sync_stream, tuning_by, Event, Pilot, Mobile, Step, KeptTap, heard_text, run_taps, run_text, timed_of}
 use Rattle.cdma_replay.proofs.Common.{taps_after, run_taps-append, run_taps-more, run_text-append, run_text-more, run_text-none, TellsTuned}
 use Rattle.cdma_replay.proofs.Common.{begins_more, front_begins, prefix_before, prefix_after, taken_begins, ListensTuned, TellsTunedPart}
@@ -356,12 +357,12 @@ on_handset P l mobile kept heard listens holds = absurd listens
 -- and where the frames of one channel are heard
 pub on_tuned : (P : Listening → Type 0) (l : Listening) (tuned : Box TunedListener Global)
     (kept : List KeptTap) (heard : List Sample) → Listens l (by.Tuned tuned) kept heard →
-    ((t : Tuning) (channel : Channel) (text : TunedText) →
+    ((t : Tuning) (channel : CodeChannel) (text : TunedText) →
     ListensTuned t channel text tuned.value heard → P (ByFrames t channel text)) → P l
 on_tuned P (ByFrames t channel text) tuned kept heard listens holds = holds t channel text listens
 on_tuned P l tuned kept heard listens holds = absurd listens
 
-pub tuned_tells : {t : Tuning} {channel : Channel} {text : TunedText}
+pub tuned_tells : {t : Tuning} {channel : CodeChannel} {text : TunedText}
     {tuned : Box TunedListener Global} {kept : List KeptTap} {before heard : List Sample}
     {old new : Option (List ℕ)} → TellsTuned t channel text tuned.value before heard old new →
     ListenerTells (ByFrames t channel text) (by.Tuned tuned) kept before heard old new
@@ -371,7 +372,7 @@ tuned_tells tells = record {
   listens = tells.listens;
 }
 
-pub tuned_part : {t : Tuning} {channel : Channel} {text : TunedText} {before heard : List Sample}
+pub tuned_part : {t : Tuning} {channel : CodeChannel} {text : TunedText} {before heard : List Sample}
     {old new : Option (List ℕ)} → TellsTunedPart t channel text before heard old new →
     GainsPrefix (ByFrames t channel text) before heard old new
 unfolding told

@@ -19,7 +19,7 @@ use cdma_io::Header;
 use chip_core::{OutOfMemory, Phase, Sample, Traffic};
 use command_line::Job;
 use event_tap::TunedText;
-use mobile_core::{Channel, Settings};
+use mobile_core::{CodeChannel, Settings};
 use pilot_search::{Best, Gate, Near, near, search};
 use pilot_survey::survey;
 use run_replies::Findings;
@@ -37,7 +37,7 @@ fn tuned_listener(
     settings: Settings,
     best: Best,
     near: Near,
-    channel: Channel,
+    channel: CodeChannel,
     text: TunedText,
     codes: Codes,
 ) -> Result<Box<TunedListener>, OutOfMemory>
@@ -105,7 +105,7 @@ fn handset_near(
 fn tuned_near(
     alloc: Global,
     fingers: u8,
-    channel: Channel,
+    channel: CodeChannel,
     text: TunedText,
     header: Header,
     codes: Codes,
@@ -188,7 +188,7 @@ pub fn listener_for<R: Threads + Sync, G: Gate + Sync>(
             ..
         } => {
             let best = search(rt, alloc, first, &codes, workers, gate)?;
-            let channel = Channel::Traffic(Traffic { esn, row, offset });
+            let channel = CodeChannel::Traffic(Traffic { esn, row, offset });
             let text = TunedText::RateSetTwo;
             tuned_near(alloc, fingers, channel, text, header, codes, first, &best)
         }
@@ -201,7 +201,7 @@ pub fn listener_for<R: Threads + Sync, G: Gate + Sync>(
             ..
         } => {
             let best = search(rt, alloc, first, &codes, workers, gate)?;
-            let channel = Channel::Traffic(Traffic { esn, row, offset });
+            let channel = CodeChannel::Traffic(Traffic { esn, row, offset });
             let text = TunedText::Listed { k };
             tuned_near(alloc, fingers, channel, text, header, codes, first, &best)
         }
@@ -213,7 +213,7 @@ pub fn listener_for<R: Threads + Sync, G: Gate + Sync>(
             ..
         } => {
             let best = search(rt, alloc, first, &codes, workers, gate)?;
-            let channel = Channel::Paging(paging);
+            let channel = CodeChannel::Paging(paging);
             let text = TunedText::Slots { key, cycle };
             tuned_near(alloc, fingers, channel, text, header, codes, first, &best)
         }

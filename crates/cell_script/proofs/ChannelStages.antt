@@ -52,7 +52,7 @@ heard-append size count (p ∷ pages) page are is room = (
 -- ---- the channels at a stage
 
 -- the last channel is under way: its pages have `count` body bits
-pub record IsOpen (rate : Rate) (count : ℕ) (plan : CellPlan) : Type 0 where
+pub record IsChannelOpen (rate : Rate) (count : ℕ) (plan : CellPlan) : Type 0 where
   pub rate_is : sent_paging_rate plan.sync ≡ rate
   pub before : List PagingPlan
   pub last : PagingPlan
@@ -65,7 +65,7 @@ pub record IsOpen (rate : Rate) (count : ℕ) (plan : CellPlan) : Type 0 where
   pub laid : count ≡ count_of (half_frame_body rate) 0 last.pages
 
 abbrev pub HasPages : Rate → ℕ → CellPlan → Type 0
-HasPages rate count plan = (o : IsOpen rate count plan) × (1 ≤ length o.last.pages)
+HasPages rate count plan = (o : IsChannelOpen rate count plan) × (1 ≤ length o.last.pages)
 
 -- the last traffic channel is under way
 pub record IsOpenTraffic (plan : CellPlan) : Type 0 where
@@ -86,7 +86,7 @@ IsBare plan = (plan.paging ≡ []) × (plan.traffic ≡ [])
 
 abbrev pub HasChannels : Stage → CellPlan → Type 0
 HasChannels (Paging rate) plan = IsBare plan × (sent_paging_rate plan.sync ≡ rate)
-HasChannels (FirstPage rate) plan = IsOpen rate 0 plan
+HasChannels (FirstPage rate) plan = IsChannelOpen rate 0 plan
 HasChannels (Pages rate count) plan = HasPages rate count plan
 HasChannels Traffic plan = IsBare plan
 HasChannels FirstFrame plan = IsOpenTraffic plan
@@ -163,7 +163,7 @@ paging_next stage next plan has e = absurd (cc e)
 
 -- a page stands in a channel under way
 pub page_next : (stage next : Stage) (plan : CellPlan) (page : Page) → HasChannels stage plan →
-    after_page stage page ≡ Some next → (rate : Rate) × (count : ℕ) × IsOpen rate count plan
+    after_page stage page ≡ Some next → (rate : Rate) × (count : ℕ) × IsChannelOpen rate count plan
     × (page_stage rate count page ≡ Some next) × (said_at stage plan ≡ statements_of plan)
 page_next (FirstPage rate) next plan page has e = (rate, 0, has, e, refl)
 page_next (Pages rate count) next plan page has e = (rate, count, has.0, e, refl)
@@ -211,7 +211,7 @@ with_channel plan line = record plan { paging = plan.paging ++ opened_paging lin
 -- a channel is opened after others
 opened_after : (plan : CellPlan) (line : PagingLine) → (1 ≤ line.number) × (line.number ≤ 7) →
     plan.traffic ≡ [] → All (IsStatedPaging (sent_paging_rate plan.sync)) plan.paging →
-    IsOpen (sent_paging_rate plan.sync) 0 (with_channel plan line)
+    IsChannelOpen (sent_paging_rate plan.sync) 0 (with_channel plan line)
 opened_after plan line number bare are = record {
   rate_is = refl;
   before = plan.paging;
@@ -231,7 +231,7 @@ with_more plan page = record plan { paging = with_page plan.paging page }
 -- With one page more the channel under way is open with pages: the count before is that of its
 -- pages' bits, so the page can be sent and heard after them, and the new count is that of all.
 page_laid : (rate : Rate) (count : ℕ) (plan : CellPlan) (page : Page) →
-    FillsCapsule M30 page.body × HasMessage page.body → IsOpen rate count plan →
+    FillsCapsule M30 page.body × HasMessage page.body → IsChannelOpen rate count plan →
     (page.follows ≡ true → 8 ≤ bits_left (half_frame_body rate) count) →
     half_frame_bits (half_frame_body rate) (count_after rate count page) ≤ 8192 →
     HasPages rate (count_after rate count page) (with_more plan page)
@@ -245,7 +245,7 @@ page_laid rate count plan page is o room few =
     let all : with_page plan.paging page ≡ o.before ++ last ∷ [] =
     ap (λ (ps : List PagingPlan). with_page ps page) o.channels
     ∙ on_last-last (one_page_more page) o.before o.last in
-    let open_now : IsOpen rate (count_after rate count page) (with_more plan page) = record {
+    let open_now : IsChannelOpen rate (count_after rate count page) (with_more plan page) = record {
       rate_is = o.rate_is;
       before = o.before;
       last = last;
@@ -270,7 +270,7 @@ follow_room rate count false test same = absurd (cc same)
 -- after it exists only where a page that follows has the eight bits it needs in its half-frame and
 -- where the cycle is of at most 8,192 bits.
 page_taken : (rate : Rate) (count : ℕ) (next : Stage) (plan : CellPlan) (page : Page) →
-    FillsCapsule M30 page.body × HasMessage page.body → IsOpen rate count plan →
+    FillsCapsule M30 page.body × HasMessage page.body → IsChannelOpen rate count plan →
     page_stage rate count page ≡ Some next → HasChannels next (with_more plan page)
 unfolding page_stage
 page_taken rate count next plan page is o e =
@@ -354,7 +354,7 @@ pub record HasParts (plan : CellPlan) : Type 0 where
   pub sync : IsStatedSync plan.sync
   pub linked : 0 < norm plan.link.factor
 
-pub record IsAt (stage : Stage) (plan : CellPlan) : Type 0 where
+pub record IsAtStage (stage : Stage) (plan : CellPlan) : Type 0 where
   pub parts : HasParts plan
   pub channels : HasChannels stage plan
 
@@ -371,19 +371,19 @@ parts_with plan statement is parts =
 
 -- a statement adds what is within its bounds to a plan that is
 pub added : (stage next : Stage) (plan : CellPlan) (statement : Statement) → IsLawfulStatement statement →
-    IsAt stage plan → next_stage stage statement ≡ Some next → IsAt next (with_statement plan statement)
+    IsAtStage stage plan → next_stage stage statement ≡ Some next → IsAtStage next (with_statement plan statement)
 added stage next plan statement is before e = record {
   parts = parts_with plan statement is before.parts;
   channels = channels_with statement stage next plan is before.channels e;
 }
 
 -- a statement that may stand next stands after those whose channels come first
-pub in_order : (stage next : Stage) (plan : CellPlan) (statement : Statement) → IsAt stage plan →
+pub in_order : (stage next : Stage) (plan : CellPlan) (statement : Statement) → IsAtStage stage plan →
     next_stage stage statement ≡ Some next → IsInOrder plan statement
 in_order stage next plan (statements.Paging line) before e = (paging_next stage next plan before.channels e).0
 in_order stage next plan statement before e = tt
 
-pub empty_said : IsAt Cell empty_plan
+pub empty_said : IsAtStage Cell empty_plan
 empty_said = record {
   parts = record {
     cell = record { pn = omega arith; time = omega arith; lc = (omega arith, omega arith) };
@@ -395,7 +395,7 @@ empty_said = record {
 }
 
 -- what was said where a script may end is within its bounds
-pub all_said : (stage : Stage) (plan : CellPlan) → IsAt stage plan → is_complete stage ≡ true → HasSaid plan
+pub all_said : (stage : Stage) (plan : CellPlan) → IsAtStage stage plan → is_complete stage ≡ true → HasSaid plan
 all_said stage plan is complete =
     let whole = whole_at stage plan is.channels complete in
     record {

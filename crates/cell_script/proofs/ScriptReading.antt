@@ -5,7 +5,7 @@ use Rattle.cell_script.proofs.Common.{option_map, option_and_then, cond-false, l
 use Rattle.cell_script.proofs.Common.{Statement, lines, stated, stated_plan, draft_at, empty_plan, plan_at, with_line, with_next, HasJudged}
 use Rattle.cell_script.proofs.Common.{with_statement, IsInOrder, IsJudged, statement_in, first_stated, is_complete, next_stage, before_most}
 use Rattle.cell_script.proofs.Common.{length_before}
-use Rattle.cell_script.proofs.ChannelStages.{added, empty_said, in_order, IsAt}
+use Rattle.cell_script.proofs.ChannelStages.{added, empty_said, in_order, IsAtStage}
 use Rattle.cell_script.proofs.ScriptRanges.{line_bounds}
 use Rattle.cell_script.proofs.ScriptSplits.{line_counted, line_read, line_refused, line_unended, lines_read, stated_plan-lines}
 
@@ -98,7 +98,7 @@ pub record HasRead (script : List ℕ) (stage : Stage) (judge : Judge) (n : ℕ)
     (rest : List ℕ) : Type 0 where
   pub plan : CellPlan
   pub left : stated_plan script ≡ stated (draft_at plan stage) n (lines rest)
-  pub said : IsAt stage plan
+  pub said : IsAtStage stage plan
   pub judged : HasJudged judge plan
   pub few : n + length rest ≤ 1 + length script
   pub gains : judge.channels.gains ≤ 65535 * n

@@ -9,7 +9,8 @@ use Rattle.cell_script.proofs.Common.{stated_plan, statement_in, stage_after_syn
 use Rattle.cell_script.proofs.Common.{page_stage, line_of_paging, line_of_traffic, lines_of, paging_statements, statement_line, script_of}
 use Rattle.cell_script.proofs.Common.{statement_text, statements_of, sync_statements, traffic_statements, one_frame_more, one_page_more}
 use Rattle.cell_script.proofs.Common.{with_frame, sent_paging_rate, HasSaid, IsLawfulStatement, cond_both}
-use Rattle.cell_script.proofs.ChannelStages.{HasChannels, IsAt, IsBare, IsOpen, IsOpenTraffic, added, all_said, empty_said, frame_next}
+use Rattle.cell_script.proofs.ChannelStages.{HasChannels, IsAtStage, IsBare, IsChannelOpen, IsOpenTraffic, added, all_said, empty_said}
+use Rattle.cell_script.proofs.ChannelStages.{frame_next}
 use Rattle.cell_script.proofs.ChannelStages.{page_next, paging_next, said_at, said_whole, traffic_next, with_channel, with_more, with_sent}
 use Rattle.cell_script.proofs.ChannelStages.{with_traffic}
 use Rattle.cell_script.proofs.LastChanged.{on_last-last}
@@ -145,7 +146,7 @@ paging_told plan line bare =
 
 -- A page is added to the last paging channel: that channel's statements end with its pages and no
 -- traffic channel comes after it, so the new one comes at the end.
-page_told : (plan : CellPlan) (page : Page) (rate : Rate) (count : ℕ) → IsOpen rate count plan →
+page_told : (plan : CellPlan) (page : Page) (rate : Rate) (count : ℕ) → IsChannelOpen rate count plan →
     statements_of plan ++ statements.Page page ∷ [] ≡ statements_of (with_more plan page)
 page_told plan page rate count o =
     let more = statements.Page page ∷ [] in
@@ -222,7 +223,7 @@ said_more statement stage next plan has e = absurd (cc e)
 
 -- a draft that the lines of these statements lead to, which are those of its plan
 record IsMade (draft : Draft) (said : List Statement) : Type 0 where
-  reached : IsAt draft.stage draft.plan
+  reached : IsAtStage draft.stage draft.plan
   told : said ≡ said_at draft.stage draft.plan
   leads : Leads empty_draft (lines_of said) draft
 

@@ -40,12 +40,12 @@ job_read entry args lawful =
 pub job_none : (entry : CommandEntry) (args : List Text) →
     is_some (given_after entry.options (Some []) args) ≡ false → job_by entry args ≡ None
 unfolding job_by
-job_none entry args e = go (given_after entry.options (Some []) args) e
+job_none entry args e = by_cases (given_after entry.options (Some []) args) e
   where
-    go : (g : Option Given) → is_some g ≡ false →
+    by_cases : (g : Option Given) → is_some g ≡ false →
         option_and_then (λ given. job_with entry (λ name. option_text name given)) g ≡ None
-    go None none = refl
-    go (Some given) none = search rules
+    by_cases None none = refl
+    by_cases (Some given) none = search rules
 
 -- ---- the arguments of a command line
 

@@ -64,16 +64,16 @@ first_digit : (digit : ℕ) (text : Text) (number : ℕ) →
     argument_number_in (digit ∷ text) ≡ Some number → is_ascii_digit digit ≡ true
 unfolding digits_from
 first_digit digit text number e =
-    go (nat_le 1 (length (digit ∷ text))) (nat_le (length (digit ∷ text)) 20) (is_ascii_digit digit) refl e
+    by_cases (nat_le 1 (length (digit ∷ text))) (nat_le (length (digit ∷ text)) 20) (is_ascii_digit digit) refl e
   where
-    go : (a b is : Bool) → is_ascii_digit digit ≡ is →
+    by_cases : (a b is : Bool) → is_ascii_digit digit ≡ is →
         (if a then (if b then (if is then digits_from (10 * 0 + (digit - 48)) text else None)
         else None)
         else None) ≡ Some number → is_ascii_digit digit ≡ true
-    go true true true is found = is
-    go true true false is found = search rules
-    go true false c is found = search rules
-    go false b c is found = search rules
+    by_cases true true true is found = is
+    by_cases true true false is found = search rules
+    by_cases true false c is found = search rules
+    by_cases false b c is found = search rules
 
 number_plain : (text : Text) (number : ℕ) → argument_number_in text ≡ Some number → IsPlain text
 number_plain [] number e = search rules
@@ -81,29 +81,29 @@ number_plain (digit ∷ text) number e = plain_from digit text (no_dash digit (f
 
 -- no hex digit is a hyphen
 no_dash-hex : (digit : ℕ) → is_hex_digit digit ≡ true → nat_eq digit 45 ≡ false
-no_dash-hex digit e = go (nat_eq digit 45) refl
+no_dash-hex digit e = by_cases (nat_eq digit 45) refl
   where
-    go : (b : Bool) → nat_eq digit 45 ≡ b → nat_eq digit 45 ≡ false
-    go false is = is
-    go true is =
+    by_cases : (b : Bool) → nat_eq digit 45 ≡ b → nat_eq digit 45 ≡ false
+    by_cases false is = is
+    by_cases true is =
         let same : digit ≡ 45 = eqb-true digit 45 is in
         let bad : false ≡ true = subst (λ (d : ℕ). is_hex_digit d ≡ true) same e in
         search rules
 
 eight_plain : (text : Text) (number : ℕ) → eight_digits_in text ≡ Some number → IsPlain text
 unfolding eight_digits_in
-eight_plain text number e = go (decode_sized text 4) refl e
+eight_plain text number e = by_cases (decode_sized text 4) refl e
   where
     digits : (text : Text) → length text ≡ 8 → AllPass is_hex_digit text → IsPlain text
     digits [] eight all = absurd (omega (arith, eight))
     digits (digit ∷ text) eight all = plain_from digit text (no_dash-hex digit (all 0 digit (omega (arith, eight))))
 
-    go : (r : Result (List ℕ) FromHexError) → decode_sized text 4 ≡ r →
+    by_cases : (r : Result (List ℕ) FromHexError) → decode_sized text 4 ≡ r →
         option_map (λ octets. from_be_bytes w32 octets) (result_ok r) ≡ Some number → IsPlain text
-    go (Ok octets) is found =
+    by_cases (Ok octets) is found =
         let both = (IsOk-decode_sized text 4).0 (rw is refl) in
         digits text both.0 both.1
-    go (Err fault) is found = search rules
+    by_cases (Err fault) is found = search rules
 
 spelled_plain : (form : ValueForm) (text : Text) (number : ℕ) → value_spelled_in form text ≡ Some number → IsPlain text
 spelled_plain EightDigits text number e = eight_plain text number e
@@ -112,21 +112,21 @@ spelled_plain form text number e = number_plain text number e
 -- a value of an option is no flag
 value_plain-form : (form : ValueForm) (text : Text) → is_some (value_in form text) ≡ true → IsPlain text
 unfolding value_in
-value_plain-form form text e = go (value_spelled_in form text) refl e
+value_plain-form form text e = by_cases (value_spelled_in form text) refl e
   where
-    go : (o : Option ℕ) → value_spelled_in form text ≡ o →
+    by_cases : (o : Option ℕ) → value_spelled_in form text ≡ o →
         is_some (option_and_then (λ n. if form_admits form n then Some n else None) o) ≡ true → IsPlain text
-    go None is test = search rules
-    go (Some number) is test = spelled_plain form text number is
+    by_cases None is test = search rules
+    by_cases (Some number) is test = spelled_plain form text number is
 
 pub value_plain : (entries : List OptionEntry) (name value : Text) →
     is_allowed entries name value ≡ true → IsPlain value
-value_plain entries name value e = go (find (λ r. bytes_eq r.name name) entries) e
+value_plain entries name value e = by_cases (find (λ r. bytes_eq r.name name) entries) e
   where
-    go : (found : Option OptionEntry) →
+    by_cases : (found : Option OptionEntry) →
         option_map_or (λ r. is_some (value_in r.form value)) found false ≡ true → IsPlain value
-    go None test = search rules
-    go (Some entry) test = value_plain-form entry.form value test
+    by_cases None test = search rules
+    by_cases (Some entry) test = value_plain-form entry.form value test
 
 -- ---- the argument that names an option
 
@@ -159,12 +159,12 @@ text_there name args place arg inside is unnamed =
 pub none_stays : (entries : List OptionEntry) (args : List Text) → given_after entries None args ≡ None
 unfolding given_after
 none_stays entries (arg ∷ text ∷ args) =
-    go (is_joined (long_of arg)) (none_stays entries (text ∷ args)) (none_stays entries args)
+    by_cases (is_joined (long_of arg)) (none_stays entries (text ∷ args)) (none_stays entries args)
   where
-    go : (b : Bool) → given_after entries None (text ∷ args) ≡ None → given_after entries None args ≡ None →
+    by_cases : (b : Bool) → given_after entries None (text ∷ args) ≡ None → given_after entries None args ≡ None →
         (if b then given_after entries None (text ∷ args) else given_after entries None args) ≡ None
-    go true first second = first
-    go false first second = second
+    by_cases true first second = first
+    by_cases false first second = second
 none_stays entries args = refl
 
 abbrev pub Part : Type 0
@@ -201,16 +201,16 @@ Steps entries given args part =
 pub part_step : (entries : List OptionEntry) (given : Given) (args : List Text) (part : Part) →
     part_of args ≡ Some part → Steps entries given args part
 part_step entries given [] part e = search rules
-part_step entries given (arg ∷ args) part e = go (long_of arg) args refl e
+part_step entries given (arg ∷ args) part e = by_cases (long_of arg) args refl e
   where
-    go : (p : Option (Text × Option Text)) (args : List Text) → long_of arg ≡ p →
+    by_cases : (p : Option (Text × Option Text)) (args : List Text) → long_of arg ≡ p →
         part_by p args ≡ Some part → Steps entries given (arg ∷ args) part
-    go None ws is found = search rules
-    go (Some (name, Some text)) ws is found =
+    by_cases None ws is found = search rules
+    by_cases (Some (name, Some text)) ws is found =
         subst (Steps entries given (arg ∷ ws)) (same_part (name, text, 1) part found)
         (past_one entries given arg name text ws is)
-    go (Some (name, None)) [] is found = search rules
-    go (Some (name, None)) (text ∷ ws) is found =
+    by_cases (Some (name, None)) [] is found = search rules
+    by_cases (Some (name, None)) (text ∷ ws) is found =
         subst (Steps entries given (arg ∷ text ∷ ws)) (same_part (name, text, 2) part found)
         (past_two entries given arg name text ws is)
 
@@ -218,29 +218,29 @@ pub part_missing : (entries : List OptionEntry) (given : Given) (args : List Tex
     0 < length args → part_of args ≡ None → given_after entries (Some given) args ≡ None
 unfolding given_after
 part_missing entries given [] inside e = absurd (omega (arith, inside))
-part_missing entries given (arg ∷ args) inside e = go (long_of arg) args refl e
+part_missing entries given (arg ∷ args) inside e = by_cases (long_of arg) args refl e
   where
-    go : (p : Option (Text × Option Text)) (args : List Text) → long_of arg ≡ p →
+    by_cases : (p : Option (Text × Option Text)) (args : List Text) → long_of arg ≡ p →
         part_by p args ≡ None → given_after entries (Some given) (arg ∷ args) ≡ None
-    go None [] is none = ap (λ (p : Option (Text × Option Text)). option_joined entries p given) is
-    go None (text ∷ ws) is none =
+    by_cases None [] is none = ap (λ (p : Option (Text × Option Text)). option_joined entries p given) is
+    by_cases None (text ∷ ws) is none =
         ap (λ (p : Option (Text × Option Text)). if is_joined p
         then given_after entries (option_joined entries p given) (text ∷ ws)
         else given_after entries (parted entries p text given) ws) is ∙ none_stays entries ws
-    go (Some (name, Some text)) ws is none = search rules
-    go (Some (name, None)) [] is none = ap (λ (p : Option (Text × Option Text)). option_joined entries p given) is
-    go (Some (name, None)) (text ∷ ws) is none = search rules
+    by_cases (Some (name, Some text)) ws is none = search rules
+    by_cases (Some (name, None)) [] is none = ap (λ (p : Option (Text × Option Text)). option_joined entries p given) is
+    by_cases (Some (name, None)) (text ∷ ws) is none = search rules
 
 -- ---- names before a place
 
 any-append : {X : Type 0} (p : X → Bool) (xs ys : List X) → list_any p (xs ++ ys) ≡ list_any p xs || list_any p ys
 any-append p [] ys = refl
-any-append p (x ∷ xs) ys = go (p x) (any-append p xs ys)
+any-append p (x ∷ xs) ys = by_cases (p x) (any-append p xs ys)
   where
-    go : (b : Bool) → list_any p (xs ++ ys) ≡ list_any p xs || list_any p ys →
+    by_cases : (b : Bool) → list_any p (xs ++ ys) ≡ list_any p xs || list_any p ys →
         b || list_any p (xs ++ ys) ≡ (b || list_any p xs) || list_any p ys
-    go true more = refl
-    go false more = more
+    by_cases true more = refl
+    by_cases false more = more
 
 names_of_long : (other arg name : Text) (text : Option Text) → long_of arg ≡ Some (name, text) →
     names other arg ≡ bytes_eq name other
@@ -254,18 +254,18 @@ Named other args part = is_named_in other (take part.2 args) ≡ bytes_eq part.0
 pub part_named : (other : Text) (args : List Text) (part : Part) → part_of args ≡ Some part →
     IsPlain part.1 → Named other args part
 part_named other [] part e plain = search rules
-part_named other (arg ∷ args) part e plain = go (long_of arg) args refl e
+part_named other (arg ∷ args) part e plain = by_cases (long_of arg) args refl e
   where
     -- By how the option is written: `--name=TEXT` is one argument, which names the option itself.
     -- With `--name` the value is a second argument, and a plain one names no option.
-    go : (p : Option (Text × Option Text)) (args : List Text) → long_of arg ≡ p →
+    by_cases : (p : Option (Text × Option Text)) (args : List Text) → long_of arg ≡ p →
         part_by p args ≡ Some part → Named other (arg ∷ args) part
-    go None ws is found = search rules
-    go (Some (name, Some text)) ws is found =
+    by_cases None ws is found = search rules
+    by_cases (Some (name, Some text)) ws is found =
         subst (Named other (arg ∷ ws)) (same_part (name, text, 1) part found)
         (or-false (names other arg) ∙ names_of_long other arg name (Some text) is)
-    go (Some (name, None)) [] is found = search rules
-    go (Some (name, None)) (text ∷ ws) is found =
+    by_cases (Some (name, None)) [] is found = search rules
+    by_cases (Some (name, None)) (text ∷ ws) is found =
         let same = same_part (name, text, 2) part found in
         let quiet : IsPlain text = subst (λ (t : Text). IsPlain t) (sym (ap (λ (q : Part). q.1) same)) plain in
         let unnamed : names other text ≡ false =
@@ -347,13 +347,13 @@ pub stands_twice : (entries : List OptionEntry) (texts : List Text) (place : ℕ
     Stands entries texts place → false ≡ is_some (given_after entries (Some []) texts)
 stands_twice entries texts place part is named s =
     refused entries texts place part s is
-    (go (is_allowed entries part.0 part.1) (is_added entries part.0 part.1 s.0
+    (by_cases (is_allowed entries part.0 part.1) (is_added entries part.0 part.1 s.0
     (is_allowed entries part.0 part.1) true refl (s.2 part.0 ∙ named)))
   where
-    go : (b : Bool) → added entries part.0 part.1 s.0 ≡
+    by_cases : (b : Bool) → added entries part.0 part.1 s.0 ≡
         (if b && not true then Some (s.0 ++ (part.0, part.1) ∷ []) else None) → added entries part.0 part.1 s.0 ≡ None
-    go true e = e
-    go false e = e
+    by_cases true e = e
+    by_cases false e = e
 
 pub stands_refused : (entries : List OptionEntry) (texts : List Text) (place : ℕ) (part : Part) →
     part_of (drop place texts) ≡ Some part → is_allowed entries part.0 part.1 ≡ false →

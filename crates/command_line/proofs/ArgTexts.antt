@@ -26,22 +26,22 @@ first_text-if (Some first) false text other = refl
 
 text_of-more : (name : Text) (given : Given) (p : Text × Text) → option_text name (given ++ p ∷ []) ≡
     first_text (option_text name given) (if bytes_eq p.0 name then Some p.1 else None)
-text_of-more name [] p = go (bytes_eq p.0 name)
+text_of-more name [] p = by_cases (bytes_eq p.0 name)
   where
-    go : (b : Bool) → option_map (λ (r : Text × Text). r.1) (if b then Some p else None) ≡
+    by_cases : (b : Bool) → option_map (λ (r : Text × Text). r.1) (if b then Some p else None) ≡
         (if b then Some p.1 else None)
-    go true = refl
-    go false = refl
-text_of-more name (q ∷ given) p = go (bytes_eq q.0 name) (text_of-more name given p)
+    by_cases true = refl
+    by_cases false = refl
+text_of-more name (q ∷ given) p = by_cases (bytes_eq q.0 name) (text_of-more name given p)
   where
-    go : (b : Bool) → option_text name (given ++ p ∷ []) ≡
+    by_cases : (b : Bool) → option_text name (given ++ p ∷ []) ≡
         first_text (option_text name given) (if bytes_eq p.0 name then Some p.1 else None) →
         option_map (λ (r : Text × Text). r.1) (if b then Some q else find (λ r. bytes_eq r.0 name) (given ++ p ∷ [])) ≡
         first_text (option_map (λ (r : Text × Text). r.1)
         (if b then Some q else find (λ r. bytes_eq r.0 name) given))
         (if bytes_eq p.0 name then Some p.1 else None)
-    go true more = refl
-    go false more = more
+    by_cases true more = refl
+    by_cases false more = more
 
 text_of-added : (entries : List OptionEntry) (option text : Text) (before after : Given)
     (name : Text) → added entries option text before ≡ Some after → option_text name after ≡
@@ -105,17 +105,17 @@ unfolding given_after
 args_add entries name [] before given e =
     let same : before ≡ given = search rules in
     first_text-none (option_text name before) ∙ ap (option_text name) same
-args_add entries name (arg ∷ []) before given e = go (long_of arg) refl e
+args_add entries name (arg ∷ []) before given e = by_cases (long_of arg) refl e
   where
-    go : (p : Option (Text × Option Text)) → long_of arg ≡ p → option_joined entries p before ≡ Some given →
+    by_cases : (p : Option (Text × Option Text)) → long_of arg ≡ p → option_joined entries p before ≡ Some given →
         Adds name before (arg ∷ []) given
-    go None long is = search rules
-    go (Some (option, None)) long is = search rules
-    go (Some (option, Some text)) long is =
+    by_cases None long is = search rules
+    by_cases (Some (option, None)) long is = search rules
+    by_cases (Some (option, Some text)) long is =
         adds_joined entries name arg option text [] before given given long is
         (first_text-none (option_text name given))
 args_add entries name (arg ∷ text ∷ args) before given e =
-    go (long_of arg) refl e (λ onward. args_add entries name (text ∷ args) onward given)
+    by_cases (long_of arg) refl e (λ onward. args_add entries name (text ∷ args) onward given)
     (λ onward. args_add entries name args onward given)
   where
     on_joined : (option value : Text) → long_of arg ≡ Some (option, Some value) →
@@ -138,7 +138,7 @@ args_add entries name (arg ∷ text ∷ args) before given e =
     on_parted option long (Some onward) is rest more =
         adds_parted entries name arg option text args before onward given long is (more onward rest)
 
-    go : (p : Option (Text × Option Text)) → long_of arg ≡ p →
+    by_cases : (p : Option (Text × Option Text)) → long_of arg ≡ p →
         (if is_joined p then given_after entries (option_and_then (option_joined entries p) (Some before))
         (text ∷ args) else given_after entries
         (option_and_then (parted entries p text) (Some before)) args) ≡ Some given →
@@ -146,11 +146,11 @@ args_add entries name (arg ∷ text ∷ args) before given e =
         Adds name mid (text ∷ args) given) →
         ((mid : Given) → given_after entries (Some mid) args ≡ Some given →
         Adds name mid args given) → Adds name before (arg ∷ text ∷ args) given
-    go None long is first second =
+    by_cases None long is first second =
         let bad : None ≡ Some given = sym (none_stays entries args) ∙ is in search rules
-    go (Some (option, Some value)) long is first second =
+    by_cases (Some (option, Some value)) long is first second =
         on_joined option value long (added entries option value before) refl is first
-    go (Some (option, None)) long is first second =
+    by_cases (Some (option, None)) long is first second =
         on_parted option long (added entries option text before) refl is second
 
 -- the text of an option stands after the first argument that names it

@@ -42,11 +42,11 @@ abbrev pub found_rows : Given → List Row
 found_rows given = map row given
 
 bytes_same : (a : Text) → bytes_eq a a ≡ true
-bytes_same a = go (bytes_eq a a) refl
+bytes_same a = by_cases (bytes_eq a a) refl
   where
-    go : (b : Bool) → bytes_eq a a ≡ b → bytes_eq a a ≡ true
-    go true e = e
-    go false e = search (rules, bytes_eq-Decides)
+    by_cases : (b : Bool) → bytes_eq a a ≡ b → bytes_eq a a ≡ true
+    by_cases true e = e
+    by_cases false e = search (rules, bytes_eq-Decides)
 
 -- ---- look-ups
 
@@ -59,14 +59,14 @@ by_look : {A : Type 0} (made : Text → A) (look : List Text → Text → Option
     (names : List Text) (name : Text) → is_among names name ≡ true → look names name ≡ Some (made name)
 by_look made look hit miss [] name e = absurd (cc e)
 by_look made look hit miss (n ∷ names) name e =
-    go (bytes_eq n name) refl (by_look made look hit miss names name)
+    by_cases (bytes_eq n name) refl (by_look made look hit miss names name)
   where
-    go : (b : Bool) → bytes_eq n name ≡ b → (is_among names name ≡ true → look names name ≡ Some (made name)) →
+    by_cases : (b : Bool) → bytes_eq n name ≡ b → (is_among names name ≡ true → look names name ≡ Some (made name)) →
         look (n ∷ names) name ≡ Some (made name)
-    go true same more =
+    by_cases true same more =
         hit n names name same
         ∙ ap (λ (t : Text). Some (made t)) ((bytes_eq-Decides n name).0 same)
-    go false other more = miss n names name other ∙ more (rw other at e)
+    by_cases false other more = miss n names name other ∙ more (rw other at e)
 
 by_long : (names : List Text) (name : Text) → is_among names name ≡ true →
     arg_by_long (opts names) name ≡ Some (opt name)
@@ -90,13 +90,13 @@ at_missing : (name : Text) (change : Row → List Row) (missing : List Row) (giv
     has_name name given ≡ false → at_row name change missing (found_rows given) ≡ found_rows given ++ missing
 at_missing name change missing [] e = refl
 at_missing name change missing (p ∷ given) e =
-    go (bytes_eq p.0 name) refl (at_missing name change missing given)
+    by_cases (bytes_eq p.0 name) refl (at_missing name change missing given)
   where
-    go : (b : Bool) → bytes_eq p.0 name ≡ b → (has_name name given ≡ false →
+    by_cases : (b : Bool) → bytes_eq p.0 name ≡ b → (has_name name given ≡ false →
         at_row name change missing (found_rows given) ≡ found_rows given ++ missing) →
         at_row name change missing (found_rows (p ∷ given)) ≡ found_rows (p ∷ given) ++ missing
-    go true same more = let bad : true ≡ false = rw same at e in search rules
-    go false other more = rw other (ap (λ (rs : List Row). row p ∷ rs) (more (rw other at e)))
+    by_cases true same more = let bad : true ≡ false = rw same at e in search rules
+    by_cases false other more = rw other (ap (λ (rs : List Row). row p ∷ rs) (more (rw other at e)))
 
 rows_more : (given : Given) (p : Text × Text) → found_rows given ++ row p ∷ [] ≡ found_rows (given ++ p ∷ [])
 rows_more given p = sym (map-append row given (p ∷ []))
@@ -144,11 +144,11 @@ pub record Walks (name : Text) (names : List Text) (h after : Held)
   pub walked : fold (walked (opts names) []) (walk_from h) args ≡ walk_from after
 
 not_dashes : (arg : Text) (p : Text × Option Text) → long_of arg ≡ Some p → bytes_eq arg (45 ∷ 45 ∷ []) ≡ false
-not_dashes arg p e = go (bytes_eq arg (45 ∷ 45 ∷ [])) refl
+not_dashes arg p e = by_cases (bytes_eq arg (45 ∷ 45 ∷ [])) refl
   where
-    go : (b : Bool) → bytes_eq arg (45 ∷ 45 ∷ []) ≡ b → bytes_eq arg (45 ∷ 45 ∷ []) ≡ false
-    go false other = other
-    go true same =
+    by_cases : (b : Bool) → bytes_eq arg (45 ∷ 45 ∷ []) ≡ b → bytes_eq arg (45 ∷ 45 ∷ []) ≡ false
+    by_cases false other = other
+    by_cases true same =
         let is : arg ≡ 45 ∷ 45 ∷ [] = (bytes_eq-Decides arg (45 ∷ 45 ∷ [])).0 same in
         let none : None ≡ Some p = ap long_of (sym is) ∙ e in
         search rules
@@ -305,7 +305,7 @@ parted_held names h given name text among held fresh = record {
 -- ---- all arguments
 
 -- what an option that is admitted tells
-pub record IsAdded (rows : List OptionEntry) (name text : Text) (before after : Given) : Type 0 where
+pub record IsOptionAdded (rows : List OptionEntry) (name text : Text) (before after : Given) : Type 0 where
   pub among : is_among (names_in rows) name ≡ true
   pub fresh : has_name name before ≡ false
   pub plain : IsPlain text
@@ -314,30 +314,30 @@ pub record IsAdded (rows : List OptionEntry) (name text : Text) (before after : 
 allowed_among : (rows : List OptionEntry) (name text : Text) → is_allowed rows name text ≡ true →
     is_among (names_in rows) name ≡ true
 allowed_among [] name text e = search rules
-allowed_among (row ∷ rows) name text e = go (bytes_eq row.name name) e (allowed_among rows name text)
+allowed_among (row ∷ rows) name text e = by_cases (bytes_eq row.name name) e (allowed_among rows name text)
   where
-    go : (b : Bool) → option_map_or (λ r. is_some (value_in r.form text))
+    by_cases : (b : Bool) → option_map_or (λ r. is_some (value_in r.form text))
         (if b then Some row else find (λ r. bytes_eq r.name name) rows) false ≡ true →
         (is_allowed rows name text ≡ true → is_among (names_in rows) name ≡ true) →
         b || is_among (names_in rows) name ≡ true
-    go true is more = refl
-    go false is more = more is
+    by_cases true is more = refl
+    by_cases false is more = more is
 
 pub is_added : (rows : List OptionEntry) (name text : Text) (before after : Given) →
-    added rows name text before ≡ Some after → IsAdded rows name text before after
-is_added rows name text before after e = go (is_allowed rows name text) (has_name name before) refl refl e
+    added rows name text before ≡ Some after → IsOptionAdded rows name text before after
+is_added rows name text before after e = by_cases (is_allowed rows name text) (has_name name before) refl refl e
   where
-    go : (a b : Bool) → is_allowed rows name text ≡ a → has_name name before ≡ b →
+    by_cases : (a b : Bool) → is_allowed rows name text ≡ a → has_name name before ≡ b →
         (if a && not b then Some (before ++ (name, text) ∷ []) else None) ≡ Some after →
-        IsAdded rows name text before after
-    go true false ae be is = record {
+        IsOptionAdded rows name text before after
+    by_cases true false ae be is = record {
       among = allowed_among rows name text ae;
       fresh = be;
       plain = value_plain rows name text ae;
       after_is = search rules;
     }
-    go false b ae be is = search rules
-    go true true ae be is = search rules
+    by_cases false b ae be is = search rules
+    by_cases true true ae be is = search rules
 
 -- a walk over arguments, and what it leaves held
 abbrev Leads : Text → List Text → Held → List Text → Given → Type 0
@@ -390,16 +390,16 @@ unfolding given_after
 args_lead command rows [] h before given held e =
     let same : before ≡ given = search rules in
     (h, record { passes = λ rest. refl; walked = refl }, subst (IsHeld (names_in rows) h) same held)
-args_lead command rows (arg ∷ []) h before given held e = go (long_of arg) refl e
+args_lead command rows (arg ∷ []) h before given held e = by_cases (long_of arg) refl e
   where
-    go : (p : Option (Text × Option Text)) → long_of arg ≡ p → option_joined rows p before ≡ Some given →
+    by_cases : (p : Option (Text × Option Text)) → long_of arg ≡ p → option_joined rows p before ≡ Some given →
         Leads command (names_in rows) h (arg ∷ []) given
-    go None long is = search rules
-    go (Some (name, None)) long is = search rules
-    go (Some (name, Some text)) long is = lead_joined command rows h before given arg name text
+    by_cases None long is = search rules
+    by_cases (Some (name, None)) long is = search rules
+    by_cases (Some (name, Some text)) long is = lead_joined command rows h before given arg name text
         long is held
 args_lead command rows (arg ∷ text ∷ args) h before given held e =
-    go (long_of arg) refl e (λ onward mid held2 e2. args_lead command rows (text ∷ args) mid onward given held2 e2)
+    by_cases (long_of arg) refl e (λ onward mid held2 e2. args_lead command rows (text ∷ args) mid onward given held2 e2)
     (λ onward mid held2 e2. args_lead command rows args mid onward given held2 e2)
   where
     on_joined : (name value : Text) → long_of arg ≡ Some (name, Some value) →
@@ -427,7 +427,7 @@ args_lead command rows (arg ∷ text ∷ args) h before given held e =
         leads_on command (names_in rows) h (arg ∷ text ∷ []) args onward given
         (lead_parted command rows h before onward arg name text long is held) (λ mid held2. more onward mid held2 rest)
 
-    go : (p : Option (Text × Option Text)) → long_of arg ≡ p →
+    by_cases : (p : Option (Text × Option Text)) → long_of arg ≡ p →
         (if is_joined p then given_after rows (option_and_then (option_joined rows p) (Some before))
         (text ∷ args) else given_after rows
         (option_and_then (parted rows p text) (Some before)) args) ≡ Some given →
@@ -438,11 +438,11 @@ args_lead command rows (arg ∷ text ∷ args) h before given held e =
         given_after rows (Some onward) args ≡ Some given →
         Leads command (names_in rows) mid args given) →
         Leads command (names_in rows) h (arg ∷ text ∷ args) given
-    go None long is first second = let bad : None ≡ Some given = sym (none_stays rows args) ∙ is in
+    by_cases None long is first second = let bad : None ≡ Some given = sym (none_stays rows args) ∙ is in
         search rules
-    go (Some (name, Some value)) long is first second =
+    by_cases (Some (name, Some value)) long is first second =
         on_joined name value long (added rows name value before) refl is first
-    go (Some (name, None)) long is first second = on_parted name long (added rows name text before) refl is second
+    by_cases (Some (name, None)) long is first second = on_parted name long (added rows name text before) refl is second
 
 -- ---- the parse
 
@@ -463,11 +463,11 @@ valid : (command : Text) (names : List Text) (found : List Row) → is_valid (sh
 valid command names found = ap₂ (λ (a b : Bool). a && b) (all_free names) (none_required names found)
 
 default_same : (n : Text) (found : List Row) → with_default found (opt n) ≡ found
-default_same n found = go (has_row n found)
+default_same n found = by_cases (has_row n found)
   where
-    go : (b : Bool) → (if b then found else found) ≡ found
-    go true = refl
-    go false = refl
+    by_cases : (b : Bool) → (if b then found else found) ≡ found
+    by_cases true = refl
+    by_cases false = refl
 
 defaults_same : (names : List Text) (found : List Row) → fold with_default found (opts names) ≡ found
 defaults_same [] found = refl
@@ -548,28 +548,28 @@ first_in : (es : List Entry) (id : Text) → option_and_then (λ a. option_map (
     (option_map (λ e. e.1) (find (λ e. bytes_eq e.0.now id) es))
     ≡ option_and_then (λ r. slice_get r.values 0) (find (λ r. bytes_eq r.id id) (map row_of es))
 first_in [] id = refl
-first_in (e ∷ es) id = go (bytes_eq e.0.now id) (first_in es id)
+first_in (e ∷ es) id = by_cases (bytes_eq e.0.now id) (first_in es id)
   where
-    go : (b : Bool) → option_and_then (λ a. option_map (λ s. s.now) (slice_get a.vals.items 0))
+    by_cases : (b : Bool) → option_and_then (λ a. option_map (λ s. s.now) (slice_get a.vals.items 0))
         (option_map (λ e. e.1) (find (λ e. bytes_eq e.0.now id) es))
         ≡ option_and_then (λ r. slice_get r.values 0) (find (λ r. bytes_eq r.id id) (map row_of es)) →
         option_and_then (λ a. option_map (λ s. s.now) (slice_get a.vals.items 0))
         (option_map (λ e. e.1) (if b then Some e else find (λ e. bytes_eq e.0.now id) es))
         ≡ option_and_then (λ r. slice_get r.values 0)
         (if b then Some (row_of e) else find (λ r. bytes_eq r.id id) (map row_of es))
-    go true more = now_of e.1.vals.items
-    go false more = more
+    by_cases true more = now_of e.1.vals.items
+    by_cases false more = more
 
 text_in : (given : Given) (name : Text) → first_of name (found_rows given) ≡ option_text name given
 text_in [] name = refl
-text_in (p ∷ given) name = go (bytes_eq p.0 name) (text_in given name)
+text_in (p ∷ given) name = by_cases (bytes_eq p.0 name) (text_in given name)
   where
-    go : (b : Bool) → first_of name (found_rows given) ≡ option_text name given →
+    by_cases : (b : Bool) → first_of name (found_rows given) ≡ option_text name given →
         option_and_then (λ r. slice_get r.values 0)
         (if b then Some (row p) else find (λ r. bytes_eq r.id name) (found_rows given))
         ≡ option_map (λ q. q.1) (if b then Some p else find (λ q. bytes_eq q.0 name) given)
-    go true more = refl
-    go false more = more
+    by_cases true more = refl
+    by_cases false more = more
 
 -- a getter of a matched command gives the text that the arguments give
 pub value_is : (f : Found) (given : Given) (name : Text) → rows_of f ≡ found_rows given →

@@ -23,7 +23,7 @@ use Rattle.chip_core.specs.declared.width.Width.TheVariants.{Sixteen, Eight}
 use Rattle.command_line.specs.declared.job.Job.{Job}
 use Rattle.command_line.specs.declared.job.Job.TheVariants.{Find, Follow, Rate2, Idle, Survey, Make}
 use Rattle.command_line.specs.declared.job.Job.TheVariants.{Trial}
-use Rattle.command_line.specs.declared.job.Search.{Search}
+use Rattle.command_line.specs.declared.job.JobSearch.{JobSearch}
 use Rattle.chip_core.specs.declared.assignment.Traffic.{Traffic}
 use Rattle.command_line.specs.declared.commands.Command.{Command}
 use Rattle.command_line.specs.declared.grammar.ValueForm.{ValueForm}
@@ -512,12 +512,12 @@ IsLawfulJob (Trial number workers) = (number < 2 ^ 64) × IsWorkers workers
 
 -- ---- the search and the taps of a job
 
-abbrev pub searching : ℕ → ℕ → Search
+abbrev pub searching : ℕ → ℕ → JobSearch
 searching span workers = record { span = span; workers = workers }
 
 -- how many of the first samples are searched or measured, and by how many workers; `make` searches
 -- none
-abbrev pub job_search : Job → Search
+abbrev pub job_search : Job → JobSearch
 job_search (Find span workers) = searching span workers
 job_search (Follow span workers fingers paging traffic limits) = searching span workers
 job_search (Rate2 span workers fingers offset esn row) = searching span workers
@@ -528,7 +528,7 @@ job_search (Make width) = searching 0 1
 job_search (Trial number workers) = searching 2048 workers
 
 -- a search that a lawful job may ask for
-abbrev pub IsLawfulSearch : Search → Type 0
+abbrev pub IsLawfulSearch : JobSearch → Type 0
 IsLawfulSearch search = (search.span ≤ 32768) × IsWorkers search.workers
 
 -- how many pilots, messages, frames and raw capsules the taps write; only `follow` has taps

@@ -114,7 +114,7 @@ pub enum Job {
 
 /// The search of a job in the first samples.
 #[derive(Clone, Copy)]
-pub struct Search {
+pub struct JobSearch {
     /// How many of the first samples are searched or measured, at most 32,768.
     pub span: u16,
     /// How many workers search or measure, 1 to 64. The result doesn't depend on it.
@@ -124,7 +124,7 @@ pub struct Search {
 impl Job {
     /// Returns the search of this job. `make` searches no samples, `trial` the first 2,048 of its
     /// link.
-    pub fn search(self) -> Search
+    pub fn search(self) -> JobSearch
         ensures value { result ≡ job_search self }
         ensures lawful { IsLawfulJob self → IsLawfulSearch result }
     {
@@ -138,7 +138,7 @@ impl Job {
             Job::Make { .. } => (0, 1),
             Job::Trial { workers, .. } => (2048, workers),
         };
-        Search { span, workers }
+        JobSearch { span, workers }
     }
 
     /// Returns how many lines of each kind the taps write. Only `follow` has taps.

@@ -16,4 +16,4 @@ mod receiving;
 mod testing;
 mod texts;
 
-pub use job::{Job, Search, WordFault, words_of};
+pub use job::{Job, JobSearch, WordFault, words_of};

@@ -8,7 +8,7 @@ pub use Rattle.heard_events.specs.Marks.{mark}
 pub use Rattle.heard_events.specs.PagingStreams.{paging_rate}
 pub use Rattle.heard_events.specs.Streams.{Stream}
 pub use Rattle.heard_events.specs.Tuning.{Tuning}
-pub use Rattle.heard_events.specs.declared.channel.Channel.TheVariants.{Paging}
+pub use Rattle.heard_events.specs.declared.channel.CodeChannel.TheVariants.{Paging}
 pub use Rattle.heard_events.specs.declared.event.Event.{Event}
 pub use Rattle.heard_events.specs.declared.event.Event.TheVariants.{Frame, Pilot, Sets, Sync}
 pub use Rattle.heard_events.specs.declared.event.Event.TheVariants.{Traffic}

@@ -7,7 +7,7 @@ use Rattle.frame_decoder.specs.declared.traffic.Decoded.{Decoded}
 use Rattle.listed_frame.specs.ListedFrames.{listed}
 use Rattle.rate_set_two.specs.TrafficFrames.{decoded2}
 use Rattle.heard_events.specs.SoftFrames.{soft_frames}
-use Rattle.heard_events.specs.declared.channel.Channel.{Channel}
+use Rattle.heard_events.specs.declared.channel.CodeChannel.{CodeChannel}
 use Rattle.heard_events.specs.declared.soft_frame.PowerControl.{PowerControl}
 use Rattle.event_tap.specs.Slots.{slot_more, slot_text}
 use Rattle.event_tap.specs.declared.tuned_text.TunedText.{TunedText}
@@ -16,12 +16,12 @@ use Rattle.event_tap.specs.declared.tuned_text.TunedText.TheVariants.{Listed, Ra
 -- ---- the frames after the mark, and their text
 
 -- none where no mark is set
-abbrev pub frames_from : Tuning → Channel → List Sample → Option Mark → List SoftFrame
+abbrev pub frames_from : Tuning → CodeChannel → List Sample → Option Mark → List SoftFrame
 frames_from t channel samples None = []
 frames_from t channel samples (Some m) = soft_frames t channel m samples
 
 -- the frames of a channel that end within these samples, from the mark on that these set
-abbrev pub after_mark : Tuning → Channel → List Sample → List SoftFrame
+abbrev pub after_mark : Tuning → CodeChannel → List Sample → List SoftFrame
 after_mark t channel samples = frames_from t channel samples (mark t samples (length samples))
 
 -- the line of a frame of rate set 2; one of a channel without power control bits has none
@@ -56,22 +56,22 @@ frames_text form check m kept (frame ∷ frames) =
     tuned_frame_text form check m slot frame ++ frames_text form check m slot frames
 
 -- the text of the frames after a mark
-abbrev pub text_from : TunedText → Tuning → Channel → Mark → List Sample → List ℕ
+abbrev pub text_from : TunedText → Tuning → CodeChannel → Mark → List Sample → List ℕ
 text_from form t channel m samples =
     frames_text form t.check30 m [] (soft_frames t channel m samples)
 
 -- the same where none may be set
-abbrev pub text_if_marked : TunedText → Tuning → Channel → List Sample → Option Mark → List ℕ
+abbrev pub text_if_marked : TunedText → Tuning → CodeChannel → List Sample → Option Mark → List ℕ
 text_if_marked form t channel samples None = []
 text_if_marked form t channel samples (Some m) = text_from form t channel m samples
 
 -- what is written of all frames that end within these samples, from the mark on that these set
-unfoldable pub tuned_text : TunedText → Tuning → Channel → List Sample → List ℕ
+unfoldable pub tuned_text : TunedText → Tuning → CodeChannel → List Sample → List ℕ
 tuned_text form t channel samples =
     text_if_marked form t channel samples (mark t samples (length samples))
 
 -- which channels have such a text
-abbrev pub IsLawfulTuned : Channel → TunedText → Type 0
+abbrev pub IsLawfulTuned : CodeChannel → TunedText → Type 0
 IsLawfulTuned channel RateSetTwo = IsLawful channel
 IsLawfulTuned channel (Listed k) = IsLawful channel × IsListLength k
 IsLawfulTuned channel (Slots key cycle) = IsLawful channel × (cycle ≤ 7)

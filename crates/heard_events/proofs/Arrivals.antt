@@ -32,8 +32,8 @@ now a n = filter (is_now a n) (places (a.bound n))
 abbrev pub is_left : Arrivals → ℕ → ℕ → ℕ → Bool
 is_left a next n k = nat_le next k && is_now a n k
 
-abbrev pub left : Arrivals → ℕ → ℕ → List ℕ
-left a next n = filter (is_left a next n) (places (a.bound n))
+abbrev pub left_from : Arrivals → ℕ → ℕ → List ℕ
+left_from a next n = filter (is_left a next n) (places (a.bound n))
 
 -- none is known just now
 abbrev pub NoneNow : Arrivals → ℕ → Type 0
@@ -72,14 +72,14 @@ module _ (a : Arrivals) where
   none_now n none = filter_none_places (is_now a n) (a.bound n) (λ k below. not_now n k (none k))
 
   -- where none before `next` is known just now, all are left
-  pub all_left : (next n : ℕ) → ((k : ℕ) → k < next → a.inside k ≡ true → ¬ (a.known k ≡ n)) → left a next n ≡ now a n
+  pub all_left : (next n : ℕ) → ((k : ℕ) → k < next → a.inside k ≡ true → ¬ (a.known k ≡ n)) → left_from a next n ≡ now a n
   all_left next n none =
       filter_ext_places (is_left a next n) (is_now a n) (a.bound n)
       (λ k below.
       and_second (nat_le next k) (is_now a n k) (λ early. not_now n k (none k (leb-false next k early))))
 
   -- where none from `next` on is, none is left
-  pub none_left : (next n : ℕ) → ((k : ℕ) → next ≤ k → a.inside k ≡ true → ¬ (a.known k ≡ n)) → left a next n ≡ []
+  pub none_left : (next n : ℕ) → ((k : ℕ) → next ≤ k → a.inside k ≡ true → ¬ (a.known k ≡ n)) → left_from a next n ≡ []
   none_left next n none =
       filter_none_places (is_left a next n) (a.bound n)
       (λ k below.
@@ -133,7 +133,7 @@ frames_ordered {count} s timed bound enough = record {
 module _ (a : Arrivals) (o : AreOrdered a) where
   -- The next thing, where it is known just now, is the first of those that are left: those before
   -- it are not left, and it is below the bound, since all from the bound on are known later.
-  pub next_left : (next n : ℕ) → a.inside next ≡ true → a.known next ≡ n → left a next n ≡ next ∷ left a (next + 1) n
+  pub next_left : (next n : ℕ) → a.inside next ≡ true → a.known next ≡ n → left_from a next n ≡ next ∷ left_from a (next + 1) n
   next_left next n inside known =
       let here : is_now a n next ≡ true =
       and_from (a.inside next) (a.known next == n) inside (eq-eqb (a.known next) n known) in

@@ -1,17 +1,18 @@
 -- The frames of a channel after the mark, before they are decoded.
 use Rattle.heard_events.proofs.Common.{◌≡◌, ℕ, ◌+◌, ◌*◌, ◌≤◌, true, List, ◌++◌, length, refl, ap, arith, Sample, channel_stream, offset_of}
 use Rattle.heard_events.proofs.Common.{paging_bound, frames_within, soft_frame, frame_start, is_in_file, known_at, IsTimed, stream_end}
-use Rattle.heard_events.proofs.Common.{Tuning, Channel, Paging, Mark, AgreeIn, start_of, soft_frame_of, all_fit, softs_sooner, softs_same}
-use Rattle.heard_events.specs.declared.channel.Channel.TheVariants.{Traffic}
+use Rattle.heard_events.proofs.Common.{Tuning, CodeChannel, Paging, Mark, AgreeIn, start_of, soft_frame_of, all_fit, softs_sooner}
+use Rattle.heard_events.proofs.Common.{softs_same}
+use Rattle.heard_events.specs.declared.channel.CodeChannel.TheVariants.{Traffic}
 use Rattle.heard_events.proofs.Arrivals.{AreOrdered, frames_in, frames_ordered, by_parts, is_by}
 use Rattle.chip_core.proofs.Ranges as ranges
 
 -- frame 0 begins at the channel's offset after the mark
-pub first_by : (channel : Channel) (m : Mark) → m.sample + offset_of channel ≡ start_of channel m
+pub first_by : (channel : CodeChannel) (m : Mark) → m.sample + offset_of channel ≡ start_of channel m
 first_by (Paging number) m = omega arith
 first_by (Traffic traffic) m = refl
 
-module _ (t : Tuning) (channel : Channel) (m : Mark) where
+module _ (t : Tuning) (channel : CodeChannel) (m : Mark) where
   -- a frame is known at its own end
   pub own_end : (k : ℕ) → known_at t.count (channel_stream t channel m) k ≡ stream_end (channel_stream t channel m) k
   unfolding stream_end
@@ -52,7 +53,7 @@ module _ (t : Tuning) (channel : Channel) (m : Mark) where
       frame_sooner xs ys k parts.0 (omega (arith, parts.1, own, h)))
 
 -- what is received of a frame is the same in two files that agree in its samples
-pub frame_same : (t : Tuning) (channel : Channel) (m : Mark) (one other : List Sample) (k : ℕ) →
+pub frame_same : (t : Tuning) (channel : CodeChannel) (m : Mark) (one other : List Sample) (k : ℕ) →
     AgreeIn one other (channel_stream t channel m).form
     (frame_start (channel_stream t channel m) k) (channel_stream t channel m).fingers →
     soft_frame t channel m one k ≡ soft_frame t channel m other k

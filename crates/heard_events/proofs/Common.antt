@@ -91,5 +91,5 @@ unfoldable pub use Rattle.heard_events.specs.TrafficEvents.{decoded_at, frames_b
 pub use Rattle.heard_events.specs.TrafficStreams.{ends_now, frame_known, frames_bound, frames_now, has_frame, replaced_in, stream_of}
 pub use Rattle.heard_events.specs.TrafficStreams.{traffic_start, traffic_stream}
 pub use Rattle.heard_events.specs.Tuning.{Tuning, sync_bound, sync_stream}
-pub use Rattle.heard_events.specs.declared.channel.Channel.{Channel}
-pub use Rattle.heard_events.specs.declared.channel.Channel.TheVariants.{Paging}
+pub use Rattle.heard_events.specs.declared.channel.CodeChannel.{CodeChannel}
+pub use Rattle.heard_events.specs.declared.channel.CodeChannel.TheVariants.{Paging}

@@ -4,9 +4,10 @@ use Rattle.heard_events.proofs.Common.{All-append, All-cons, All-nil, flat_map, 
 use Rattle.heard_events.proofs.Common.{events_at, mark, changed, frames_at, messages_at, heard_from, kept_to, legs_at, moment_events, Event}
 use Rattle.heard_events.proofs.Common.{moment_place, moments_before, passed, sets_at, page_event, pages_if_marked, signaling_message_at}
 use Rattle.heard_events.proofs.Common.{message_events, message_heard, messages_by, known_now, events_of, heard_at, sync_events_at, Tuning}
-use Rattle.heard_events.proofs.Common.{frames_by, if_followed, frames_now, sync_bound, sync_stream, Mark, Traffic, SpelledMessage, Channel}
+use Rattle.heard_events.proofs.Common.{frames_by, if_followed, frames_now, sync_bound, sync_stream, Mark, Traffic, SpelledMessage}
+use Rattle.heard_events.proofs.Common.{CodeChannel}
 use Rattle.heard_events.proofs.Common.{SpelledSignal, Paging, channels, followed_after, told_after, told_on, frame_heard}
-use Rattle.heard_events.specs.declared.channel.Channel.TheVariants.{Traffic as OnTraffic}
+use Rattle.heard_events.specs.declared.channel.CodeChannel.TheVariants.{Traffic as OnTraffic}
 
 -- events of one number of samples
 abbrev pub IsAt : ℕ → Event → Type 0
@@ -85,7 +86,7 @@ module _ (t : Tuning) (samples : List Sample) (n : ℕ) where
         | inr e ↦ rw e (All-nil (IsAt n))
       ]
 
-  channel_here : (c : Channel) (m : Mark) → AreAt n (told_on t samples n c m)
+  channel_here : (c : CodeChannel) (m : Mark) → AreAt n (told_on t samples n c m)
   channel_here (Paging channel) m =
       All-map (IsAt n) (page_event n) (pages_if_marked t channel (Some m) samples n) (λ k d below. refl)
   channel_here (OnTraffic traffic) m =

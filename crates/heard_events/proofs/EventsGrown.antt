@@ -1,9 +1,10 @@
 -- How the events of a file grow with its samples.
 use Rattle.heard_events.proofs.Common.{◌≡◌, ℕ, ◌+◌, ◌≤◌, List, [], ◌∷◌, ◌++◌, length, refl, sym, ap, ◌∙◌, arith, map, Option, Some, None}
 use Rattle.heard_events.proofs.Common.{nat_lt, if◌then◌else◌, Sample, events_at, mark, AreNear, moments_before, page_event, sync_events_at}
-use Rattle.heard_events.proofs.Common.{Tuning, sync_stream, Mark, flat_map, flat_map-places-more, heard_within, Channel, Paging, channels}
+use Rattle.heard_events.proofs.Common.{Tuning, sync_stream, Mark, flat_map, flat_map-places-more, heard_within, CodeChannel, Paging}
+use Rattle.heard_events.proofs.Common.{channels}
 use Rattle.heard_events.proofs.Common.{followed_after, told_after, told_on, places-none}
-use Rattle.heard_events.specs.declared.channel.Channel.TheVariants.{Traffic as OnTraffic}
+use Rattle.heard_events.specs.declared.channel.CodeChannel.TheVariants.{Traffic as OnTraffic}
 use Rattle.heard_events.proofs.Growth.{IsSyncTimed}
 use Rattle.heard_events.proofs.PageGrowth.{pages_sooner}
 use Rattle.heard_events.proofs.GoesOn.{joined}
@@ -25,7 +26,7 @@ each_same f g (x ∷ xs) same = joined (same x) (each_same f g xs same)
 module _ (t : Tuning) (low : ℕ) (timed : IsSyncTimed t low)
     (near : AreNear (sync_stream t).fingers) where
   -- what ends within the first samples is known from them: on a channel,
-  channel_sooner : (xs ys : List Sample) (n : ℕ) → n ≤ length xs → (c : Channel) (m : Mark) →
+  channel_sooner : (xs ys : List Sample) (n : ℕ) → n ≤ length xs → (c : CodeChannel) (m : Mark) →
       told_on t (xs ++ ys) n c m ≡ told_on t xs n c m
   channel_sooner xs ys n h (Paging channel) m =
       ap (λ (pages : List _). map (page_event n) (if nat_lt m.prat 2 then pages else []))
@@ -37,7 +38,7 @@ module _ (t : Tuning) (low : ℕ) (timed : IsSyncTimed t low)
       let sets = sets_sooner t traffic m xs ys n h in
       rw (kept, first, sets) refl
 
-  after_sooner : (xs ys : List Sample) (n : ℕ) → n ≤ length xs → (followed : Option Channel)
+  after_sooner : (xs ys : List Sample) (n : ℕ) → n ≤ length xs → (followed : Option CodeChannel)
       (m : Option Mark) → told_after t followed m (xs ++ ys) n ≡ told_after t followed m xs n
   after_sooner xs ys n h (Some c) (Some m) = channel_sooner xs ys n h c m
   after_sooner xs ys n h (Some c) None = refl

@@ -1,7 +1,8 @@
 -- How what is told of channels goes on with the samples, where nothing of them is due.
 use Rattle.heard_events.proofs.Common.{◌≡◌, ℕ, ◌<◌, ◌≤◌, List, [], ◌++◌, length, length-append, map, refl, sym, ap, ◌∙◌, arith, Sample, ap₂}
 use Rattle.heard_events.proofs.Common.{drop, take, length-take-le, take-append-drop}
-use Rattle.heard_events.proofs.Arrivals.{AreKnown, AreLater, Arrivals, all_left, left, none_between, none_left, none_now, now, StaysWithin}
+use Rattle.heard_events.proofs.Arrivals.{AreKnown, AreLater, Arrivals, all_left, left_from, none_between, none_left, none_now, now}
+use Rattle.heard_events.proofs.Arrivals.{StaysWithin}
 
 -- After these samples nothing is told up to a number of samples, and what is told there is left:
 -- `told samples n` is told of some samples when just n have been taken, and `left samples` is left
@@ -17,7 +18,7 @@ pub record GoesOn {E : Type 0} (told : List Sample → ℕ → List E) (left : L
 pub things_go : {E : Type 0} (a : Arrivals) (next : ℕ) (gives : List Sample → ℕ → List ℕ → List E) →
     ((samples : List Sample) (n : ℕ) → gives samples n [] ≡ []) → (heard : List Sample) (end : ℕ) →
     AreKnown a next (length heard) → AreLater a next end → GoesOn (λ samples n. gives samples n (now a n))
-    (λ samples. gives samples (length samples) (left a next (length samples))) heard end
+    (λ samples. gives samples (length samples) (left_from a next (length samples))) heard end
 things_go a next gives none heard end before following = record {
   given = λ early. ap (gives heard (length heard))
       (none_left a next (length heard)

@@ -5,11 +5,12 @@ use Rattle.heard_events.proofs.Common.{messages_at, frame_start, if_followed, fr
 use Rattle.heard_events.proofs.Common.{ends_bounds, append-nil, cases_Bool, is_in_file, stream_end, fingers_of, sync_bound, page_event, ◌≡◌}
 use Rattle.heard_events.proofs.Common.{told_after, frames_at, frames_by, option_or, flat_map, and_from, cases_lt, AreClose, first_of, false}
 use Rattle.heard_events.proofs.Common.{marks_at, all_near, pages_at, known_at, channels, timed_in, legs_of, kept_to, legs_at, legs_by, ◌==◌}
-use Rattle.heard_events.proofs.Common.{sets_at, AreNear, IsTimed, Traffic, Channel, told_on, nat_lt, Option, get_or, eq-eqb, ne_eqb, places}
+use Rattle.heard_events.proofs.Common.{sets_at, AreNear, IsTimed, Traffic, CodeChannel, told_on, nat_lt, Option, get_or, eq-eqb, ne_eqb}
+use Rattle.heard_events.proofs.Common.{places}
 use Rattle.heard_events.proofs.Common.{Sample, Finger, low_in, Tuning, Paging, subst, arith, Event, Bool, true, List, ◌++◌, refl, Some, ◌+◌}
 use Rattle.heard_events.proofs.Common.{None, take, Data, mark, Mark, ◌-◌, ◌<◌, ◌≤◌, ◌∷◌, sym, ◌∙◌, inl, inr, pos, Leg, map, ap, ℕ, ℤ}
 use Rattle.std.specs.List.{filter}
-use Rattle.heard_events.specs.declared.channel.Channel.TheVariants.{Traffic as OnTraffic}
+use Rattle.heard_events.specs.declared.channel.CodeChannel.TheVariants.{Traffic as OnTraffic}
 use Rattle.rake_finger.proofs.CloseFingers.{near_are_close}
 use Rattle.heard_events.proofs.FrameBounds.{known_low}
 use Rattle.heard_events.proofs.TrafficGrowth.{frames_of}
@@ -267,7 +268,7 @@ module _ (t : Tuning) (near : AreNear (sync_stream t).fingers) (traffic : Traffi
 
 -- ALL CHANNELS
 module _ (t : Tuning) (near : AreNear (sync_stream t).fingers) (samples : List Sample) (n : ℕ) where
-  channel_later : (c : Channel) (m : Mark) → n ≤ m.sample → told_on t samples n c m ≡ []
+  channel_later : (c : CodeChannel) (m : Mark) → n ≤ m.sample → told_on t samples n c m ≡ []
   channel_later (Paging channel) m before =
       ap (map (page_event n)) ((pages_from_mark t near channel samples n).early m before)
   channel_later (OnTraffic traffic) m before =

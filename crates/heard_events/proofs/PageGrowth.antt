@@ -4,7 +4,8 @@ use Rattle.heard_events.proofs.Common.{arith, if◌then◌else◌, flat_map, ran
 use Rattle.heard_events.proofs.Common.{pages_from, pages_left, paging_bound, paging_stream, frame_own_bits, IsTimed, Tuning, Mark, pages_at}
 use Rattle.heard_events.proofs.Common.{SpelledPage, bits_up_to, flat_map_ext_range, paging_bits_before, Stream, is_in_file, nat_le, places}
 use Rattle.heard_events.proofs.Common.{and_parts, leb-true, flat_map_ext_filter}
-use Rattle.heard_events.proofs.Arrivals.{AreKnown, AreLater, Arrivals, NoneNow, frames_in, left, next_left, none_now, Stays, StaysWithin}
+use Rattle.heard_events.proofs.Arrivals.{AreKnown, AreLater, Arrivals, NoneNow, frames_in, left_from, next_left, none_now, Stays}
+use Rattle.heard_events.proofs.Arrivals.{StaysWithin}
 use Rattle.heard_events.proofs.Arrivals.{stays_at, stays_now, AreOrdered, frames_ordered, own_bits_sooner, none_inside, StaysBefore, is_now}
 use Rattle.heard_events.proofs.Arrivals.{stays_before, given_more, is_left}
 use Rattle.heard_events.proofs.GoesOn.{GoesOn, goes_as, things_go, joined}
@@ -67,7 +68,7 @@ module _ (t : Tuning) (channel : ℕ) (m : Mark) where
 
   -- where no frame is under way, all that the frames give
   left_whole : (xs : List Sample) (next : ℕ) → pages_left t channel m xs next 0
-      ≡ flat_map (λ k. pages_from t channel m xs k 0) (left (page_frames t channel m) next (length xs))
+      ≡ flat_map (λ k. pages_from t channel m xs k 0) (left_from (page_frames t channel m) next (length xs))
   unfolding pages_left
   left_whole xs next =
       flat_map_ext_filter (is_left frames next (length xs))

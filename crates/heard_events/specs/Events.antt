@@ -9,13 +9,13 @@ use Rattle.heard_events.specs.PagingEvents.{page_event, pages_if_marked}
 use Rattle.heard_events.specs.SyncEvents.{sync_events_at}
 use Rattle.heard_events.specs.TrafficEvents.{if_followed}
 use Rattle.heard_events.specs.Tuning.{Tuning}
-use Rattle.heard_events.specs.declared.channel.Channel.{Channel}
-use Rattle.heard_events.specs.declared.channel.Channel.TheVariants.{Paging, Traffic}
+use Rattle.heard_events.specs.declared.channel.CodeChannel.{CodeChannel}
+use Rattle.heard_events.specs.declared.channel.CodeChannel.TheVariants.{Paging, Traffic}
 
 -- THE CHANNELS AFTER THE MARK
 -- What is heard on a channel when just n samples have been taken: for a traffic channel, the frames
 -- come first, then the messages that they complete, then the event of the pilot sets.
-abbrev pub told_on : Tuning → List Sample → ℕ → Channel → Mark → List Event
+abbrev pub told_on : Tuning → List Sample → ℕ → CodeChannel → Mark → List Event
 told_on t samples n (Paging channel) m =
     map (page_event n) (pages_if_marked t channel (Some m) samples n)
 told_on t samples n (Traffic traffic) m =
@@ -23,11 +23,11 @@ told_on t samples n (Traffic traffic) m =
     ++ sets_at t traffic m samples n
 
 -- the same where a channel may be followed, after a mark that may be set
-abbrev pub told_after : Tuning → Option Channel → Option Mark → List Sample → ℕ → List Event
+abbrev pub told_after : Tuning → Option CodeChannel → Option Mark → List Sample → ℕ → List Event
 told_after t followed mark samples n = if_followed (told_on t samples n) followed mark
 
 -- the channels that may be followed, in the order in which they are told
-abbrev pub channels : Tuning → List (Option Channel)
+abbrev pub channels : Tuning → List (Option CodeChannel)
 channels t = Some (Paging t.paging) ∷ option_map Traffic t.traffic ∷ []
 
 -- what is heard on all of them

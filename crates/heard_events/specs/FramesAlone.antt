@@ -2,10 +2,10 @@
 use Rattle.heard_events.specs.Common.{new_standing, Leg, Mark, Traffic}
 use Rattle.std.specs.Prelude.{ℕ, List}
 use Rattle.heard_events.specs.Legs.{legs_of}
-use Rattle.heard_events.specs.declared.channel.Channel.{Channel}
-use Rattle.heard_events.specs.declared.channel.Channel.TheVariants as channels
+use Rattle.heard_events.specs.declared.channel.CodeChannel.{CodeChannel}
+use Rattle.heard_events.specs.declared.channel.CodeChannel.TheVariants as channels
 
-abbrev pub traffic_channel : Traffic → Channel
+abbrev pub traffic_channel : Traffic → CodeChannel
 traffic_channel traffic = channels.Traffic traffic
 
 -- only the reference's pilot is active, for any frame

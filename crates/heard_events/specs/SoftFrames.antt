@@ -7,13 +7,13 @@ use Rattle.heard_events.specs.PagingStreams.{paging_bound}
 use Rattle.rake_finger.specs.Scrambled.{unscrambled}
 use Rattle.heard_events.specs.TrafficStreams.{replaced_in}
 use Rattle.heard_events.specs.Tuning.{Tuning}
-use Rattle.heard_events.specs.declared.channel.Channel.{Channel}
-use Rattle.heard_events.specs.declared.channel.Channel.TheVariants.{Paging, Traffic}
+use Rattle.heard_events.specs.declared.channel.CodeChannel.{CodeChannel}
+use Rattle.heard_events.specs.declared.channel.CodeChannel.TheVariants.{Paging, Traffic}
 use Rattle.heard_events.specs.declared.soft_frame.PowerControl.{PowerControl}
 use Rattle.heard_events.specs.declared.soft_frame.SoftFrame.{SoftFrame}
 
 -- the power control bits of frame k of a traffic channel, from its soft values, which nothing turns
-abbrev pub power_of : Channel → Mark → ℕ → List ℤ → Option PowerControl
+abbrev pub power_of : CodeChannel → Mark → ℕ → List ℤ → Option PowerControl
 power_of (Paging number) m k raw = None
 power_of (Traffic traffic) m k raw = Some (record {
   replaced = replaced_in traffic m k;
@@ -21,13 +21,13 @@ power_of (Traffic traffic) m k raw = Some (record {
 })
 
 -- frame k's soft values as the paths of the reference base station are heard
-abbrev pub raw_at : Tuning → Channel → Mark → List Sample → ℕ → List ℤ
+abbrev pub raw_at : Tuning → CodeChannel → Mark → List Sample → ℕ → List ℤ
 raw_at t channel m samples k =
     let s = channel_stream t channel m in
     softs samples s.fingers s.form (frame_start s k)
 
 -- what is received of frame k, by these soft values
-abbrev pub soft_frame_of : Tuning → Channel → Mark → ℕ → List ℤ → SoftFrame
+abbrev pub soft_frame_of : Tuning → CodeChannel → Mark → ℕ → List ℤ → SoftFrame
 soft_frame_of t channel m k raw =
     let s = channel_stream t channel m in
     record {
@@ -37,15 +37,15 @@ soft_frame_of t channel m k raw =
       power = power_of channel m k raw;
     }
 
-abbrev pub soft_frame : Tuning → Channel → Mark → List Sample → ℕ → SoftFrame
+abbrev pub soft_frame : Tuning → CodeChannel → Mark → List Sample → ℕ → SoftFrame
 soft_frame t channel m samples k = soft_frame_of t channel m k (raw_at t channel m samples k)
 
 -- the frames in the file that end within the first n samples, in order
-unfoldable pub frames_within : Tuning → Channel → Mark → List Sample → ℕ → List SoftFrame
+unfoldable pub frames_within : Tuning → CodeChannel → Mark → List Sample → ℕ → List SoftFrame
 frames_within t channel m samples n =
     map (soft_frame t channel m samples)
     (known_by t.count (channel_stream t channel m) n (paging_bound n))
 
 -- those that end within these samples
-abbrev pub soft_frames : Tuning → Channel → Mark → List Sample → List SoftFrame
+abbrev pub soft_frames : Tuning → CodeChannel → Mark → List Sample → List SoftFrame
 soft_frames t channel m samples = frames_within t channel m samples (length samples)

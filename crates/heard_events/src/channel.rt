@@ -5,14 +5,14 @@ use chip_core::air::FRAME_OFFSET_CHIPS;
 
 /// A channel of the reference base station whose frames are received from the mark on.
 #[derive(Clone, Copy, PartialEq, Eq, Debug)]
-pub enum Channel {
+pub enum CodeChannel {
     /// The paging channel of this number, 1 to 7 (TIA/EIA-95-B, 7.1.3.4).
     Paging(u8),
     /// A traffic channel (7.1.3.5).
     Traffic(Traffic),
 }
 
-impl Channel {
+impl CodeChannel {
     ghost use Rattle.std.specs.Prelude.{◌≡◌, ◌<◌, ◌≤◌};
     ghost use Rattle.heard_events.specs.Channels.{IsLawful, has_power_control, offset_of, row_of};
 
@@ -23,8 +23,8 @@ impl Channel {
         ensures below { result < 64 }
     {
         match self {
-            Channel::Paging(number) => *number,
-            Channel::Traffic(traffic) => traffic.row,
+            CodeChannel::Paging(number) => *number,
+            CodeChannel::Traffic(traffic) => traffic.row,
         }
     }
 
@@ -35,8 +35,8 @@ impl Channel {
         ensures most { result ≤ 23040 }
     {
         match self {
-            Channel::Paging(_) => 0,
-            Channel::Traffic(traffic) => FRAME_OFFSET_CHIPS * u64::from(traffic.offset),
+            CodeChannel::Paging(_) => 0,
+            CodeChannel::Traffic(traffic) => FRAME_OFFSET_CHIPS * u64::from(traffic.offset),
         }
     }
 
@@ -45,8 +45,8 @@ impl Channel {
         ensures { result ≡ has_power_control self.now }
     {
         match self {
-            Channel::Paging(_) => false,
-            Channel::Traffic(_) => true,
+            CodeChannel::Paging(_) => false,
+            CodeChannel::Traffic(_) => true,
         }
     }
 }

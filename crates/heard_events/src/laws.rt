@@ -12,7 +12,7 @@ ghost use Rattle.heard_events.specs.SoftFrames.{frames_within, soft_frame};
 ghost use Rattle.heard_events.specs.TrafficEvents.{power_bits_at, decoded_at};
 ghost use Rattle.heard_events.specs.TrafficStreams.{replaced_in};
 ghost use Rattle.heard_events.specs.Tuning.{Tuning};
-ghost use Rattle.heard_events.specs.declared.channel.Channel.{Channel};
+ghost use Rattle.heard_events.specs.declared.channel.CodeChannel.{CodeChannel};
 
 /// What a handset has received by a sample doesn't depend on later samples: the events that end
 /// within the first n samples, and the mark that they set, are the same for all files with these
@@ -30,7 +30,7 @@ pub fn later_samples_change_nothing()
 /// that end within the first n samples are the same, soft value by soft value, for all files with
 /// these first n samples.
 pub fn later_samples_change_no_frame()
-    ensures { (t : Tuning) (channel : Channel) (m : Mark) (one other : List Sample) (n : ℕ) →
+    ensures { (t : Tuning) (channel : CodeChannel) (m : Mark) (one other : List Sample) (n : ℕ) →
         n ≤ length one → n ≤ length other → take n one ≡ take n other →
         frames_within t channel m one n ≡ frames_within t channel m other n }
 {}
@@ -38,7 +38,7 @@ pub fn later_samples_change_no_frame()
 /// A received frame depends only on its fingers' samples: for one tuning it is the same for all
 /// files that agree in these, whatever comes before and after.
 pub fn a_frame_hangs_on_its_samples()
-    ensures { (t : Tuning) (channel : Channel) (m : Mark) (one other : List Sample) (k : ℕ) →
+    ensures { (t : Tuning) (channel : CodeChannel) (m : Mark) (one other : List Sample) (k : ℕ) →
         AgreeIn one other (channel_stream t channel m).form
         (frame_start (channel_stream t channel m) k) (channel_stream t channel m).fingers →
         soft_frame t channel m one k ≡ soft_frame t channel m other k }

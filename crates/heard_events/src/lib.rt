@@ -22,7 +22,7 @@ mod settings;
 mod soft_frame;
 mod spelled;
 
-pub use channel::Channel;
+pub use channel::CodeChannel;
 pub use chip_core::Traffic;
 pub use event::Event;
 pub use fingers::leg_fingers;

@@ -9,7 +9,7 @@ use Rattle.list_viterbi.proofs.Merges.{Lists, Scored}
 use Rattle.list_viterbi.proofs.Pairs.{Pairs, merge_pairs}
 use Rattle.list_viterbi.proofs.Rooms.{found}
 use Rattle.list_viterbi.proofs.Agreements.{Agrees, Traces}
-use Rattle.list_viterbi.proofs.Standing.{Stands, first_columns}
+use Rattle.list_viterbi.proofs.Standing.{ListsStand, first_columns}
 
 -- a codeword that is found leads back to the entry's
 abbrev FindTraces : List (List ℕ) → ℕ → Find → Entry → Type 0
@@ -79,7 +79,7 @@ lists_pairs softs Kind k xs ys h lists = (
 -- the codewords that all columns lead back to from the first ends
 pub found_codewords : (softs : List ℤ) (ends : Ends) (k n : ℕ) (scores : List (List ℤ))
     (columns : List (List ℕ)) (finds : List Find) (es : List Entry) → 8 ≤ n →
-    length columns ≡ n → Stands softs ends k n scores columns →
+    length columns ≡ n → ListsStand softs ends k n scores columns →
     finds ≡ first_finds scores k (end_count ends) → es ≡ map (entry_at columns) finds →
     Lists softs (IsAllowed ends n) k es
 found_codewords softs ends k n scores columns finds es eight long h finds_are es_are =
@@ -95,13 +95,13 @@ found_codewords softs ends k n scores columns finds es eight long h finds_are es
 pub run_codewords : (softs : List ℤ) (ends : Ends) (k kept bit : ℕ) (scores : List (List ℤ))
     (columns held : List (List ℕ)) (finds : List Find) (es : List Entry) →
     bit ≡ length softs / 2 → 16 ≤ length softs → length softs / 2 ≤ 576 → length held ≡ 576 →
-    held ≡ columns → Stands softs ends k bit scores columns → kept ≡ k →
+    held ≡ columns → ListsStand softs ends k bit scores columns → kept ≡ k →
     finds ≡ first_finds scores kept (end_count ends) → es ≡ map (entry_at (take (length softs / 2) held)) finds →
     Lists softs (IsAllowed ends (length softs / 2)) k es
 run_codewords softs ends k kept bit scores columns held finds es all least most whole same stands few
     finds_are es_are =
     let n = length softs / 2 in
-    let stood : Stands softs ends k bit scores held = subst (Stands softs ends k bit scores) (sym same) stands in
+    let stood : ListsStand softs ends k bit scores held = subst (ListsStand softs ends k bit scores) (sym same) stands in
     found_codewords softs ends k n scores (take n held) finds es (omega (arith, least))
     (length-take-le n held (omega (arith, most, whole))) (first_columns softs ends k bit n scores held all stood)
     (finds_are ∙ ap (λ (j : ℕ). first_finds scores j (end_count ends)) few) es_are

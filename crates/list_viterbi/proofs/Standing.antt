@@ -10,7 +10,7 @@ use Rattle.list_viterbi.proofs.Rooms.{rooms}
 use Rattle.list_viterbi.proofs.Agreements.{Agrees, Same, same_agrees, step_agrees, agrees_all}
 
 -- there are lists of the first k codewords into each state that the scores and the first n columns give
-pub record Stands (softs : List ℤ) (ends : Ends) (k n : ℕ) (scores : List (List ℤ))
+pub record ListsStand (softs : List ℤ) (ends : Ends) (k n : ℕ) (scores : List (List ℤ))
     (columns : List (List ℕ)) : Type 0 where
   pub column : List (List Entry)
   pub listed : Listed softs ends k n column
@@ -47,7 +47,7 @@ start_agrees columns ends t = by_test (starts_at ends t) where
   by_test false = tt
 
 pub stands_first : (softs : List ℤ) (ends : Ends) (k : ℕ) (scores : List (List ℤ)) (columns : List (List ℕ)) → 0 < k →
-    ((t : ℕ) → t < 256 → get_or scores t [] ≡ start_scores ends t) → Stands softs ends k 0 scores columns
+    ((t : ℕ) → t < 256 → get_or scores t [] ≡ start_scores ends t) → ListsStand softs ends k 0 scores columns
 stands_first softs ends k scores columns some starts = record {
   column = map (start_list ends) (range_with_len 0 256);
   listed = listed_start softs ends k (map (start_list ends) (range_with_len 0 256)) some
@@ -60,11 +60,11 @@ stands_first softs ends k scores columns some starts = record {
 -- ONE BIT MORE
 pub step_stands : (softs : List ℤ) (ends : Ends) (k n : ℕ) (scores next : List (List ℤ))
     (columns columns' : List (List ℕ)) → 2 * n + 2 ≤ length softs → k ≤ 16 →
-    Stands softs ends k n scores columns → Same n columns columns' →
+    ListsStand softs ends k n scores columns → Same n columns columns' →
     ((t : ℕ) → t < 256 →
     HasPicks (get_or next t []) (get_or (get_or columns' n []) t 0)
     (picks_into scores (get_or softs (2 * n) (pos 0)) (get_or softs (2 * n + 1) (pos 0)) k t)) →
-    Stands softs ends k (suc n) next columns'
+    ListsStand softs ends k (suc n) next columns'
 step_stands softs ends k n scores next columns columns' room few h same each = record {
   column = map (list_into h.column first second k) (range_with_len 0 256);
   listed = λ t b.
@@ -88,11 +88,11 @@ step_stands softs ends k n scores next columns columns' room few h same each = r
 
 pub column_stands : (softs : List ℤ) (ends : Ends) (k n : ℕ) (scores next : List (List ℤ))
     (columns : List (List ℕ)) (choices : List ℕ) → 2 * n + 2 ≤ length softs → k ≤ 16 →
-    n < length columns → Stands softs ends k n scores columns →
+    n < length columns → ListsStand softs ends k n scores columns →
     ((t : ℕ) → t < 256 →
     HasPicks (get_or next t []) (get_or choices t 0)
     (picks_into scores (get_or softs (2 * n) (pos 0)) (get_or softs (2 * n + 1) (pos 0)) k t)) →
-    Stands softs ends k (suc n) next (set columns n choices)
+    ListsStand softs ends k (suc n) next (set columns n choices)
 column_stands softs ends k n scores next columns choices room few within h each =
     step_stands softs ends k n scores next columns (set columns n choices) room few h
     (λ j b. get_or-set_other columns n j choices [] (λ e. apart j b e))
@@ -104,7 +104,7 @@ column_stands softs ends k n scores next columns choices room few within h each 
 -- scores grow by no more than the two soft values
 pub score_rooms : (softs : List ℤ) (ends : Ends) (k n : ℕ) (scores : List (List ℤ))
     (columns : List (List ℕ)) → 2 * n + 2 ≤ length softs →
-    sum_by unsigned_abs softs ≤ 2 ^ 62 → n ≤ 576 → Stands softs ends k n scores columns → (t : ℕ) → t < 256 →
+    sum_by unsigned_abs softs ≤ 2 ^ 62 → n ≤ 576 → ListsStand softs ends k n scores columns → (t : ℕ) → t < 256 →
     All (λ s. unsigned_abs s + (unsigned_abs (get_or softs (2 * n) (pos 0))
     + unsigned_abs (get_or softs (2 * n + 1) (pos 0))) ≤ 2 ^ 62) (get_or scores t [])
 score_rooms softs ends k n scores columns room bound few h t b =
@@ -115,10 +115,10 @@ score_rooms softs ends k n scores columns room bound few h t b =
 
 -- of other columns only the first n matter
 pub first_columns : (softs : List ℤ) (ends : Ends) (k m n : ℕ) (scores : List (List ℤ))
-    (columns : List (List ℕ)) → m ≡ n → Stands softs ends k m scores columns →
-    Stands softs ends k n scores (take n columns)
+    (columns : List (List ℕ)) → m ≡ n → ListsStand softs ends k m scores columns →
+    ListsStand softs ends k n scores (take n columns)
 first_columns softs ends k m n scores columns is stands =
-    let h : Stands softs ends k n scores columns = subst (λ (j : ℕ). Stands softs ends k j scores columns) is stands in
+    let h : ListsStand softs ends k n scores columns = subst (λ (j : ℕ). ListsStand softs ends k j scores columns) is stands in
     record {
       column = h.column;
       listed = h.listed;

@@ -7,7 +7,7 @@ pub use Rattle.chip_core.proofs.Ranges.{filter_ext_places, flat_map_ext_filter_p
 pub use Rattle.chip_core.specs.declared.check_form.CheckForm.{CheckForm}
 pub use Rattle.frame_decoder.specs.declared.power.PowerSofts.{PowerSofts}
 pub use Rattle.frame_decoder.specs.declared.traffic.Decoded.{Decoded}
-pub use Rattle.heard_events.proofs.Arrivals.{AreKnown, AreLater, left, none_between}
+pub use Rattle.heard_events.proofs.Arrivals.{AreKnown, AreLater, left_from, none_between}
 pub use Rattle.heard_events.proofs.Common.{AreClose, IsInRing, IsTimed, SpelledPage, SpelledSignal, Stream, all_close, all_fingers, legs_of}
 pub use Rattle.heard_events.proofs.Common.{events_of, first_of, frames_with, heard_in, legs_close, marks_of, none-some, paths_close}
 pub use Rattle.heard_events.proofs.Common.{pilot_finger, power_bit, sets_mark, slice_get, subchannels}
@@ -41,7 +41,7 @@ pub use Rattle.heard_events.specs.Signaling.{capsule_with, message_events, messa
 pub use Rattle.heard_events.specs.TrafficEvents.{all_sums, frame_event, frame_heard, raw_softs}
 pub use Rattle.heard_events.specs.TrafficStreams.{chips_after, frame_known, frame_state, has_frame, replaced_in, traffic_start}
 pub use Rattle.heard_events.specs.Tuning.{Tuning, sync_stream, tuning_by}
-pub use Rattle.heard_events.specs.declared.channel.Channel.TheVariants.{Paging}
+pub use Rattle.heard_events.specs.declared.channel.CodeChannel.TheVariants.{Paging}
 pub use Rattle.heard_events.specs.declared.event.Event.TheVariants.{Pilot}
 pub use Rattle.heard_events.specs.declared.leg.Leg.{Leg}
 pub use Rattle.heard_events.specs.declared.sets_keeper.SetsKeeper.{SetsKeeper}

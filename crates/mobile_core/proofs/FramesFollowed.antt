@@ -6,7 +6,7 @@ use Rattle.mobile_core.proofs.Common.{HearsFrames, SoftHandoff, option_map, told
 use Rattle.mobile_core.proofs.Common.{next_end, noted_by, kept_to, legs_at, legs_by, sets_at, kept_in, WaitsAt, Traffic, goes_as, told_at}
 use Rattle.mobile_core.proofs.Common.{length, Option, ne_eqb, Sample, Tuning, GoesOn, subst, arith, false, at_of, Event, never, List, ◌++◌}
 use Rattle.mobile_core.proofs.Common.{refl, Some, None, take, Bool, Mark, both, ◌≡◌, ◌+◌, ◌^◌, ◌<◌, ◌≤◌, sym, ◌∙◌, inr, ◌∷◌, Leg, [], ap, ℕ}
-use Rattle.heard_events.specs.declared.channel.Channel.TheVariants.{Traffic as OnTraffic}
+use Rattle.heard_events.specs.declared.channel.CodeChannel.TheVariants.{Traffic as OnTraffic}
 use Rattle.mobile_core.proofs.FramesHeard.{none_come, none_kept, not_left, told_go}
 use Rattle.mobile_core.proofs.FramesTold.{hears_noted, moments_are}
 use Rattle.heard_events.proofs.MomentGrowth.{kept_sooner}

@@ -10,7 +10,7 @@ use Rattle.mobile_core.proofs.Common.{has_frame, known_low, frames_of, told_left
 use Rattle.mobile_core.proofs.Common.{all_sums, flat_map, tuned_to, has_here, known_is, is_some, decoded, Decoded, sums_on, legs_of, length}
 use Rattle.mobile_core.proofs.Common.{legs_by, told_by, Traffic, told_at, told_is, goes_as, ne_eqb, Option, IsTrue, places, Sample, Finger}
 use Rattle.mobile_core.proofs.Common.{Tuning, GoesOn, false, arith, subst, after, softs, Event, ◌++◌, Bool, take, refl, ◌==◌, true, None, ℤ}
-use Rattle.mobile_core.proofs.Common.{Some, Data, Mark, left, ◌≡◌, ◌+◌, ◌-◌, ◌*◌, ◌/◌, ◌^◌, ◌<◌, ◌≤◌, map, sym, ◌∙◌, inl, inr, Leg, ap}
+use Rattle.mobile_core.proofs.Common.{Some, Data, Mark, left_from, ◌≡◌, ◌+◌, ◌-◌, ◌*◌, ◌/◌, ◌^◌, ◌<◌, ◌≤◌, map, sym, ◌∙◌, inl, inr, Leg, ap}
 use Rattle.frame_decoder.specs.TrafficFrames as frames
 
 -- the long code's state at a frame's first chip
@@ -164,7 +164,7 @@ module _ {t : Tuning} {traffic : Traffic} {m : Mark} {r : SoftHandoff} {heard : 
       heard n (λ k less inside. st.frames.ended k less) (λ k above inside. from_next idle n ends early k above))
       (λ xs i. refl)
       (λ xs. left_unkept t traffic m xs r.receiver kept empty
-      ∙ ap (λ (ys : List Sample). gives ys (length xs) (left (frames_of t traffic m legs) next (length xs)))
+      ∙ ap (λ (ys : List Sample). gives ys (length xs) (left_from (frames_of t traffic m legs) next (length xs)))
       (sym (take_all (length xs) xs (omega arith))))
 
   pub told_given : coming ≡ next → r.receiver.kept ≡ None → length heard < end → left_of heard ≡ []

@@ -99,7 +99,7 @@ pub record HasCome (t : Tuning) (traffic : Traffic) (m : Mark) (legs : ℕ → L
 
 -- The frame that comes next begins there. Where a frame has come it is the one that is heard next;
 -- the framer has taken the signaling of the frames before that one.
-pub record HasHeard (t : Tuning) (traffic : Traffic) (m : Mark) (legs : ℕ → List Leg)
+pub record HasReceived (t : Tuning) (traffic : Traffic) (m : Mark) (legs : ℕ → List Leg)
     (heard : List Sample) (next have start : ℕ) (values : List ℤ) (power : PowerSofts)
     (framer : Option (List Bool)) : Type 0 where
   pub start_is : start ≡ traffic_start traffic m have
@@ -116,7 +116,7 @@ pub record HearsUpTo (until : ℕ) (t : Tuning) (traffic : Traffic) (m : Mark) (
   pub tuned : IsTunedIn t traffic m r.sets.mark r.receiver.phase r.receiver.near
       r.receiver.frames.scrambling
   pub among : IsAmongMoments m t.count (length heard) r.sets.passed r.sets.due
-  pub frames : HasHeard t traffic m (legs_by traffic m kept) heard r.receiver.frames.clock.next
+  pub frames : HasReceived t traffic m (legs_by traffic m kept) heard r.receiver.frames.clock.next
       r.receiver.frames.clock.have r.receiver.frames.clock.start r.receiver.softs r.receiver.power
       r.receiver.framer
   pub close : (i : ℕ) → AreClose (all_fingers t.phase t.deltas (legs_of m (kept i)))

@@ -10,6 +10,6 @@ mod soft_handoff;
 mod sync_receiver;
 mod traffic_receiver;
 
-pub use heard_events::{Channel, Event, Mark, Settings, Traffic, laws};
+pub use heard_events::{CodeChannel, Event, Mark, Settings, Traffic, laws};
 pub use mobile::{HeardRing, Mobile, Step};
 pub use scrambling::{paging_scrambling, traffic_scrambling};

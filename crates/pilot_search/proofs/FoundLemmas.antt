@@ -44,13 +44,13 @@ both_found samples from middle to (Some x) None low high most l r = record {
       (λ (ge : middle ≤ k). absurd (r.first k ge b e)) (cases_lt k middle);
 }
 both_found samples from middle to (Some x) (Some y) low high most l r =
-    go (nat_lt x.energy y.energy) refl
+    by_cases (nat_lt x.energy y.energy) refl
   where
     -- Where the right energy is greater, no phase of the left range has the greatest of all. Where
     -- it isn't, a phase of the right range that has the greatest comes after the left one, whose
     -- energy is then as great.
-    go : (t : Bool) → nat_lt x.energy y.energy ≡ t → IsFound samples from to (if t then Some y else Some x)
-    go true less =
+    by_cases : (t : Bool) → nat_lt x.energy y.energy ≡ t → IsFound samples from to (if t then Some y else Some x)
+    by_cases true less =
         let p = l.real in let q = r.real in
         let lt : x.energy < y.energy = grind (arith, nat_tests) in
         let top = at_most_greatest samples y.phase (omega arith) in record {
@@ -58,7 +58,7 @@ both_found samples from middle to (Some x) (Some y) low high most l r =
           first = λ k a b e. ⊎_elim (λ (lt' : k < middle). let t = l.first k a lt' e in
               absurd (omega arith)) (λ (ge : middle ≤ k). r.first k ge b e) (cases_lt k middle);
         }
-    go false less =
+    by_cases false less =
         let p = l.real in let q = r.real in
         let ge' : y.energy ≤ x.energy = grind (arith, nat_tests) in
         let top = at_most_greatest samples x.phase (omega arith) in record {

@@ -43,12 +43,12 @@ record AreFew (s : PilotSets) : Type 0 where
 
 length-filter_le : {X : Type 0} (test : X → Bool) (xs : List X) → length (filter test xs) ≤ length xs
 length-filter_le test [] = omega arith
-length-filter_le {X} test (x ∷ xs) = go (test x) (length-filter_le test xs)
+length-filter_le {X} test (x ∷ xs) = by_cases (test x) (length-filter_le test xs)
   where
-    go : (b : Bool) → length (filter test xs) ≤ length xs →
+    by_cases : (b : Bool) → length (filter test xs) ≤ length xs →
         length (cond b (x ∷ filter test xs) (filter test xs)) ≤ suc (length xs)
-    go true ih = omega (arith, ih)
-    go false ih = omega (arith, ih)
+    by_cases true ih = omega (arith, ih)
+    by_cases false ih = omega (arith, ih)
 
 length-take_within : {X : Type 0} (n : ℕ) (xs : List X) → length (take n xs) ≤ n
 length-take_within n xs = omega (arith, length-take n xs)

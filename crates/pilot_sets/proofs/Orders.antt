@@ -33,24 +33,24 @@ pilots-append = map-append (λ (c : CandidatePilot). c.pilot)
 pilots-filter : {X : Type 0} (pilot_in : X → ℕ) (t : ℕ → Bool) (xs : List X) →
     map pilot_in (filter (λ x. t (pilot_in x)) xs) ≡ filter t (map pilot_in xs)
 pilots-filter pilot_in t [] = refl
-pilots-filter {X} pilot_in t (x ∷ xs) = go (t (pilot_in x)) (pilots-filter pilot_in t xs)
+pilots-filter {X} pilot_in t (x ∷ xs) = by_cases (t (pilot_in x)) (pilots-filter pilot_in t xs)
   where
     kept : List X
     kept = filter (λ y. t (pilot_in y)) xs
 
-    go : (b : Bool) → map pilot_in kept ≡ filter t (map pilot_in xs) → map pilot_in (cond b (x ∷ kept) kept)
+    by_cases : (b : Bool) → map pilot_in kept ≡ filter t (map pilot_in xs) → map pilot_in (cond b (x ∷ kept) kept)
         ≡ cond b (pilot_in x ∷ filter t (map pilot_in xs)) (filter t (map pilot_in xs))
-    go true ih = ap (λ l. pilot_in x ∷ l) ih
-    go false ih = ih
+    by_cases true ih = ap (λ l. pilot_in x ∷ l) ih
+    by_cases false ih = ih
 
 -- those that stay and those that go are all of them
 parts : (p : ℕ) (t : Thresholds) (time : ℕ) (xs : List CandidatePilot) →
     times_listed p (pilots_of_candidates (filter (stays t time) xs)) + times_listed p (pilots_going t time xs)
     ≡ times_listed p (pilots_of_candidates xs)
 parts p t time [] = refl
-parts p t time (c ∷ xs) = go (is_expired t time c.timer) (parts p t time xs)
+parts p t time (c ∷ xs) = by_cases (is_expired t time c.timer) (parts p t time xs)
   where
-    go : (b : Bool) →
+    by_cases : (b : Bool) →
         times_listed p (pilots_of_candidates (filter (stays t time) xs)) + times_listed p (pilots_going t time xs)
         ≡ times_listed p (pilots_of_candidates xs) →
         times_listed p (pilots_of_candidates
@@ -58,8 +58,8 @@ parts p t time (c ∷ xs) = go (is_expired t time c.timer) (parts p t time xs)
         + times_listed p (pilots_of_candidates
         (cond b (c ∷ filter (goes t time) xs) (filter (goes t time) xs)))
         ≡ cond (nat_eq p c.pilot) 1 0 + times_listed p (pilots_of_candidates xs)
-    go true ih = omega (arith, ih)
-    go false ih = omega (arith, ih)
+    by_cases true ih = omega (arith, ih)
+    by_cases false ih = omega (arith, ih)
 
 -- how often a pilot stands among candidates and neighbors
 abbrev lower : ℕ → PilotSets → ℕ
@@ -104,23 +104,23 @@ pub thresholds_orderly : (t : Thresholds) (s : PilotSets) → IsOrderly s → Is
 thresholds_orderly t s h = record { some = h.some; once = h.once; rows = h.rows; waiting = h.waiting }
 
 heard_within : (p : ℕ) (heard : List ℕ) → All (λ x. x < 512) heard → times_listed p (firsts [] heard) ≤ places_for p
-heard_within p heard offsets = go (nat_lt p 512) refl
+heard_within p heard offsets = by_cases (nat_lt p 512) refl
   where
-    go : (b : Bool) → nat_lt p 512 ≡ b → times_listed p (firsts [] heard) ≤ cond b 1 0
-    go true e = firsts_once p [] heard
-    go false e = omega (arith, firsts_within p [] heard, times-offsets p heard offsets (ltb-false p 512 e))
+    by_cases : (b : Bool) → nat_lt p 512 ≡ b → times_listed p (firsts [] heard) ≤ cond b 1 0
+    by_cases true e = firsts_once p [] heard
+    by_cases false e = omega (arith, firsts_within p [] heard, times-offsets p heard offsets (ltb-false p 512 e))
 
 neighbors_once : (p : ℕ) (heard : List ℕ) (s : PilotSets) → All (λ x. x < 512) heard →
     times_in p s ≤ places_for p → times_in p (neighbors_heard heard s) ≤ places_for p
-neighbors_once p heard s offsets once = go (has (timed_pilots s) p) refl
+neighbors_once p heard s offsets once = by_cases (has (timed_pilots s) p) refl
   where
     cut : times_listed p (neighbors_heard heard s).neighbors
         ≤ times_listed p (without (timed_pilots s) (firsts [] heard))
     cut = times-take p 20 (without (timed_pilots s) (firsts [] heard))
 
-    go : (b : Bool) → has (timed_pilots s) p ≡ b → times_in p (neighbors_heard heard s) ≤ places_for p
-    go true e = omega (arith, cut, once, times-left_out p (lacks (timed_pilots s)) (firsts [] heard) (ap not e))
-    go false e = omega (
+    by_cases : (b : Bool) → has (timed_pilots s) p ≡ b → times_in p (neighbors_heard heard s) ≤ places_for p
+    by_cases true e = omega (arith, cut, once, times-left_out p (lacks (timed_pilots s)) (firsts [] heard) (ap not e))
+    by_cases false e = omega (
       arith,
       cut,
       times-missing p (timed_pilots s) e,
@@ -219,7 +219,7 @@ all_left-waiting time (a ∷ xs) s = all_left-waiting time xs (left time a s) �
 handed_off_once : (p time : ℕ) (direction : Accepted) (s : PilotSets) →
     times_in p s ≤ places_for p → IsOnceEach (pilots_named direction.named) →
     times_in p (handed_off time direction s) ≤ places_for p
-handed_off_once p time direction s once each = go (has (pilots_named direction.named) p) refl
+handed_off_once p time direction s once each = by_cases (has (pilots_named direction.named) p) refl
   where
     actives_are : times_listed p (active_pilots (handed_off time direction s))
         ≡ times_listed p (pilots_named direction.named)
@@ -251,8 +251,8 @@ handed_off_once p time direction s once each = go (has (pilots_named direction.n
           (cleared direction s),
     )
 
-    go : (b : Bool) → has (pilots_named direction.named) p ≡ b → times_in p (handed_off time direction s) ≤ places_for p
-    go true e = omega (
+    by_cases : (b : Bool) → has (pilots_named direction.named) p ≡ b → times_in p (handed_off time direction s) ≤ places_for p
+    by_cases true e = omega (
       arith,
       total,
       each p,
@@ -260,7 +260,7 @@ handed_off_once p time direction s once each = go (has (pilots_named direction.n
       times-left_out p (lacks (pilots_named direction.named)) s.neighbors (ap not e),
       times-left_out p (lacks (pilots_named direction.named)) (active_pilots s) (ap not e),
     )
-    go false e = omega (
+    by_cases false e = omega (
       arith,
       total,
       once,
@@ -297,7 +297,7 @@ expired_le p time s =
 
 risen_le : (p : ℕ) (up : List ℕ) (s : PilotSets) → times_listed p up ≤ times_listed p s.neighbors →
     lower p (risen up s) ≤ lower p s
-risen_le p up s h = go (has up p) refl
+risen_le p up s h = by_cases (has up p) refl
   where
     above : times_listed p (candidate_pilots (risen up s)) ≡ times_listed p (candidate_pilots s) + times_listed p up
     above =
@@ -306,9 +306,9 @@ risen_le p up s h = go (has up p) refl
         ∙ ap (λ l. candidate_pilots s ++ l) (pilots-fresh up))
         ∙ times-append p (candidate_pilots s) up
 
-    go : (b : Bool) → has up p ≡ b → lower p (risen up s) ≤ lower p s
-    go true e = omega (arith, above, h, times-left_out p (lacks up) s.neighbors (ap not e))
-    go false e = omega (arith, above, times-missing p up e, times-filter p (lacks up) s.neighbors)
+    by_cases : (b : Bool) → has up p ≡ b → lower p (risen up s) ≤ lower p s
+    by_cases true e = omega (arith, above, h, times-left_out p (lacks up) s.neighbors (ap not e))
+    by_cases false e = omega (arith, above, times-missing p up e, times-filter p (lacks up) s.neighbors)
 
 rising_le : (p : ℕ) (energy : ℕ → ℕ) (power : ℕ) (began : List ℕ) (s : PilotSets) →
     times_listed p (rising energy power began s) ≤ times_listed p s.neighbors

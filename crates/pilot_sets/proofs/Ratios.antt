@@ -9,11 +9,11 @@ are_small : list_all (λ r. nat_le r 1000000) ratios ≡ true
 are_small = refl
 
 pub small_ratio : (k : ℕ) → k < 64 → ratio k ≤ 1000000
-small_ratio k h = go (nat_le (ratio k) 1000000) refl
+small_ratio k h = by_cases (nat_le (ratio k) 1000000) refl
   where
     not_both : true ≡ false → ⊥
     not_both e = cc
 
-    go : (b : Bool) → nat_le (ratio k) 1000000 ≡ b → ratio k ≤ 1000000
-    go true e = leb-true (ratio k) 1000000 e
-    go false e = absurd (not_both (sym are_small ∙ list_all_at (λ r. nat_le r 1000000) ratios k 0 h e))
+    by_cases : (b : Bool) → nat_le (ratio k) 1000000 ≡ b → ratio k ≤ 1000000
+    by_cases true e = leb-true (ratio k) 1000000 e
+    by_cases false e = absurd (not_both (sym are_small ∙ list_all_at (λ r. nat_le r 1000000) ratios k 0 h e))

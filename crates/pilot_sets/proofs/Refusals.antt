@@ -13,12 +13,12 @@ too_many pns rows n is many =
 
 few : (pns rows : List ℕ) → length pns ≤ 6 →
     direction_fault_of pns rows ≡ unknown_or_twice (find is_unknown_row rows) (first_repeated [] pns)
-few pns rows within = go (nat_lt 6 (length pns)) refl
+few pns rows within = by_cases (nat_lt 6 (length pns)) refl
   where
-    go : (b : Bool) → nat_lt 6 (length pns) ≡ b →
+    by_cases : (b : Bool) → nat_lt 6 (length pns) ≡ b →
         direction_fault_of pns rows ≡ unknown_or_twice (find is_unknown_row rows) (first_repeated [] pns)
-    go true e = absurd (omega (arith, ltb-true 6 (length pns) e, within))
-    go false e = rw e refl
+    by_cases true e = absurd (omega (arith, ltb-true 6 (length pns) e, within))
+    by_cases false e = rw e refl
 
 pub unknown : (pns rows : List ℕ) → length pns ≤ 6 → (row : ℕ) →
     find is_unknown_row rows ≡ Some row → Some (Unknown row) ≡ direction_fault_of pns rows
@@ -26,11 +26,11 @@ unknown pns rows within row found = sym (few pns rows within ∙ rw found refl)
 
 -- a direction that isn't refused has at most six records
 pub accepted_few : (pns rows : List ℕ) → direction_fault_of pns rows ≡ None → length pns ≤ 6
-accepted_few pns rows none = go (nat_lt 6 (length pns)) refl
+accepted_few pns rows none = by_cases (nat_lt 6 (length pns)) refl
   where
-    go : (b : Bool) → nat_lt 6 (length pns) ≡ b → length pns ≤ 6
-    go true e = absurd (some_none (too_many pns rows (length pns) refl (ltb-true 6 (length pns) e) ∙ none))
-    go false e = ltb-false 6 (length pns) e
+    by_cases : (b : Bool) → nat_lt 6 (length pns) ≡ b → length pns ≤ 6
+    by_cases true e = absurd (some_none (too_many pns rows (length pns) refl (ltb-true 6 (length pns) e) ∙ none))
+    by_cases false e = ltb-false 6 (length pns) e
 
 not_repeated : (unknown repeated : Option ℕ) → unknown_or_twice unknown repeated ≡ None → repeated ≡ None
 not_repeated (Some row) repeated e = absurd (some_none e)

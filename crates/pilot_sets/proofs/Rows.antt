@@ -16,26 +16,26 @@ true_false : true ≡ false → ⊥
 true_false e = cc
 
 known_row : (row : ℕ) → is_unknown_row row ≡ false → row < 64
-known_row row h = go (row == 0) (row == 32) (nat_lt 63 row) refl h
+known_row row h = by_cases (row == 0) (row == 32) (nat_lt 63 row) refl h
   where
-    go : (a b c : Bool) → nat_lt 63 row ≡ c → (a || b || c) ≡ false → row < 64
-    go true b c e h = absurd (true_false h)
-    go false true c e h = absurd (true_false h)
-    go false false true e h = absurd (true_false h)
-    go false false false e h = omega (arith, ltb-false 63 row e)
+    by_cases : (a b c : Bool) → nat_lt 63 row ≡ c → (a || b || c) ≡ false → row < 64
+    by_cases true b c e h = absurd (true_false h)
+    by_cases false true c e h = absurd (true_false h)
+    by_cases false false true e h = absurd (true_false h)
+    by_cases false false false e h = omega (arith, ltb-false 63 row e)
 
 pub named_rows : (ps cs rs : List ℕ) → find is_unknown_row rs ≡ None →
     All (λ (n : NamedPilot). n.row < 64) (named_pilots ps cs rs)
 named_rows [] cs rs h = All-nil Named
 named_rows (p ∷ ps) [] rs h = All-nil Named
 named_rows (p ∷ ps) (c ∷ cs) [] h = All-nil Named
-named_rows (p ∷ ps) (c ∷ cs) (r ∷ rs) h = go (is_unknown_row r) refl h (named_rows ps cs rs)
+named_rows (p ∷ ps) (c ∷ cs) (r ∷ rs) h = by_cases (is_unknown_row r) refl h (named_rows ps cs rs)
   where
-    go : (b : Bool) → is_unknown_row r ≡ b → (if b then Some r else find is_unknown_row rs) ≡ None →
+    by_cases : (b : Bool) → is_unknown_row r ≡ b → (if b then Some r else find is_unknown_row rs) ≡ None →
         (find is_unknown_row rs ≡ None → All Named (named_pilots ps cs rs)) →
         All Named (record { pilot = p; row = r; combined = c == 1 } ∷ named_pilots ps cs rs)
-    go true e h rest = absurd (some_none h)
-    go false e h rest =
+    by_cases true e h rest = absurd (some_none h)
+    by_cases false e h rest =
         All-cons Named (record { pilot = p; row = r; combined = c == 1 }) (named_pilots ps cs rs)
         (known_row r e) (rest h)
 
@@ -43,11 +43,11 @@ named_rows (p ∷ ps) (c ∷ cs) (r ∷ rs) h = go (is_unknown_row r) refl h (na
 next_fits : (subchannel room : ℕ) (named : List NamedPilot) → subchannel + 1 + length named ≤ room →
     next_subchannel subchannel named + length named ≤ room
 next_fits subchannel room [] h = omega arith
-next_fits subchannel room (n ∷ named) h = go n.combined
+next_fits subchannel room (n ∷ named) h = by_cases n.combined
   where
-    go : (b : Bool) → subchannel_after subchannel b + length (n ∷ named) ≤ room
-    go true = omega (arith, h)
-    go false = omega (arith, h)
+    by_cases : (b : Bool) → subchannel_after subchannel b + length (n ∷ named) ≤ room
+    by_cases true = omega (arith, h)
+    by_cases false = omega (arith, h)
 
 pub rows_after : (old : List ActivePilot) (subchannel : ℕ) (named : List NamedPilot) →
     All (λ (n : NamedPilot). n.row < 64) named → subchannel + length named ≤ 6 →

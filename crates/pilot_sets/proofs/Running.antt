@@ -13,11 +13,11 @@ use Rattle.pilot_sets.proofs.Steps.{left_is, due_is, directed_is}
 among-append : (x : ℕ × Option ℕ) (xs ys : List (ℕ × Option ℕ)) → IsAmong x (xs ++ ys) → IsAmong x xs ⊎ IsAmong x ys
 among-append x [] ys h = inr h
 among-append x (y ∷ xs) ys (inl e) = inl (inl e)
-among-append x (y ∷ xs) ys (inr h) = go (among-append x xs ys h)
+among-append x (y ∷ xs) ys (inr h) = by_cases (among-append x xs ys h)
   where
-    go : IsAmong x xs ⊎ IsAmong x ys → ((x ≡ y) ⊎ IsAmong x xs) ⊎ IsAmong x ys
-    go (inl h) = inl (inr h)
-    go (inr h) = inr h
+    by_cases : IsAmong x xs ⊎ IsAmong x ys → ((x ≡ y) ⊎ IsAmong x xs) ⊎ IsAmong x ys
+    by_cases (inl h) = inl (inr h)
+    by_cases (inr h) = inr h
 
 among_left : (x : ℕ × Option ℕ) (xs ys : List (ℕ × Option ℕ)) → IsAmong x xs → IsAmong x (xs ++ ys)
 among_left x [] ys h = elim h [ ]
@@ -42,14 +42,14 @@ candidates-append x xs ys h =
 candidates-filter : (x : ℕ × Option ℕ) (test : CandidatePilot → Bool) (xs : List CandidatePilot) →
     IsAmong x (candidate_timers (filter test xs)) → IsAmong x (candidate_timers xs)
 candidates-filter x test [] h = elim h [ ]
-candidates-filter x test (c ∷ xs) h = go (test c) (candidates-filter x test xs) h
+candidates-filter x test (c ∷ xs) h = by_cases (test c) (candidates-filter x test xs) h
   where
-    go : (b : Bool) → (IsAmong x (candidate_timers (filter test xs)) → IsAmong x (candidate_timers xs)) →
+    by_cases : (b : Bool) → (IsAmong x (candidate_timers (filter test xs)) → IsAmong x (candidate_timers xs)) →
         IsAmong x (candidate_timers (cond b (c ∷ filter test xs) (filter test xs))) →
         (x ≡ (c.pilot, c.timer)) ⊎ IsAmong x (candidate_timers xs)
-    go true rest (inl e) = inl e
-    go true rest (inr h) = inr (rest h)
-    go false rest h = inr (rest h)
+    by_cases true rest (inl e) = inl e
+    by_cases true rest (inr h) = inr (rest h)
+    by_cases false rest h = inr (rest h)
 
 -- a new candidate's timer doesn't run
 none_fresh : (pilot start : ℕ) (xs : List ℕ) → IsAmong (pilot, Some start) (candidate_timers (map fresh xs)) → ⊥
@@ -62,18 +62,18 @@ timer_among : (pilot start : ℕ) (old : List ActivePilot) → timer_of old pilo
     IsAmong (pilot, Some start) (active_timers old)
 timer_among pilot start [] e = some_none (sym e)
 timer_among pilot start (a ∷ old) e =
-    go (nat_eq a.pilot pilot) refl (timer_among pilot start old) e
+    by_cases (nat_eq a.pilot pilot) refl (timer_among pilot start old) e
   where
-    go : (b : Bool) → nat_eq a.pilot pilot ≡ b →
+    by_cases : (b : Bool) → nat_eq a.pilot pilot ≡ b →
         (timer_of old pilot ≡ Some start → IsAmong (pilot, Some start) (active_timers old)) →
         (if b then a.timer else timer_of old pilot) ≡ Some start →
         (◌≡◌ {A = ℕ × Option ℕ} (pilot, Some start) (a.pilot, a.timer))
         ⊎ IsAmong (pilot, Some start) (active_timers old)
-    go true same rest e = inl (
+    by_cases true same rest e = inl (
         ap (λ p. (p, Some start)) (sym (eqb-true a.pilot pilot same))
         ∙ ap (λ t. (a.pilot, t)) (sym e)
         )
-    go false other rest e = inr (rest e)
+    by_cases false other rest e = inr (rest e)
 
 -- a pilot of the new active set has the timer that it had
 after_among : (pilot start : ℕ) (old : List ActivePilot) (subchannel : ℕ) (named : List NamedPilot) →
@@ -111,16 +111,16 @@ others_of time direction s = all_left time (leaving_of direction s) (cleared dir
 handed_off_runs : (pilot start time : ℕ) (direction : Accepted) (s : PilotSets) →
     RunsSince pilot start (handed_off time direction s) → RunsSince pilot start s
 handed_off_runs pilot start time direction s h =
-    go (among-append (pilot, Some start) (active_timers (actives_after s.active 0 direction.named))
+    by_cases (among-append (pilot, Some start) (active_timers (actives_after s.active 0 direction.named))
     (candidate_timers (others_of time direction s).candidates) h)
   where
-    go : IsAmong (pilot, Some start) (active_timers (actives_after s.active 0 direction.named))
+    by_cases : IsAmong (pilot, Some start) (active_timers (actives_after s.active 0 direction.named))
         ⊎ IsAmong (pilot, Some start) (candidate_timers (others_of time direction s).candidates) →
         RunsSince pilot start s
-    go (inl h) =
+    by_cases (inl h) =
         among_left (pilot, Some start) (active_timers s.active) (candidate_timers s.candidates)
         (after_among pilot start s.active 0 direction.named h)
-    go (inr h) =
+    by_cases (inr h) =
         among_right (pilot, Some start) (active_timers s.active) (candidate_timers s.candidates) (
         candidates-filter (pilot, Some start)
         (λ (c : CandidatePilot). lacks (pilots_named direction.named) c.pilot) s.candidates
@@ -230,15 +230,15 @@ timer_has pilot_in timer_in pilot timer (x ∷ xs) (inr h) =
 pub only : (pilot start : ℕ) (s : PilotSets) → RunsSince pilot start s → has (timed_pilots s) pilot ≡ true
 only pilot start s h =
     list_any-append (nat_eq pilot) (active_pilots s) (candidate_pilots s)
-    ∙ go (among-append (pilot, Some start) (active_timers s.active) (candidate_timers s.candidates) h)
+    ∙ by_cases (among-append (pilot, Some start) (active_timers s.active) (candidate_timers s.candidates) h)
   where
-    go : IsAmong (pilot, Some start) (active_timers s.active)
+    by_cases : IsAmong (pilot, Some start) (active_timers s.active)
         ⊎ IsAmong (pilot, Some start) (candidate_timers s.candidates) →
         (has (active_pilots s) pilot || has (candidate_pilots s) pilot) ≡ true
-    go (inl h) =
+    by_cases (inl h) =
         ap (λ b. b || has (candidate_pilots s) pilot)
         (timer_has (λ (a : ActivePilot). a.pilot) (λ a. a.timer) pilot (Some start) s.active h)
-    go (inr h) =
+    by_cases (inr h) =
         right (has (active_pilots s) pilot)
         (timer_has (λ (c : CandidatePilot). c.pilot) (λ c. c.timer) pilot (Some start) s.candidates h)
       where

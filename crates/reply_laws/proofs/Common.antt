@@ -70,7 +70,7 @@ pub use Rattle.tuned_listener.proofs.FrameTexts.{listed_texts, rate2_texts}
 pub use Rattle.tuned_listener.proofs.Sleep.{same_mark, sleeps}
 pub use Rattle.tuned_listener.proofs.SlotTimes.{mark_is_late, written_of_slots}
 pub use borrow.Author.Gap.{read_sfits}
-pub use Rattle.reply_laws.specs.Common.{Channel, Done, IsFingers, Listed, Paging, RateSetTwo, Slots, Status, TunedText}
+pub use Rattle.reply_laws.specs.Common.{CodeChannel, Done, IsFingers, Listed, Paging, RateSetTwo, Slots, Status, TunedText}
 pub use Rattle.reply_laws.specs.Common.{cell, cell_beside, file, header_of, reference_alone, slots_after, sync_with, waiting}
 pub use Rattle.reply_laws.specs.HeardThrough.{HeardThroughComesBack, HoldsOfNearReplies, IsFileNear}
 pub use Rattle.reply_laws.specs.MadeLinks.{HasLouderPilot}

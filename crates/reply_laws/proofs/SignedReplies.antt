@@ -73,12 +73,12 @@ module _ {bytes : List ℕ} {width : Width} {plan : CellPlan} {span fingers : �
       }
 
   -- the mark of all samples
-  marked : (at : Option ℕ) → MarksAreAt plan samples at → MarkIsAt plan (mark tuning samples (length samples)) at
-  marked at marks = subst (λ (n : ℕ). MarkIsAt plan (mark tuning samples n) at) (sym file.long) (marks tuning on)
+  mark_is_at : (at : Option ℕ) → MarksAreAt plan samples at → MarkIsAt plan (mark tuning samples (length samples)) at
+  mark_is_at at marks = subst (λ (n : ℕ). MarkIsAt plan (mark tuning samples n) at) (sym file.long) (marks tuning on)
 
   end_at : (at : Option ℕ) → MarksAreAt plan samples at →
       end_when (is_some (mark tuning samples (length samples))) ≡ end_when (is_some at)
-  end_at at marks = ap end_when (set_at plan _ at (marked at marks))
+  end_at at marks = ap end_when (set_at plan _ at (mark_is_at at marks))
 
 -- ---- all channels
 
@@ -138,7 +138,7 @@ signed_replies job form asks Sends Is lines forms bytes width plan p span worker
     (one_reply forms (job span workers fingers traffic) bytes _ reply
     (asks span workers fingers traffic forms bytes header samples file.file file.enough) required) (
       lines width plan p (tuning file 1 None) traffic samples at file.receivable file.long
-          (on file 1 None) (marked file 1 None at marks) has assigned sends,
+          (on file 1 None) (mark_is_at file 1 None at marks) has assigned sends,
       end_at file 1 None at marks,
     )
 

@@ -1,7 +1,8 @@
 -- What is required for a file whose slots a sleeping handset hears doesn't depend on what it sleeps through: the
 -- paths that the search hands on are near enough for it to follow.
 use Rattle.reply_laws.proofs.Common.{◌≡◌, ℕ, ◌≤◌, ◌++◌, List, [], length, take, sym, ap, ◌∙◌, subst, arith, Option, Some, Ok, is_some, mark}
-use Rattle.reply_laws.proofs.Common.{Sample, Header, KeptTap, Tuning, Channel, Paging, Mark, timed_of, mark_set, tuned_text, TunedText, ◌≢◌}
+use Rattle.reply_laws.proofs.Common.{Sample, Header, KeptTap, Tuning, CodeChannel, Paging, Mark, timed_of, mark_set, tuned_text, TunedText}
+use Rattle.reply_laws.proofs.Common.{◌≢◌}
 use Rattle.reply_laws.proofs.Common.{Slots, same_mark, sleeps, mark_is_late, end_when, file_end_of, file_text, told, ℤ}
 use Rattle.reply_laws.proofs.Common.{tuning_for, waiting, IsFileReply, Reply, SleepChangesNoReply, Job, Idle, taps_for}
 use Rattle.reply_laws.proofs.Common.{one_file_reply, whole_file, refl, IsBestIn, zero, suc, ◌<◌, ◌∷◌, get_or, inl, inr, All, nat_eq, int_le}

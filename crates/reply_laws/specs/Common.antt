@@ -23,8 +23,8 @@ pub use Rattle.event_tap.specs.TunedTexts.{tuned_frame_text, tuned_text}
 pub use Rattle.event_tap.specs.declared.tuned_text.TunedText.{TunedText}
 pub use Rattle.event_tap.specs.declared.tuned_text.TunedText.TheVariants.{Listed, RateSetTwo, Slots}
 pub use Rattle.heard_events.specs.FramesAlone.{reference_alone}
-pub use Rattle.heard_events.specs.declared.channel.Channel.{Channel}
-pub use Rattle.heard_events.specs.declared.channel.Channel.TheVariants.{Paging}
+pub use Rattle.heard_events.specs.declared.channel.CodeChannel.{CodeChannel}
+pub use Rattle.heard_events.specs.declared.channel.CodeChannel.TheVariants.{Paging}
 pub use Rattle.run_replies.specs.CleanFiles.{IsCellFile, IsCleanLink, cell_energy}
 pub use Rattle.run_replies.specs.Common.{IsNotDirected, IsSampleFile, made_samples, FollowsSent}
 pub use Rattle.run_replies.specs.Common.{sent_events, plan_named, header_of, sync_sent, tuning_to}

@@ -3,12 +3,13 @@
 use Rattle.std.specs.Prelude.{◌≡◌, ℕ, ◌<◌, ◌≤◌, List, length, take, All, Option, Ok, is_some, []}
 use Rattle.std.specs.Prelude.{◌↔◌, Some}
 use Rattle.reply_laws.specs.Common.{Traffic, Sample, Width, IsSampleFile, Header, best_phase, mark}
-use Rattle.reply_laws.specs.Common.{energy, plan_named, CellPlan, events, Channel, Pilot, kept_by}
+use Rattle.reply_laws.specs.Common.{energy, plan_named, CellPlan, events, CodeChannel, Pilot}
+use Rattle.reply_laws.specs.Common.{kept_by}
 use Rattle.reply_laws.specs.Common.{event_line, run_text, tuned_text, TunedText, Listed, RateSetTwo}
 use Rattle.reply_laws.specs.Common.{Slots, Job, end_when, settings_for, tuning_for, waiting, Reply}
 use Rattle.reply_laws.specs.Common.{traffic_channel_with, made_file, survey_text, IsReply, Done}
 use Rattle.reply_laws.specs.Common.{trial_line, Tuning, Paging, Mark, AgreeWhereHeard, IsFingers}
-use Rattle.heard_events.specs.declared.channel.Channel.TheVariants as channels
+use Rattle.heard_events.specs.declared.channel.CodeChannel.TheVariants as channels
 use Rattle.command_line.specs.declared.job.Job.TheVariants as jobs
 
 -- for each job and each list of bytes there is a reply that is required
@@ -62,7 +63,7 @@ FollowWritesTheEvents =
     ))
 
 -- the text of one channel's frames after the mark
-abbrev pub WritesTheFrames : Job → ℕ → ℕ → Channel → TunedText → Type 0
+abbrev pub WritesTheFrames : Job → ℕ → ℕ → CodeChannel → TunedText → Type 0
 WritesTheFrames job span fingers channel text =
     (forms bytes : List ℕ) (header : Header) (samples : List Sample) →
     IsSampleFile bytes header samples → span ≤ length samples →

@@ -20,7 +20,7 @@ pub use Rattle.command_line.specs.declared.job.Job.{Job}
 pub use Rattle.event_tap.specs.Taps.{KeptTap, kept_by, run_text}
 pub use Rattle.event_tap.specs.TunedTexts.{IsLawfulTuned, tuned_text}
 pub use Rattle.event_tap.specs.declared.tuned_text.TunedText.{TunedText}
-pub use Rattle.heard_events.specs.declared.channel.Channel.{Channel}
+pub use Rattle.heard_events.specs.declared.channel.CodeChannel.{CodeChannel}
 pub use Rattle.heard_events.specs.declared.event.Event.{Event}
 pub use Rattle.heard_events.specs.declared.event.Event.TheVariants.{Frame, Pilot}
 pub use Rattle.heard_events.specs.declared.settings.Settings.{Settings}

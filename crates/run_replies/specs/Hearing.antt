@@ -1,7 +1,8 @@
 -- The text for a sample file, and the events of a handset on the way.
 use Rattle.run_replies.specs.Common.{sample_spelling, near_deltas, sent_events, best_phase, Sample}
 use Rattle.run_replies.specs.Common.{tuned_text, sync_sent, TunedText, Job, CellPlan, Header}
-use Rattle.run_replies.specs.Common.{Settings, run_text, HasBits, Channel, Traffic, KeptTap, Width}
+use Rattle.run_replies.specs.Common.{Settings, run_text, HasBits, CodeChannel, Traffic, KeptTap}
+use Rattle.run_replies.specs.Common.{Width}
 use Rattle.run_replies.specs.Common.{energy, events, Tuning, Status, Event, Pilot}
 use Rattle.std.specs.Prelude.{◌≡◌, ℕ, ◌-◌, ◌≤◌, replicate, pos, slice_get, Bool, true, List, []}
 use Rattle.std.specs.Prelude.{if◌then◌else◌, ◌++◌, length, take, All, Option, None, Some, is_some}
@@ -19,7 +20,7 @@ use Rattle.run_replies.specs.CleanFiles.{cell_energy}
 use Rattle.run_replies.specs.Ranks.{survey_text}
 use Rattle.run_ends.specs.declared.status.Status.TheVariants.{Done, NoSync}
 use Rattle.command_line.specs.declared.job.Job.TheVariants as jobs
-use Rattle.heard_events.specs.declared.channel.Channel.TheVariants as channels
+use Rattle.heard_events.specs.declared.channel.CodeChannel.TheVariants as channels
 
 -- ---- the text of a file
 
@@ -62,10 +63,10 @@ tuning_for settings first =
 pub data Listening : Type 0 where
   Unheard : List ℕ → Listening
   ByTaps : Tuning → List KeptTap → Listening
-  ByFrames : Tuning → Channel → TunedText → Listening
+  ByFrames : Tuning → CodeChannel → TunedText → Listening
 
 -- a traffic channel of these numbers
-abbrev pub traffic_channel_with : ℕ → ℕ → ℕ → Channel
+abbrev pub traffic_channel_with : ℕ → ℕ → ℕ → CodeChannel
 traffic_channel_with esn row offset =
     channels.Traffic (record { esn = esn; row = row; offset = offset })
 

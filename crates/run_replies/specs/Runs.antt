@@ -102,8 +102,8 @@ module _ (forms : List ℕ) (named : Option Job) (status : Status) (source sink 
     -- A good input is read to its end, unless a call on the outside failed or memory ran out.
     pub complete : (job : Job) → named ≡ Some job → ReadsWell job rest (Rose misread misread_now) →
         ¬ (Rose miswritten miswritten_now) → (status ≡ ends.NoMemory) ⊎ IsEnd status
-    -- Whatever failed: each end comes of a command that has it, and where it tells of the input,
-    -- only where the input requires it.
+    -- Whatever failed: each end is one that the command has, and an end that judges the input is
+    -- one that the input requires.
     pub kind : (job : Job) → named ≡ Some job → IsEndOf job status
     pub verdict : (job : Job) → named ≡ Some job → IsVerdict status →
         IfSome rest (λ bytes. IsAnswered (IsReply forms job bytes) status old new)

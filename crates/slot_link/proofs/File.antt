@@ -29,7 +29,7 @@ use Rattle.clean_signal.proofs.noise.Near.{zipped_frames}
 use Rattle.event_tap.specs.SlotLines.{frame_of_slot, frame_of_slot_end, is_heard, is_slot_within, lines_if_marked, lines_by_times}
 use Rattle.event_tap.specs.SlotLines.{lines_of_slot, slot_bound, slot_lines, slot_softs, slot_pages}
 use Rattle.frame_decoder.specs.Spans.{paging_channel}
-use Rattle.heard_events.specs.declared.channel.Channel.TheVariants.{Paging}
+use Rattle.heard_events.specs.declared.channel.CodeChannel.TheVariants.{Paging}
 use Rattle.slot_mode.specs.Frames.{slot_bits, slot_frame_bits}
 use Rattle.slot_mode.specs.Slots.{is_monitored}
 use Rattle.slot_link.specs.Laws.{HearsSlots, SlotTextsComeBack, AreSlotPages, SlotsComeBack, SlotBitsComeBackBySigns, SpansComeBackBySigns}
@@ -234,9 +234,9 @@ module _ (width : Width) (plan : CellPlan) (p : PagingPlan) (t : Tuning)
   same_rate = ap streams.paging_rate is.cell.rate ∙ sym (ap sent_paging_rate is.cell.sends)
 
   -- the frames of a slot that ends in the file lie in it
-  there : (i k : ℕ) → i < slots_to_end plan superframes → k < 4 →
+  slot_is_in_file : (i k : ℕ) → i < slots_to_end plan superframes → k < 4 →
       is_in_file t.count (streams.paging_stream t p.number m) (4 * i + k) ≡ true
-  there i k inside low =
+  slot_is_in_file i k inside low =
       let place = is.cell.marked.place in
       paging_file_from t p.number m is.tuned.alone (4 * i + k) (omega (arith, inside, low, place, is.tuned.count))
 
@@ -260,7 +260,7 @@ module _ (width : Width) (plan : CellPlan) (p : PagingPlan) (t : Tuning)
       let same : 4 * superframes + (4 * i + k) ≡ first + k = omega arith in
       subst (λ (n : ℕ). HaveSigns (order_of s bits_of n) (frame_softs samples s (4 * i + k))) same
       (paging_frame_shown plan p t m superframes samples is.tuned is.cell (4 * i + k)
-      (subst (PagingFrameHasSigns plan p samples) (sym same) (signs k low)) (there i k inside low)))))
+      (subst (PagingFrameHasSigns plan p samples) (sym same) (signs k low)) (slot_is_in_file i k inside low)))))
       ∙ ap (λ (r : Rate). slot_pages form r (bits_in_slot bits_of first)) same_rate
       ∙ slot_pages_back rate form p.pages first
       (stated_pages rate p (All-contains (IsStatedPaging rate) plan.paging p is.receivable.pages is.sent))

@@ -20,7 +20,7 @@ use Rattle.heard_events.specs.Channels.{channel_stream}
 use Rattle.slot_mode.specs.Frames.{slot_bits}
 use Rattle.slot_mode.specs.Slots.{is_monitored}
 use Rattle.heard_events.specs.PagingStreams as heard
-use Rattle.heard_events.specs.declared.channel.Channel.TheVariants as channels
+use Rattle.heard_events.specs.declared.channel.CodeChannel.TheVariants as channels
 
 -- the bits of the four frames from frame `first` on, where a channel sends these in each frame
 abbrev pub bits_in_slot : (ℕ → List Bool) → ℕ → List Bool

@@ -33,7 +33,7 @@ pub use Rattle.heard_events.proofs.MarkStays.{mark_after, mark_set, mark_sooner,
 pub use Rattle.heard_events.specs.Channels.{IsLawful, channel_stream, has_power_control, mask_of, state_at}
 pub use Rattle.heard_events.specs.PagingStreams.{paging_bound, paging_rate}
 pub use Rattle.heard_events.specs.SoftFrames.{power_of, soft_frame, soft_frames}
-pub use Rattle.heard_events.specs.declared.channel.Channel.TheVariants.{Paging, Traffic}
+pub use Rattle.heard_events.specs.declared.channel.CodeChannel.TheVariants.{Paging, Traffic}
 pub use Rattle.heard_events.specs.declared.event.Event.{Event}
 pub use Rattle.heard_events.specs.declared.soft_frame.PowerControl.{PowerControl}
 pub use Rattle.mobile_core.proofs.Common.{HalfFramesStandFor, IsTimed, Stream, Tuning, and_from, at_of, eq-eqb, event_list, events, le-leb}
@@ -58,7 +58,7 @@ pub use Rattle.slot_mode.specs.Frames.{slot_bits, slot_span_softs}
 pub use Rattle.slot_mode.specs.Slots.{is_monitored}
 pub use borrow.Rule.Slice.PartMut.{put_mid}
 pub use mir.Val.{bool_byte}
-pub use Rattle.tuned_listener.specs.Common.{Channel, CheckForm, IsSoundMark, Mark, Mobile, Near, Sample, SoftFrame, after, frame_most}
+pub use Rattle.tuned_listener.specs.Common.{CodeChannel, CheckForm, IsSoundMark, Mark, Mobile, Near, Sample, SoftFrame, after, frame_most}
 pub use Rattle.tuned_listener.specs.Common.{slot_more, slot_text}
 pub use Rattle.tuned_listener.specs.FrameReceiving.{HasGiven, frame_passed}
 pub use Rattle.tuned_listener.specs.FrameWriting.{HoldsFrames, IsReady, WritesFrames, WritesFramesPart, tuned_text_of}

@@ -3,12 +3,13 @@ use Rattle.tuned_listener.proofs.Common.{has_power_control, ChannelReceiver, cha
 use Rattle.tuned_listener.proofs.Common.{frames_sooner, frame_passed, PowerControl, paging_bound, frame_chips, first_frame, unscrambled, []}
 use Rattle.tuned_listener.proofs.Common.{soft_frames, outside_low, map-append, scrambling, clock_from, frame_come, soft_frame, is_in_file}
 use Rattle.tuned_listener.proofs.Common.{stream_end, FrameClock, SoftFrame, frames_in, state_at, HasGiven, power_of, known_is, mask_of, ◌≡◌}
-use Rattle.tuned_listener.proofs.Common.{IsDueAt, AreNear, Channel, filter, length, Option, places, Sample, Tuning, false, arith, after, ap}
+use Rattle.tuned_listener.proofs.Common.{IsDueAt, AreNear, CodeChannel, filter, length, Option, places, Sample, Tuning, false, arith, after}
+use Rattle.tuned_listener.proofs.Common.{ap}
 use Rattle.tuned_listener.proofs.Common.{softs, true, List, ◌++◌, refl, IsAt, Data, Mark, ◌+◌, ◌*◌, ◌<◌, ◌≤◌, ◌∷◌, map, sym, ◌∙◌, ℕ, ℤ}
 use Rattle.reception.proofs.ClockSteps.{before_next, clock_come, clock_heard, clock_more, clock_new, due_inside, from_next}
 use Rattle.chip_core.proofs.Ranges as ranges
 
-module _ {t : Tuning} {channel : Channel} {m : Mark} {r : ChannelReceiver} {n : ℕ}
+module _ {t : Tuning} {channel : CodeChannel} {m : Mark} {r : ChannelReceiver} {n : ℕ}
     (has : HasGiven t channel m r n) where
   -- what is received of the frame that comes next
   pub frame_is : (samples : List Sample) (raw turned : List ℤ) (power : Option PowerControl) →
@@ -43,7 +44,7 @@ module _ {t : Tuning} {channel : Channel} {m : Mark} {r : ChannelReceiver} {n : 
   }
 
 -- ONE FRAME AFTER ANOTHER
-module _ {t : Tuning} {channel : Channel} {m : Mark} {r : ChannelReceiver} {n : ℕ}
+module _ {t : Tuning} {channel : CodeChannel} {m : Mark} {r : ChannelReceiver} {n : ℕ}
     (has : HasGiven t channel m r n) (given : r.frames.clock.have ≡ r.frames.clock.next) where
   none_due : ¬ IsDueAt t.count r.frames.clock
   none_due d = omega (arith, d.0, given)
@@ -93,7 +94,7 @@ module _ {t : Tuning} {channel : Channel} {m : Mark} {r : ChannelReceiver} {n : 
   here_inside ended = due_inside (come ended) come_due
 
 -- BEFORE ANY FRAME ENDS
-pub none_given : (t : Tuning) (channel : Channel) (m : Mark) (r : ChannelReceiver) (taken : ℕ) →
+pub none_given : (t : Tuning) (channel : CodeChannel) (m : Mark) (r : ChannelReceiver) (taken : ℕ) →
     AreNear (channel_stream t channel m).fingers → r.frames.clock
     ≡ clock_from (channel_stream t channel m).fingers Data false (channel_stream t channel m).first
     (first_frame (channel_stream t channel m).fingers (channel_stream t channel m).first) →
@@ -114,7 +115,7 @@ none_given t channel m r taken near clock fingers state mask power within most =
     }
 
 -- A STEP
-module _ {t : Tuning} {channel : Channel} {m : Mark} {r : ChannelReceiver} (heard more : List Sample)
+module _ {t : Tuning} {channel : CodeChannel} {m : Mark} {r : ChannelReceiver} (heard more : List Sample)
     (has : HasGiven t channel m r (length heard)) (given : r.frames.clock.have ≡ r.frames.clock.next)
     (most : length heard + length more ≤ t.count) (waits : length heard < r.frames.clock.end) where
   long : length (heard ++ more) ≡ length heard + length more

@@ -4,7 +4,7 @@ use Rattle.tuned_listener.proofs.Common.{drop, refl, sym, ◌∙◌, subst, arit
 use Rattle.tuned_listener.proofs.Common.{length-append, StartsWith, Appends, range_with_len, option_to_list, Appends-trans, tuned_text_of}
 use Rattle.tuned_listener.proofs.Common.{and_from, cases_Bool, cases_lt, false_from_ne_true, le-leb, map-append, take-append-drop, take_all}
 use Rattle.tuned_listener.proofs.Common.{places, Sample, AppendsPrefix, channel_stream, paging_bound, frames_within, soft_frame, IsTimed}
-use Rattle.tuned_listener.proofs.Common.{soft_frames, IsTunedTo, IsTunerStep, Tuning, Channel, Mark, SoftFrame, Tuner, TunerStep}
+use Rattle.tuned_listener.proofs.Common.{soft_frames, IsTunedTo, IsTunerStep, Tuning, CodeChannel, Mark, SoftFrame, Tuner, TunerStep}
 use Rattle.tuned_listener.proofs.Common.{frames_sooner, HoldsFrames, WritesFrames, WritesFramesPart, slot_after, Arrivals}
 use Rattle.tuned_listener.proofs.Common.{frames_text, text_from, FrameWriter, TunedText, begins_more, prefix_before, prefix_after, by_parts}
 use Rattle.tuned_listener.proofs.Common.{taken_begins, frames_in, is_by, channel_ordered}
@@ -37,7 +37,7 @@ filter_front p q a (suc n) wider front =
           ]
     ]
 
-module _ (t : Tuning) (channel : Channel) (m : Mark) {low : ℕ}
+module _ (t : Tuning) (channel : CodeChannel) (m : Mark) {low : ℕ}
     (timed : IsTimed t.count (channel_stream t channel m) low) where
   -- the frames of the first samples stand at the front
   pub frames_go_on : (xs ys : List Sample) → (rest : List SoftFrame)
@@ -112,19 +112,19 @@ step_joined heard samples next taken n left =
     ∙ ap (λ (xs : List Sample). heard ++ xs) (sym (take-add taken n samples))
 
 -- what a writer keeps of a slot after these samples
-abbrev kept_of : Tuning → Channel → Mark → List Sample → List SoftFrame
+abbrev kept_of : Tuning → CodeChannel → Mark → List Sample → List SoftFrame
 kept_of t channel m heard = slot_after [] (soft_frames t channel m heard)
 
 -- the text of the frame that is shown after those
-abbrev shown_text : TunedText → Tuning → Channel → Mark → List Sample → Option SoftFrame → List ℕ
+abbrev shown_text : TunedText → Tuning → CodeChannel → Mark → List Sample → Option SoftFrame → List ℕ
 shown_text form t channel m heard shown =
     frames_text form t.check30 m (kept_of t channel m heard) (option_to_list shown)
 
 -- what it keeps then
-abbrev kept_with : Tuning → Channel → Mark → List Sample → Option SoftFrame → List SoftFrame
+abbrev kept_with : Tuning → CodeChannel → Mark → List Sample → Option SoftFrame → List SoftFrame
 kept_with t channel m heard shown = slot_after (kept_of t channel m heard) (option_to_list shown)
 
-module _ (t : Tuning) (channel : Channel) (m : Mark) (form : TunedText) where
+module _ (t : Tuning) (channel : CodeChannel) (m : Mark) (form : TunedText) where
   module _ (one other : Tuner) (writer : FrameWriter) (heard samples next : List Sample)
       (taken : ℕ) (step : TunerStep) (old mid new : Option (List ℕ))
       (left : next ≡ drop taken samples) (does : IsTunerStep one other next step)

@@ -2,7 +2,7 @@
 use Rattle.tuned_listener.proofs.Common.{◌≡◌, ℕ, ◌+◌, List, [], ◌++◌, length, take, drop, refl, sym, ap, ◌∙◌, Option, None, Some, arith}
 use Rattle.tuned_listener.proofs.Common.{append-nil, append_assoc, subst, ◌*◌, ◌<◌, ◌≤◌, sum_by, unsigned_abs, StartsWith, Appends-nil}
 use Rattle.tuned_listener.proofs.Common.{take-append-drop, take_all, CheckForm, Sample, Near, IsLawful, mark, AreNear, soft_frames, Tuning}
-use Rattle.tuned_listener.proofs.Common.{frame_most, IsTunedTo, sync_stream, Channel, Paging, Traffic, Mark, Mobile, SoftFrame, Tuner}
+use Rattle.tuned_listener.proofs.Common.{frame_most, IsTunedTo, sync_stream, CodeChannel, Paging, Traffic, Mark, Mobile, SoftFrame, Tuner}
 use Rattle.tuned_listener.proofs.Common.{HoldsFrames, IsReady, WritesFrames, WritesFramesPart, tuned_text_of, nil_from_length, ListensAfter}
 use Rattle.tuned_listener.proofs.Common.{ListensFrom, ListensTuned, TellsTuned, WaitsFor, TellsTunedPart, IsReadyForSlots, slot_after}
 use Rattle.tuned_listener.proofs.Common.{after_mark, frames_from, text_from, tuned_text, CanOpen, CanOpenFor, IsMarkedAt, IsSoundHearer}
@@ -15,10 +15,10 @@ use Rattle.tuned_listener.specs.declared.frame_writer.FrameWriter.TheVariants as
 
 -- ---- who listens
 
-module _ (t : Tuning) (channel : Channel) (heard : List Sample) (hearer : Hearer)
+module _ (t : Tuning) (channel : CodeChannel) (heard : List Sample) (hearer : Hearer)
     (from : ListensFrom t channel hearer heard) where
   -- a handset ahead of the mark
-  pub waits : (mobile : Mobile) (for_channel : Channel) (phase : ℕ) (near : Near) →
+  pub waits : (mobile : Mobile) (for_channel : CodeChannel) (phase : ℕ) (near : Near) →
       hearer ≡ Ahead mobile for_channel phase near → WaitsFor t channel mobile for_channel phase near heard
   waits mobile for_channel phase near is = subst (λ (h : Hearer). ListensFrom t channel h heard) is from
 
@@ -27,16 +27,16 @@ module _ (t : Tuning) (channel : Channel) (heard : List Sample) (hearer : Hearer
   receives m tuner is = subst (λ (h : Hearer). ListensFrom t channel h heard) is from
 
 -- which is sound
-pub ahead_sound : (mobile : Mobile) (channel : Channel) (phase : ℕ) (near : Near) →
+pub ahead_sound : (mobile : Mobile) (channel : CodeChannel) (phase : ℕ) (near : Near) →
     IsUntold mobile → CanOpenFor channel near → IsSoundHearer (Ahead mobile channel phase near)
 ahead_sound mobile channel phase near untold can = record {
-  ahead = λ (mobile' : Mobile) (channel' : Channel) (phase' : ℕ) (near' : Near)
+  ahead = λ (mobile' : Mobile) (channel' : CodeChannel) (phase' : ℕ) (near' : Near)
       (is : Ahead mobile channel phase near ≡ Ahead mobile' channel' phase' near').
       let same : mobile ≡ mobile' = cc in
       let same_channel : channel ≡ channel' = cc in
       let same_near : near ≡ near' = cc in (
         subst IsUntold same untold,
-        subst (λ (c : Channel). CanOpenFor c near') same_channel
+        subst (λ (c : CodeChannel). CanOpenFor c near') same_channel
             (subst (CanOpenFor channel) same_near can),
       );
   after = λ (m : Mark) (tuner : Tuner) (is : Ahead mobile channel phase near ≡ After m tuner).
@@ -45,21 +45,21 @@ ahead_sound mobile channel phase near untold can = record {
 
 pub after_sound : (m : Mark) (tuner : Tuner) → IsSoundMark m → IsSoundHearer (After m tuner)
 after_sound m tuner sound = record {
-  ahead = λ (mobile : Mobile) (channel : Channel) (phase : ℕ) (near : Near)
+  ahead = λ (mobile : Mobile) (channel : CodeChannel) (phase : ℕ) (near : Near)
       (is : After m tuner ≡ Ahead mobile channel phase near). absurd (cc);
   after = λ (m' : Mark) (tuner' : Tuner) (is : After m tuner ≡ After m' tuner').
       let same : m ≡ m' = cc in subst IsSoundMark same sound;
 }
 
 -- in whose place a receiver can be opened
-pub can_open : (hearer : Hearer) (m : Mark) (mobile : Mobile) (channel : Channel) (phase : ℕ)
+pub can_open : (hearer : Hearer) (m : Mark) (mobile : Mobile) (channel : CodeChannel) (phase : ℕ)
     (near : Near) → hearer ≡ Ahead mobile channel phase near → CanOpen hearer m →
     (samples_taken mobile ≤ m.sample) × CanOpenFor channel near
 can_open hearer m mobile channel phase near is opens = subst (λ (h : Hearer). CanOpen h m) is opens
 
 -- who was told a mark
-pub was_told : (t : Tuning) (channel : Channel) (hearer : Hearer) (m : Mark) (heard : List Sample)
-    (mobile : Mobile) (for_channel : Channel) (phase : ℕ) (near : Near) →
+pub was_told : (t : Tuning) (channel : CodeChannel) (hearer : Hearer) (m : Mark) (heard : List Sample)
+    (mobile : Mobile) (for_channel : CodeChannel) (phase : ℕ) (near : Near) →
     hearer ≡ Ahead mobile for_channel phase near → WasTold t channel hearer m heard →
     OpensFor t channel for_channel phase near × IsMarkedAt t mobile m heard
 was_told t channel hearer m heard mobile for_channel phase near is told =
@@ -67,7 +67,7 @@ was_told t channel hearer m heard mobile for_channel phase near is told =
 
 -- ---- the frames after the mark
 
-module _ (t : Tuning) (channel : Channel) (heard : List Sample) where
+module _ (t : Tuning) (channel : CodeChannel) (heard : List Sample) where
   -- there are none before the mark
   pub frames_unmarked : mark t heard (length heard) ≡ None → after_mark t channel heard ≡ []
   frames_unmarked none = ap (frames_from t channel heard) none
@@ -78,7 +78,7 @@ module _ (t : Tuning) (channel : Channel) (heard : List Sample) where
   frames_marked m is = ap (frames_from t channel heard) is
 
 -- a writer keeps nothing before any sample is taken
-pub holds_nothing : (t : Tuning) (channel : Channel) (writer : FrameWriter) (check : CheckForm) →
+pub holds_nothing : (t : Tuning) (channel : CodeChannel) (writer : FrameWriter) (check : CheckForm) →
     AreNear (sync_stream t).fingers → check ≡ t.check30 → HoldsFrames writer check [] →
     HoldsFrames writer t.check30 (slot_after [] (after_mark t channel []))
 holds_nothing t channel writer check near same holds =
@@ -87,7 +87,7 @@ holds_nothing t channel writer check near same holds =
     ∙ kept_after_none []))
     (subst (λ (c : CheckForm). HoldsFrames writer c []) same holds)
 
-module _ (t : Tuning) (channel : Channel) (form : TunedText) (l : TunedListener)
+module _ (t : Tuning) (channel : CodeChannel) (form : TunedText) (l : TunedListener)
     (heard : List Sample) (is : ListensTuned t channel form l heard) where
   -- another takes its place, for the same text
   pub listens_on : (l' : TunedListener) (heard' : List Sample) → tuned_text_of l'.writer ≡ tuned_text_of l.writer →
@@ -111,7 +111,7 @@ module _ (t : Tuning) (channel : Channel) (form : TunedText) (l : TunedListener)
       is.holds))
 
   -- a handset hears on ahead of the mark
-  pub listens_ahead : (l' : TunedListener) (mobile : Mobile) (for_channel : Channel) (phase : ℕ)
+  pub listens_ahead : (l' : TunedListener) (mobile : Mobile) (for_channel : CodeChannel) (phase : ℕ)
       (near : Near) (samples : List Sample) (taken : ℕ) → taken ≡ length samples →
       l'.writer ≡ l.writer → l'.hearer ≡ Ahead mobile for_channel phase near → mark t heard (length heard) ≡ None →
       WaitsFor t channel mobile for_channel phase near (heard ++ samples) →
@@ -136,7 +136,7 @@ module _ (t : Tuning) (channel : Channel) (form : TunedText) (l : TunedListener)
       ∙ sym (frames_unmarked t channel heard unmarked))
 
 -- no frame has ended at the mark
-pub silent_at_mark : (t : Tuning) (channel : Channel) (form : TunedText) (m : Mark)
+pub silent_at_mark : (t : Tuning) (channel : CodeChannel) (form : TunedText) (m : Mark)
     (heard heard' : List Sample) → mark t heard (length heard) ≡ None →
     mark t heard' (length heard') ≡ Some m → soft_frames t channel m heard' ≡ [] →
     tuned_text form t channel heard' ≡ tuned_text form t channel heard
@@ -145,7 +145,7 @@ silent_at_mark t channel form m heard heard' unmarked marked none =
     ∙ sym (text_unmarked form t channel heard unmarked)
 
 -- nor does one end ahead of it
-pub silent_ahead : (t : Tuning) (channel : Channel) (form : TunedText)
+pub silent_ahead : (t : Tuning) (channel : CodeChannel) (form : TunedText)
     (heard samples : List Sample) (taken : ℕ) → taken ≡ length samples → mark t heard (length heard) ≡ None →
     mark t (heard ++ samples) (length (heard ++ samples)) ≡ None →
     tuned_text form t channel (heard ++ take taken samples) ≡ tuned_text form t channel heard
@@ -156,7 +156,7 @@ silent_ahead t channel form heard samples taken all before following =
 
 -- ---- what is there
 
-pub lawful_channel : (channel : Channel) → ∥ IsLawful channel ∥₁ → IsLawful channel
+pub lawful_channel : (channel : CodeChannel) → ∥ IsLawful channel ∥₁ → IsLawful channel
 lawful_channel (Paging number) is = (there_le 1 number is (λ x. x.0), there_le number 7 is (λ x. x.1))
 lawful_channel (Traffic traffic) is =
     let row = there_le (traffic.row + 1) 64 is (λ x. let low = x.0 in omega (arith, low)) in (
@@ -187,7 +187,7 @@ ready_writer (writers.Slots slots) is = ready_slots slots is
 
 -- ---- after the mark
 
-module _ (t : Tuning) (channel : Channel) (form : TunedText) (l : TunedListener)
+module _ (t : Tuning) (channel : CodeChannel) (form : TunedText) (l : TunedListener)
     (heard samples : List Sample) (old new : Option (List ℕ))
     (is : ListensTuned t channel form l heard) where
   module _ (m : Mark) (tuner : Tuner) (here : l.hearer ≡ After m tuner) where
@@ -197,8 +197,8 @@ module _ (t : Tuning) (channel : Channel) (form : TunedText) (l : TunedListener)
     abbrev now : List Sample
     now = heard ++ samples
 
-    marked : mark t now (length now) ≡ Some m
-    marked = mark_kept t is.close heard samples m from.marked
+    marked_now : mark t now (length now) ≡ Some m
+    marked_now = mark_kept t is.close heard samples m from.marked
 
     -- what the writer keeps, by the frames from the mark on
     pub keeps_after : HoldsFrames l.writer t.check30 (slot_after [] (soft_frames t channel m heard))
@@ -209,7 +209,7 @@ module _ (t : Tuning) (channel : Channel) (form : TunedText) (l : TunedListener)
     -- the frames were written
     pub tells_frames_after : (l' : TunedListener) (tuner' : Tuner) →
         tuned_text_of l'.writer ≡ tuned_text_of l.writer → l'.hearer ≡ After m tuner' →
-        ((t : Tuning) (channel : Channel) (heard : List Sample) →
+        ((t : Tuning) (channel : CodeChannel) (heard : List Sample) →
         IsTunedTo t channel m tuner heard →
         HoldsFrames l.writer t.check30 (slot_after [] (soft_frames t channel m heard)) →
         WritesFrames t channel m (tuned_text_of l.writer) tuner' l'.writer heard (heard ++ samples)
@@ -218,22 +218,22 @@ module _ (t : Tuning) (channel : Channel) (form : TunedText) (l : TunedListener)
     tells_frames_after l' tuner' text after writes =
         let wrote = subst (λ (f : TunedText). WritesFrames t channel m f tuner' l'.writer heard now
         old new) is.form_is (writes t channel heard from.tuned keeps_after) in
-        let there : ListensFrom t channel (After m tuner') now = record { marked = marked; tuned = wrote.tuned } in
+        let there : ListensFrom t channel (After m tuner') now = record { marked = marked_now; tuned = wrote.tuned } in
         record {
           text = wrote.text;
           written = wrote.written;
           all = ap (λ (bytes : List ℕ). bytes ++ wrote.text) (text_marked form t channel heard m from.marked)
               ∙ wrote.all
-              ∙ sym (text_marked form t channel now m marked);
+              ∙ sym (text_marked form t channel now m marked_now);
           listens =
               listens_on t channel form l heard is l' now text
               (subst (λ (fs : List SoftFrame). HoldsFrames l'.writer t.check30 (slot_after [] fs))
-              (sym (frames_marked t channel now m marked)) wrote.holds)
+              (sym (frames_marked t channel now m marked_now)) wrote.holds)
               (subst (λ (h : Hearer). ListensFrom t channel h now) (sym after) there);
         }
 
     -- a write failed
-    pub tells_cut : ((t : Tuning) (channel : Channel) (heard : List Sample) →
+    pub tells_cut : ((t : Tuning) (channel : CodeChannel) (heard : List Sample) →
         IsTunedTo t channel m tuner heard →
         HoldsFrames l.writer t.check30 (slot_after [] (soft_frames t channel m heard)) →
         WritesFramesPart t channel m (tuned_text_of l.writer) heard (heard ++ samples) old new) →
@@ -246,13 +246,13 @@ module _ (t : Tuning) (channel : Channel) (form : TunedText) (l : TunedListener)
           written = wrote.written;
           begins =
               subst (λ (all : List ℕ). StartsWith all (tuned_text form t channel heard ++ wrote.text))
-              (sym (text_marked form t channel now m marked))
+              (sym (text_marked form t channel now m marked_now))
               (subst (λ (front : List ℕ). StartsWith (text_from form t channel m now) (front ++ wrote.text))
               (sym (text_marked form t channel heard m from.marked)) wrote.begins);
         }
 
 -- a handset ahead of the mark has no sample left to hear
-pub tells_nothing : (t : Tuning) (channel : Channel) (form : TunedText) (l l' : TunedListener)
+pub tells_nothing : (t : Tuning) (channel : CodeChannel) (form : TunedText) (l l' : TunedListener)
     (heard samples : List Sample) (old : Option (List ℕ)) → ListensTuned t channel form l heard →
     length samples ≡ 0 → l'.writer ≡ l.writer → l'.hearer ≡ l.hearer →
     TellsTuned t channel form l' heard (heard ++ samples) old old
@@ -270,7 +270,7 @@ tells_nothing t channel form l l' heard samples old is empty writer hearer =
 
 -- ---- samples ahead of the mark, and those after it
 
-module _ (t : Tuning) (channel : Channel) (form : TunedText) (heard samples next : List Sample)
+module _ (t : Tuning) (channel : CodeChannel) (form : TunedText) (heard samples next : List Sample)
     (taken : ℕ) (old new : Option (List ℕ)) (left : next ≡ drop taken samples)
     (silent : tuned_text form t channel (heard ++ take taken samples)
     ≡ tuned_text form t channel heard) where

@@ -8,7 +8,7 @@ pub use Rattle.event_tap.specs.TunedTexts.{tuned_frame_text, tuned_text}
 pub use Rattle.heard_events.specs.Common.{Held, HoldsLast, after}
 pub use Rattle.heard_events.specs.Marks.{mark, sets_mark}
 pub use Rattle.heard_events.specs.SoftFrames.{soft_frames}
-pub use Rattle.heard_events.specs.declared.channel.Channel.{Channel}
+pub use Rattle.heard_events.specs.declared.channel.CodeChannel.{CodeChannel}
 pub use Rattle.heard_events.specs.declared.mark.Mark.{Mark}
 pub use Rattle.heard_events.specs.declared.soft_frame.SoftFrame.{SoftFrame}
 pub use Rattle.mobile_core.specs.Common.{IsSoundMark, Tuning, sync_stream}

@@ -1,5 +1,5 @@
 -- The state of the receiver of a channel's frames, each received by itself.
-use Rattle.tuned_listener.specs.Common.{data_frame_chips, after, Tuning, Channel, Mark, Held}
+use Rattle.tuned_listener.specs.Common.{data_frame_chips, after, Tuning, CodeChannel, Mark, Held}
 use Rattle.std.specs.Prelude.{◌≡◌, ℕ, ◌*◌, ◌<◌, ◌≤◌, length}
 use Rattle.heard_events.specs.Channels.{channel_stream, has_power_control, mask_of, state_at}
 use Rattle.tuned_listener.specs.declared.channel_receiver.ChannelReceiver.{ChannelReceiver}
@@ -14,8 +14,8 @@ pub record IsSoundChannelReceiver (r : ChannelReceiver) : Type 0 where
 
 -- The receiver of this channel after this mark has given the frames that end within `taken` samples
 -- of a file.
-pub record HasGiven (t : Tuning) (channel : Channel) (m : Mark) (r : ChannelReceiver) (taken : ℕ)
-    : Type 0 where
+pub record HasGiven (t : Tuning) (channel : CodeChannel) (m : Mark) (r : ChannelReceiver)
+    (taken : ℕ) : Type 0 where
   pub clocked : IsAt t.count (channel_stream t channel m) r.frames.clock taken
   pub fingers_are : r.frames.fingers ≡ (channel_stream t channel m).fingers
   pub state_is : (k : ℕ) →

@@ -1,6 +1,6 @@
 -- The writer of the text of a channel's frames, and its progress.
 use Rattle.tuned_listener.specs.Common.{IsListLength, CheckForm, Sample, soft_frames, Tuning, Mark}
-use Rattle.tuned_listener.specs.Common.{Channel, SoftFrame, slot_after, text_from}
+use Rattle.tuned_listener.specs.Common.{CodeChannel, SoftFrame, slot_after, text_from}
 use Rattle.std.specs.Prelude.{◌≡◌, ◌≤◌, ℕ, List, [], ◌++◌, Option}
 use Rattle.std.specs.Io.{StartsWith}
 use Rattle.std.specs.Io.KnownBytes.{Appends}
@@ -38,7 +38,7 @@ HoldsFrames (writers.Slots slots) check slot = (slots.check ≡ check) × HoldsS
 
 -- A receiver has taken these samples after those, a sink got the text of the frames that end
 -- within them, and the writer keeps what they leave of a slot.
-pub record WritesFrames (t : Tuning) (channel : Channel) (m : Mark) (form : TunedText)
+pub record WritesFrames (t : Tuning) (channel : CodeChannel) (m : Mark) (form : TunedText)
     (tuner : Tuner) (writer : FrameWriter) (before heard : List Sample) (old new : Option (List ℕ))
     : Type 0 where
   pub text : List ℕ
@@ -48,7 +48,7 @@ pub record WritesFrames (t : Tuning) (channel : Channel) (m : Mark) (form : Tune
   pub holds : HoldsFrames writer t.check30 (slot_after [] (soft_frames t channel m heard))
 
 -- a sink got a beginning of that text
-pub record WritesFramesPart (t : Tuning) (channel : Channel) (m : Mark) (form : TunedText)
+pub record WritesFramesPart (t : Tuning) (channel : CodeChannel) (m : Mark) (form : TunedText)
     (before heard : List Sample) (old new : Option (List ℕ)) : Type 0 where
   pub text : List ℕ
   pub written : Appends old new text

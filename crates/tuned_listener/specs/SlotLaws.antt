@@ -4,7 +4,7 @@ use Rattle.tuned_listener.specs.Common.{sync_stream, tuned_text}
 use Rattle.std.specs.Prelude.{◌≡◌, ℕ, ◌+◌, ◌*◌, IsTrue, List, [], ◌∷◌, length, take, drop, ℤ, pos}
 use Rattle.std.specs.Prelude.{◌-ℤ◌, unsigned_abs, Some, None}
 use Rattle.heard_events.specs.Channels.{channel_stream}
-use Rattle.heard_events.specs.declared.channel.Channel.TheVariants.{Paging}
+use Rattle.heard_events.specs.declared.channel.CodeChannel.TheVariants.{Paging}
 use Rattle.event_tap.specs.SlotLines.{is_heard, lines_by_times}
 use Rattle.event_tap.specs.declared.tuned_text.TunedText.TheVariants.{Slots}
 

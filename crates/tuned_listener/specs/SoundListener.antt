@@ -1,5 +1,5 @@
 -- The invariant of a listener.
-use Rattle.tuned_listener.specs.Common.{Near, IsSoundMark, Channel, Mark, samples_taken, Mobile}
+use Rattle.tuned_listener.specs.Common.{Near, IsSoundMark, CodeChannel, Mark, samples_taken, Mobile}
 use Rattle.std.specs.Prelude.{◌≡◌, ◌≤◌, ℕ, pos, Some, slice_get}
 use Rattle.heard_events.specs.Channels.{IsLawful}
 use Rattle.tuned_listener.specs.FrameWriting.{IsReady}
@@ -10,7 +10,7 @@ use Rattle.tuned_listener.specs.declared.tuned.Hearer.TheVariants.{Ahead, After}
 use Rattle.tuned_listener.specs.declared.tuner.Tuner.{Tuner}
 
 -- a receiver of frames can be opened for a channel and one to three paths, the reference's first
-pub record CanOpenFor (channel : Channel) (near : Near) : Type 0 where
+pub record CanOpenFor (channel : CodeChannel) (near : Near) : Type 0 where
   pub lawful : ∥ IsLawful channel ∥₁
   pub least : 1 ≤ near.count
   pub most : near.count ≤ 3
@@ -19,7 +19,7 @@ pub record CanOpenFor (channel : Channel) (near : Near) : Type 0 where
 -- a handset ahead of the mark was told none, and a receiver can be opened in its place; and the
 -- mark that a receiver is after is one of a file
 pub record IsSoundHearer (hearer : Hearer) : Type 0 where
-  pub ahead : (mobile : Mobile) (channel : Channel) (phase : ℕ) (near : Near) →
+  pub ahead : (mobile : Mobile) (channel : CodeChannel) (phase : ℕ) (near : Near) →
       hearer ≡ Ahead mobile channel phase near → IsUntold mobile × CanOpenFor channel near
   pub after : (m : Mark) (tuner : Tuner) → hearer ≡ After m tuner → IsSoundMark m
 

@@ -1,6 +1,7 @@
 -- The listener for the frames of one channel.
 use Rattle.tuned_listener.specs.Common.{Sample, mark, AreNear, has_room, Tuning, sync_stream, Mark}
-use Rattle.tuned_listener.specs.Common.{Channel, Mobile, Near, slot_after, after_mark, tuned_text}
+use Rattle.tuned_listener.specs.Common.{CodeChannel, Mobile, Near, slot_after, after_mark}
+use Rattle.tuned_listener.specs.Common.{tuned_text}
 use Rattle.std.specs.Prelude.{◌≡◌, ℕ, Bool, true, false, List, [], ◌++◌, length, take, Option, Some}
 use Rattle.std.specs.Io.{StartsWith}
 use Rattle.std.specs.Io.KnownBytes.{Appends}
@@ -14,39 +15,39 @@ use Rattle.tuned_listener.specs.declared.tuner.Tuner.{Tuner}
 use Rattle.event_tap.specs.declared.tuned_text.TunedText.{TunedText}
 
 -- what a receiver after the mark is opened for is what a handset is tuned to
-pub record OpensFor (t : Tuning) (channel for_channel : Channel) (phase : ℕ) (near : Near)
+pub record OpensFor (t : Tuning) (channel for_channel : CodeChannel) (phase : ℕ) (near : Near)
     : Type 0 where
   pub phase_is : t.phase ≡ phase
   pub deltas_are : t.deltas ≡ take near.count near.deltas
   pub channel_is : for_channel ≡ channel
 
 -- a handset ahead of the mark has taken these samples, in whose place such a receiver is opened
-pub record WaitsFor (t : Tuning) (channel : Channel) (mobile : Mobile) (for_channel : Channel)
-    (phase : ℕ) (near : Near) (heard : List Sample) : Type 0 where
+pub record WaitsFor (t : Tuning) (channel : CodeChannel) (mobile : Mobile)
+    (for_channel : CodeChannel) (phase : ℕ) (near : Near) (heard : List Sample) : Type 0 where
   pub opens : OpensFor t channel for_channel phase near
   pub ahead : ListensAhead t mobile heard
 
 -- a receiver has taken these samples, which set the mark that it is after
-pub record ListensAfter (t : Tuning) (channel : Channel) (m : Mark) (tuner : Tuner)
+pub record ListensAfter (t : Tuning) (channel : CodeChannel) (m : Mark) (tuner : Tuner)
     (heard : List Sample) : Type 0 where
   pub marked : mark t heard (length heard) ≡ Some m
   pub tuned : IsTunedTo t channel m tuner heard
 
 -- the one or the other
-abbrev pub ListensFrom : Tuning → Channel → Hearer → List Sample → Type 0
+abbrev pub ListensFrom : Tuning → CodeChannel → Hearer → List Sample → Type 0
 ListensFrom t channel (Ahead mobile for_channel phase near) heard =
     WaitsFor t channel mobile for_channel phase near heard
 ListensFrom t channel (After m tuner) heard = ListensAfter t channel m tuner heard
 
 -- a handset was told this mark, which the samples set that it has taken
-abbrev pub WasTold : Tuning → Channel → Hearer → Mark → List Sample → Type 0
+abbrev pub WasTold : Tuning → CodeChannel → Hearer → Mark → List Sample → Type 0
 WasTold t channel (Ahead mobile for_channel phase near) m heard =
     OpensFor t channel for_channel phase near × IsMarkedAt t mobile m heard
 WasTold t channel (After already tuner) m heard = ⊥
 
 -- A listener for this text of this channel has taken these samples of a file, and written the lines
 -- of the frames that end within them.
-pub record ListensTuned (t : Tuning) (channel : Channel) (form : TunedText) (l : TunedListener)
+pub record ListensTuned (t : Tuning) (channel : CodeChannel) (form : TunedText) (l : TunedListener)
     (heard : List Sample) : Type 0 where
   pub form_is : tuned_text_of l.writer ≡ form
   pub close : AreNear (sync_stream t).fingers
@@ -69,7 +70,7 @@ tuned_room l = room_of l.hearer
 
 -- It has taken these samples after those, and a sink got the text of the frames that end within
 -- them.
-pub record TellsTuned (t : Tuning) (channel : Channel) (form : TunedText) (l : TunedListener)
+pub record TellsTuned (t : Tuning) (channel : CodeChannel) (form : TunedText) (l : TunedListener)
     (before heard : List Sample) (old new : Option (List ℕ)) : Type 0 where
   pub text : List ℕ
   pub written : Appends old new text
@@ -77,7 +78,7 @@ pub record TellsTuned (t : Tuning) (channel : Channel) (form : TunedText) (l : T
   pub listens : ListensTuned t channel form l heard
 
 -- a sink got a beginning of that text
-pub record TellsTunedPart (t : Tuning) (channel : Channel) (form : TunedText)
+pub record TellsTunedPart (t : Tuning) (channel : CodeChannel) (form : TunedText)
     (before heard : List Sample) (old new : Option (List ℕ)) : Type 0 where
   pub text : List ℕ
   pub written : Appends old new text

@@ -1,5 +1,6 @@
 -- The state of the receiver of one channel's frames, and the effect of a step.
-use Rattle.tuned_listener.specs.Common.{Sample, HoldsLast, soft_frames, frame_most, Tuning, Channel}
+use Rattle.tuned_listener.specs.Common.{Sample, HoldsLast, soft_frames, frame_most, Tuning}
+use Rattle.tuned_listener.specs.Common.{CodeChannel}
 use Rattle.tuned_listener.specs.Common.{Mark, SoftFrame}
 use Rattle.std.specs.Prelude.{◌≡◌, ℕ, ◌+◌, ◌-◌, ◌<◌, ◌≤◌, List, ◌++◌, length, take, IfSome, None}
 use Rattle.std.specs.Prelude.{sum_by, unsigned_abs}
@@ -10,7 +11,7 @@ use Rattle.tuned_listener.specs.declared.tuner.TunerStep.{TunerStep}
 
 -- It receives this channel after this mark, has taken these samples of a file, and given the
 -- frames that end within them.
-pub record IsTunedTo (t : Tuning) (channel : Channel) (m : Mark) (r : Tuner)
+pub record IsTunedTo (t : Tuning) (channel : CodeChannel) (m : Mark) (r : Tuner)
     (heard : List Sample) : Type 0 where
   pub count_is : r.count ≡ t.count
   pub ring : HoldsLast r.ring heard
@@ -33,10 +34,10 @@ pub record IsTunerStep (before after : Tuner) (samples : List Sample) (step : Tu
   pub ends : IfSome step.frame (λ (frame : SoftFrame). frame.end ≡ before.ring.taken + step.taken)
   pub small : IfSome step.frame
       (λ (frame : SoftFrame). sum_by unsigned_abs frame.descrambled ≤ frame_most)
-  pub stands : (t : Tuning) (channel : Channel) (m : Mark) (heard : List Sample) →
+  pub stands : (t : Tuning) (channel : CodeChannel) (m : Mark) (heard : List Sample) →
       IsTunedTo t channel m before heard →
       IsTunedTo t channel m after (heard ++ take step.taken samples)
-  pub gives : (t : Tuning) (channel : Channel) (m : Mark) (heard : List Sample) →
+  pub gives : (t : Tuning) (channel : CodeChannel) (m : Mark) (heard : List Sample) →
       IsTunedTo t channel m before heard →
       soft_frames t channel m (heard ++ take step.taken samples)
       ≡ soft_frames t channel m heard ++ option_to_list step.frame

@@ -6,7 +6,7 @@ ghost use Rattle.heard_events.specs.Channels.{IsLawful, mask_of, state_at};
 
 use chip_core::Phase;
 use frame_decoder::{FrameSofts, PowerSofts, commands};
-use heard_events::{Channel, Mark, PowerControl, SoftFrame};
+use heard_events::{CodeChannel, Mark, PowerControl, SoftFrame};
 use mobile_core::{paging_scrambling, traffic_scrambling};
 use pilot_search::Near;
 use rake_finger::SampleRing;
@@ -15,7 +15,7 @@ use short_code::Codes;
 use symbol_path::power_places;
 
 /// The scrambling of a channel, whose frame 0 begins at the mark or at its offset after it.
-fn scrambling_of(channel: &Channel, mark: &Mark) -> Scrambling
+fn scrambling_of(channel: &CodeChannel, mark: &Mark) -> Scrambling
     requires lawful { IsLawful channel.now }
     requires mark { IsSoundMark mark.now }
     ensures state { (k : ℕ) → after result.state (24576 * k) ≡ state_at channel.now mark.now k }
@@ -23,8 +23,8 @@ fn scrambling_of(channel: &Channel, mark: &Mark) -> Scrambling
     ensures below { result.mask < 2 ^ 42 }
 {
     match channel {
-        Channel::Paging(number) => paging_scrambling(*number, mark),
-        Channel::Traffic(traffic) => traffic_scrambling(traffic, mark),
+        CodeChannel::Paging(number) => paging_scrambling(*number, mark),
+        CodeChannel::Traffic(traffic) => traffic_scrambling(traffic, mark),
     }
 }
 
@@ -43,7 +43,7 @@ impl ChannelReceiver {
     ghost use Rattle.heard_events.specs.Channels.{IsLawful};
     ghost use Rattle.heard_events.specs.SoftFrames.{power_of, soft_frame};
     ghost use Rattle.heard_events.specs.Tuning.{Tuning};
-    ghost use Rattle.heard_events.specs.declared.channel.Channel.{Channel as TheChannel};
+    ghost use Rattle.heard_events.specs.declared.channel.CodeChannel.{CodeChannel as TheChannel};
     ghost use Rattle.heard_events.specs.declared.mark.Mark.{Mark as TheMark};
     ghost use Rattle.tuned_listener.specs.FrameReceiving.{HasGiven, IsSoundChannelReceiver};
     ghost use Rattle.tuned_listener.specs.FrameReceiving.{frame_passed};
@@ -52,7 +52,12 @@ impl ChannelReceiver {
     ghost use Rattle.reception.specs.Softs.{frame_most};
 
     /// The receiver of a channel, for a base station at a phase and near it, before any frame ends.
-    pub(crate) fn open(mark: &Mark, channel: &Channel, phase: Phase, near: &Near) -> ChannelReceiver
+    pub(crate) fn open(
+        mark: &Mark,
+        channel: &CodeChannel,
+        phase: Phase,
+        near: &Near,
+    ) -> ChannelReceiver
         requires mark { IsSoundMark mark.now }
         requires lawful { IsLawful channel.now }
         requires least { 1 ≤ near.now.count }

@@ -2,7 +2,7 @@
 
 ghost use Rattle.tuned_listener.specs.Common.{CheckForm as TheCheck, Sample as TheSample, Tuning};
 ghost use Rattle.tuned_listener.specs.Common.{soft_frames, frame_most, IsSoundMark, slot_after};
-ghost use Rattle.tuned_listener.specs.Common.{Channel as TheChannel, SoftFrame as TheFrame};
+ghost use Rattle.tuned_listener.specs.Common.{CodeChannel as TheChannel, SoftFrame as TheFrame};
 ghost use Rattle.tuned_listener.specs.Common.{slot_more, listed_text, rate2_text, tuned_frame_text};
 ghost use Rattle.event_tap.specs.TunedTexts.{frames_text};
 ghost use Rattle.std.specs.Prelude.{◌≡◌, ◌≤◌, ◌+◌, ◌++◌, List, [], length, IfOk, OnOk, OnErr};

@@ -10,7 +10,7 @@ use cdma_io::{Failed, Sink};
 use chip_core::{OutOfMemory, Phase, Sample};
 use core::mem::replace_with;
 use event_tap::TunedText;
-use heard_events::{Channel, Mark};
+use heard_events::{CodeChannel, Mark};
 use mobile_core::{HeardRing, Mobile};
 use pilot_search::Near;
 use std::alloc::Global;
@@ -22,7 +22,7 @@ enum Hearer {
     Ahead {
         mobile: Mobile,
         /// The channel.
-        channel: Channel,
+        channel: CodeChannel,
         /// The phase of the reference base station's codes.
         phase: Phase,
         /// The paths near it.
@@ -41,7 +41,7 @@ impl Hearer {
     ghost use Rattle.heard_events.specs.SoftFrames.{soft_frames};
     ghost use Rattle.heard_events.specs.SoundMarks.{IsSoundMark};
     ghost use Rattle.heard_events.specs.Tuning.{Tuning};
-    ghost use Rattle.heard_events.specs.declared.channel.Channel.{Channel as TheChannel};
+    ghost use Rattle.heard_events.specs.declared.channel.CodeChannel.{CodeChannel as TheChannel};
     ghost use Rattle.tuned_listener.specs.SoundListener.{CanOpen, IsSoundHearer};
     ghost use Rattle.tuned_listener.specs.TunedListening.{ListensFrom, WasTold, is_ahead, room_of};
 
@@ -94,7 +94,7 @@ impl TunedListener {
     ghost use Rattle.heard_events.specs.Marks.{mark};
     ghost use Rattle.mobile_core.specs.Standing.{StandsFor, has_room};
     ghost use Rattle.heard_events.specs.Tuning.{Tuning};
-    ghost use Rattle.heard_events.specs.declared.channel.Channel.{Channel as TheChannel};
+    ghost use Rattle.heard_events.specs.declared.channel.CodeChannel.{CodeChannel as TheChannel};
     ghost use Rattle.tuned_listener.specs.Marking.{IsUntold};
     ghost use Rattle.tuned_listener.specs.TunedListening.{ListensTuned, TellsTuned, TellsTunedPart};
     ghost use Rattle.tuned_listener.specs.TunedListening.{is_ahead, tuned_room};
@@ -109,7 +109,7 @@ impl TunedListener {
     pub fn open(
         alloc: Global,
         mobile: Mobile,
-        channel: Channel,
+        channel: CodeChannel,
         text: TunedText,
         phase: Phase,
         near: Near,

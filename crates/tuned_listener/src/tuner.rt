@@ -4,7 +4,7 @@ ghost use Rattle.tuned_listener.specs.FrameReceiving.{IsSoundTuner};
 
 use crate::channel_receiver::ChannelReceiver;
 use chip_core::{Phase, Sample};
-use heard_events::{Channel, Mark, SoftFrame};
+use heard_events::{CodeChannel, Mark, SoftFrame};
 use pilot_search::Near;
 use rake_finger::SampleRing;
 use short_code::Codes;
@@ -57,7 +57,7 @@ impl Tuner {
         ring: SampleRing,
         codes: Codes,
         mark: &Mark,
-        channel: &Channel,
+        channel: &CodeChannel,
         phase: Phase,
         near: &Near,
     ) -> Tuner

@@ -132,9 +132,9 @@ wings_more next m n k f whole few long long' before here there t b done =
       by_block (inr off) (inr off') =
           off_block half n (16 + k) t size (omega (arith, few)) long' off
           ∙ off_block next m k t whole (omega (arith, few)) long off'
-          ∙ before t b (left off off') where
-            left : (¬ (t / 8 ≡ 16 + k)) → (¬ (t / 8 ≡ k)) → t / 8 % 16 < k
-            left p q = omega (arith, b, done, p, q)
+          ∙ before t b (lane_before off off') where
+            lane_before : (¬ (t / 8 ≡ 16 + k)) → (¬ (t / 8 ≡ k)) → t / 8 % 16 < k
+            lane_before p q = omega (arith, b, done, p, q)
 
 -- EIGHT CHOICES WRITTEN
 in_byte : (choices : List ℕ) (bits j : ℕ) (f : ℕ → Bool) (t : ℕ) → length choices ≡ 32 → j < 32 →
@@ -172,6 +172,6 @@ choices_more choices bits bits' k f long few before here there t b done =
           ∙ in_byte choices bits k f t long (omega (arith, few)) here lower
       by_block (inr off) (inr off') =
           off_byte half (bits' % 256) (16 + k) t off ∙ off_byte choices (bits % 256) k t off'
-          ∙ before t b (left off off') where
-            left : (¬ (t / 8 ≡ 16 + k)) → (¬ (t / 8 ≡ k)) → t / 8 % 16 < k
-            left p q = omega (arith, b, done, p, q)
+          ∙ before t b (lane_before off off') where
+            lane_before : (¬ (t / 8 ≡ 16 + k)) → (¬ (t / 8 ≡ k)) → t / 8 % 16 < k
+            lane_before p q = omega (arith, b, done, p, q)

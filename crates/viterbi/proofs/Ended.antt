@@ -10,7 +10,7 @@ use Rattle.viterbi.proofs.Steps.{Into, order_by_state}
 use Rattle.viterbi.proofs.Finish.{survive_start, zero_start, IntoBelow, best_is}
 use Rattle.viterbi.proofs.Made.{end_count_le}
 use Rattle.viterbi.proofs.Living.{has_survivor}
-use Rattle.viterbi.proofs.Standing.{Stands}
+use Rattle.viterbi.proofs.Standing.{SurvivorsStand}
 
 -- BEFORE THE FIRST BIT
 abbrev begun : ℕ → Survivor
@@ -44,7 +44,7 @@ first_agrees columns Zero (suc t) = tt
 first_agrees columns Free t = (refl, (refl, binary-turned t))
 
 pub stands_first : (softs : List ℤ) (ends : Ends) (metrics : List ℤ) (columns : List (List ℕ)) →
-    ((t : ℕ) → t < 256 → get_or metrics t (pos 0) ≡ pos 0) → Stands softs ends 0 (pos 0) metrics columns
+    ((t : ℕ) → t < 256 → get_or metrics t (pos 0) ≡ pos 0) → SurvivorsStand softs ends 0 (pos 0) metrics columns
 stands_first softs ends metrics columns zeros = record {
   column = map (first_of ends) (range_with_len 0 256);
   survive = survive_start softs ends (map (first_of ends) (range_with_len 0 256))
@@ -73,7 +73,7 @@ traced_of softs ends n t metric columns (Some s) free h a =
 
 pub traced : (softs : List ℤ) (ends : Ends) (n : ℕ) (taken : ℤ) (metrics : List ℤ)
     (columns : List (List ℕ)) → forced_at ends n ≡ false →
-    Stands softs ends n taken metrics columns → (t : ℕ) → t < 256 →
+    SurvivorsStand softs ends n taken metrics columns → (t : ℕ) → t < 256 →
     IsTraced softs ends n t (get_or metrics t (pos 0) +ℤ taken) columns
 traced softs ends n taken metrics columns free h t b =
     traced_of softs ends n t (get_or metrics t (pos 0) +ℤ taken) columns (get_or h.column t None) free
@@ -87,7 +87,7 @@ most_stays x y taken h = omega (arith, ints, h)
 
 -- the first of the greatest metrics of the end states is the best codeword's
 pub ends_best : (softs : List ℤ) (ends : Ends) (n : ℕ) (taken : ℤ) (metrics : List ℤ)
-    (columns : List (List ℕ)) (end : ℕ) → forced_at ends n ≡ false → Stands softs ends n taken metrics columns →
+    (columns : List (List ℕ)) (end : ℕ) → forced_at ends n ≡ false → SurvivorsStand softs ends n taken metrics columns →
     IsFirstGreatest (λ t. get_or metrics t (pos 0)) (end_count ends) end → (b : end < 256)
     (s : IsTraced softs ends n end (get_or metrics end (pos 0) +ℤ taken) columns) →
     IsBest softs (IntoBelow ends n (end_count ends)) s.s
@@ -143,7 +143,7 @@ ends_best softs ends n taken metrics columns end free h g b s = record {
 -- the decoder's codeword and its score
 pub codeword_found : (softs : List ℤ) (ends : Ends) (n : ℕ) (taken : ℤ) (metrics : List ℤ)
     (columns : List (List ℕ)) (end start : ℕ) (bits : List Bool) → 8 ≤ n → 2 * n ≡ length softs →
-    Stands softs ends n taken metrics columns → IsFirstGreatest (λ t. get_or metrics t (pos 0)) (end_count ends) end →
+    SurvivorsStand softs ends n taken metrics columns → IsFirstGreatest (λ t. get_or metrics t (pos 0)) (end_count ends) end →
     start ≡ reverse_bits_onto 8 (path_origin columns n end) 0 → bits ≡ path columns n end →
     IsBestCodeword softs ends (spelled_codeword (record { start = start; bits = bits }))
     × (get_or metrics end (pos 0) +ℤ taken

@@ -112,9 +112,9 @@ tops_more value k most m n inner next few before wings all here there = record {
       rw (← is) (int_le_trans _ _ _ (wings.second (t % 8) lane) (all.second (t % 8) lane))
   by_block t b done (inr off) (inr off') =
       let lane : t % 8 < 8 = omega arith in
-      int_le_trans _ _ _ (before.over t b (left off off')) (all.first (t % 8) lane) where
-        left : (¬ (t / 8 ≡ k)) → (¬ (t / 8 ≡ 16 + k)) → t / 8 % 16 < k
-        left p q = omega (arith, b, done, p, q)
+      int_le_trans _ _ _ (before.over t b (lane_before off off')) (all.first (t % 8) lane) where
+        lane_before : (¬ (t / 8 ≡ k)) → (¬ (t / 8 ≡ 16 + k)) → t / 8 % 16 < k
+        lane_before p q = omega (arith, b, done, p, q)
 
 pub column_greatest : (value : ℕ → ℤ) (most next : List ℤ) (top : ℤ) → length next ≡ 256 →
     AreTops value 16 most → IsGreatest most top →

@@ -120,7 +120,7 @@ next_size taken top xs forced f s x bound t whole small is =
     (metric_size forced (moved taken xs) f s bound t (λ u b. rw (moved_read taken xs u whole b) (small u b)))
 
 -- there are survivors that the metrics, what was taken off them, and the first k columns give
-pub record Stands (softs : List ℤ) (ends : Ends) (k : ℕ) (taken : ℤ) (metrics : List ℤ)
+pub record SurvivorsStand (softs : List ℤ) (ends : Ends) (k : ℕ) (taken : ℤ) (metrics : List ℤ)
     (columns : List (List ℕ)) : Type 0 where
   pub column : List (Option Survivor)
   pub survive : Survive softs ends k column
@@ -129,14 +129,14 @@ pub record Stands (softs : List ℤ) (ends : Ends) (k : ℕ) (taken : ℤ) (metr
 -- one bit more
 pub step_stands : (softs : List ℤ) (ends : Ends) (k : ℕ) (taken top : ℤ) (metrics next : List ℤ)
     (columns columns' : List (List ℕ)) → 2 * k + 2 ≤ length softs → length metrics ≡ 256 →
-    Stands softs ends k taken metrics columns → Same k columns columns' →
+    SurvivorsStand softs ends k taken metrics columns → Same k columns columns' →
     ((t : ℕ) → t < 256 →
     get_or next t (pos 0) ≡ metric_into (forced_at ends k) metrics (get_or softs (2 * k) (pos 0))
     (get_or softs (2 * k + 1) (pos 0)) t -ℤ top) →
     ((t : ℕ) → t < 256 →
     took (get_or columns' k []) t ≡ choice_into (forced_at ends k) metrics
     (get_or softs (2 * k) (pos 0)) (get_or softs (2 * k + 1) (pos 0)) t) →
-    Stands softs ends (suc k) (taken +ℤ top) next columns'
+    SurvivorsStand softs ends (suc k) (taken +ℤ top) next columns'
 step_stands softs ends k taken top metrics next columns columns' room whole h same nexts choices =
     record {
       column = map (survivor_into h.column first second) (range_with_len 0 256);
@@ -169,7 +169,7 @@ step_stands softs ends k taken top metrics next columns columns' room whole h sa
 -- of other columns only the first k matter
 pub stands_same : (softs : List ℤ) (ends : Ends) (k : ℕ) (taken : ℤ) (metrics : List ℤ)
     (columns columns' : List (List ℕ)) → Same k columns columns' →
-    Stands softs ends k taken metrics columns → Stands softs ends k taken metrics columns'
+    SurvivorsStand softs ends k taken metrics columns → SurvivorsStand softs ends k taken metrics columns'
 stands_same softs ends k taken metrics columns columns' same h = record {
   column = h.column;
   survive = h.survive;

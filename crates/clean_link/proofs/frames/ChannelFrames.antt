@@ -19,7 +19,7 @@ use Rattle.clean_signal.specs.Signals.{IsFrameAt}
 use Rattle.rake_finger.specs.declared.form.Form.{Form}
 use Rattle.viterbi.specs.Signs.{HaveSigns}
 use Rattle.clean_signal.proofs.frames.Scores.{whole_frames}
-use Rattle.clean_signal.proofs.frames.Heard.{heard_shown, IsShown, order_of, own_of_span, shown_alone, shown_in_span, silent_in_span}
+use Rattle.clean_signal.proofs.frames.Heard.{heard_shown, AreFramesShown, order_of, own_of_span, shown_alone, shown_in_span, silent_in_span}
 use Rattle.clean_signal.proofs.frames.Heard.{stream_related}
 use Rattle.clean_link.proofs.frames.Times.{frames_begin, in_file_to, paging_file_to}
 use Rattle.heard_events.specs.PagingStreams.{paging_rate}
@@ -39,7 +39,7 @@ own-is count samples s k = refl
 
 -- a frame in the file has the bits that were sent
 pub shown_back : {count : ℕ} {samples : List Sample} {s : Stream} {bits_of : ℕ → List Bool} {base : ℕ} →
-    IsShown count samples s bits_of base → (k : ℕ) → is_in_file count s k ≡ true →
+    AreFramesShown count samples s bits_of base → (k : ℕ) → is_in_file count s k ≡ true →
     frame_own_bits count samples s k ≡ bits_of (base + k)
 shown_back {count} {samples} {s} is k here = own-is count samples s k ∙ shown_in_span is k here
 
@@ -136,10 +136,10 @@ zero_in width plan samples t k at silent on here =
 -- those in which each frame has the sent signs
 sync_shown : {width : Width} {plan : CellPlan} {samples : List Sample} (sync : SyncPlan) (t : Tuning) →
     HasSyncSigns width plan samples → plan.sync ≡ Some sync → IsOnPath plan t →
-    IsShown t.count samples (sync_stream t) (sync_frame_bits plan.cell sync.message) (first_sync_frame plan)
+    AreFramesShown t.count samples (sync_stream t) (sync_frame_bits plan.cell sync.message) (first_sync_frame plan)
 sync_shown {plan = plan} {samples = samples} sync t is sends on =
     subst
-    (λ (n : ℕ). IsShown n samples (sync_stream t) (sync_frame_bits plan.cell sync.message)
+    (λ (n : ℕ). AreFramesShown n samples (sync_stream t) (sync_frame_bits plan.cell sync.message)
     (first_sync_frame plan)) (sym on.count)
     (heard_shown samples (λ k. is.signs sync sends (first_sync_frame plan + k))
     (sync_heard plan sync t is.receivable.lawful.pn on) (sync_read plan sync t))
@@ -354,7 +354,7 @@ module _ (plan : CellPlan) (p : PagingPlan) (t : Tuning) (m : Mark) (superframes
 
   -- and those of all of them
   pub paging_shown : ((k : ℕ) → PagingFrameHasSigns plan p samples (4 * superframes + k)) →
-      IsShown t.count samples stream bits_of (4 * superframes)
+      AreFramesShown t.count samples stream bits_of (4 * superframes)
   paging_shown signs = record {
     whole = read_after.whole;
     each = read_after.each;

@@ -159,14 +159,14 @@ ends_there plan m k w is begun =
     (le-leb size (31 * (w + 1)) (omega (arith, is, long)))
 
 -- what a frame that ends a transmission tells
-pub record Ends (plan : CellPlan) (m : SyncFields) (k w : ℕ) : Type 0 where
+pub record EndsSending (plan : CellPlan) (m : SyncFields) (k w : ℕ) : Type 0 where
   pub begun : w ≤ k
   pub last : w ≡ last_frame plan m
 
 -- A frame that ends a transmission is its last one, and the file has its first one too. The test
 -- asks that the capsule goes on after the 31 bits of each earlier frame and is whole with this
 -- frame's, which only the frame with the capsule's last bit does.
-pub ends_tells : (plan : CellPlan) (m : SyncFields) (k w : ℕ) → ends_sending plan m k w ≡ true → Ends plan m k w
+pub ends_tells : (plan : CellPlan) (m : SyncFields) (k w : ℕ) → ends_sending plan m k w ≡ true → EndsSending plan m k w
 ends_tells plan m k w h =
     let size = length (sync_capsule plan.cell.check30 m) in
     let both = and_parts (nat_le w k && nat_lt (31 * w) size) (nat_le size (31 * (w + 1))) h in

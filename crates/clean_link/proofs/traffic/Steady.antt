@@ -21,7 +21,7 @@ use Rattle.clean_link.proofs.Common.{filter_ext_places, flat_map_ext_filter, fla
 use Rattle.pilot_sets.specs.Standing.{stepped}
 use Rattle.clean_link.proofs.frames.Times.{one_path, known_at_once}
 use Rattle.clean_signal.proofs.frames.Times.{IsAlone, inside_alone, room_alone}
-use Rattle.heard_events.specs.declared.channel.Channel.TheVariants.{Paging, Traffic as OnTraffic}
+use Rattle.heard_events.specs.declared.channel.CodeChannel.TheVariants.{Paging, Traffic as OnTraffic}
 use Rattle.paging_message.specs.declared.message.PagingMessage.TheVariants as pages
 use Rattle.traffic_message.specs.declared.body.TrafficBody.TheVariants as bodies
 use Rattle.heard_events.specs.declared.event.Event.TheVariants as kinds

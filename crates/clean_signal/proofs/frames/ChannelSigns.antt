@@ -6,7 +6,7 @@ use Rattle.clean_signal.proofs.Common.{IsAligned, frame_softs, NoisyChannelsHave
 use Rattle.clean_signal.proofs.Common.{NoisyStreamsShowSymbols}
 use Rattle.clean_signal.proofs.signal.CarriersApart.{plan_apart}
 use Rattle.clean_signal.proofs.noise.Near.{none_borne, near-self, IsSigned, signed_is, signed_turn}
-use Rattle.clean_signal.proofs.frames.Heard.{IsShown, shown_alone, heard_shown, order_of, stream_related}
+use Rattle.clean_signal.proofs.frames.Heard.{AreFramesShown, shown_alone, heard_shown, order_of, stream_related}
 use Rattle.clean_signal.proofs.signal.Rows.{level_at-alone, level_at-none}
 use Rattle.clean_signal.proofs.signal.Frames.{clean_relates, silent_softs, noisy_relates}
 use Rattle.clean_signal.specs.ChannelLaws as laws
@@ -59,7 +59,7 @@ stream_symbols width plan c s bits_of base k is has heard read here =
 pub noisy_shown : {width : Width} {plan : CellPlan} {c : Carrier} {s : StreamOf Channel}
     {bits_of : ℕ → List Bool} {base : ℕ} (e : ℕ) (samples : List Sample) → IsReceivable width plan →
     Contains (carriers plan) c → IsHeardBy plan c s base → AreReadBy c s bits_of base →
-    IsNear e samples (made_samples plan) → Bears plan c.gain e → IsShown plan.link.samples samples s bits_of base
+    IsNear e samples (made_samples plan) → Bears plan c.gain e → AreFramesShown plan.link.samples samples s bits_of base
 noisy_shown {width} {plan} {c} {s} {base = base} e samples is has heard read near bears =
     heard_shown samples (λ k. noisy_relates is c s.form e samples has near bears (base + k)) heard read
 

@@ -82,7 +82,7 @@ abbrev pub order_of : StreamOf Channel → (ℕ → List Bool) → ℕ → List 
 order_of s bits_of frame = sent s.channel.shape s.channel.repeats (continued_symbols bits_of frame)
 
 -- They have the signs of its symbols, whatever their sizes.
-pub record IsShown (count : ℕ) (samples : List Sample) (s : StreamOf Channel) (bits_of : ℕ → List Bool)
+pub record AreFramesShown (count : ℕ) (samples : List Sample) (s : StreamOf Channel) (bits_of : ℕ → List Bool)
     (base : ℕ) : Type 0 where
   pub whole : IsWholeChannel s.channel (symbols s.form)
   pub each : (k : ℕ) → length (bits_of k) ≡ s.channel.bits
@@ -99,7 +99,7 @@ own_of_span count samples s k =
     own_bits s.channel (span_frames count s k) (k - span_first count s k) (span_frame_softs count samples s k)
 
 module _ {count : ℕ} {samples : List Sample} {s : StreamOf Channel} {bits_of : ℕ → List Bool} {base : ℕ}
-    (is : IsShown count samples s bits_of base) (k : ℕ) (here : is_in_file count s k ≡ true) where
+    (is : AreFramesShown count samples s bits_of base) (k : ℕ) (here : is_in_file count s k ≡ true) where
   abbrev first : ℕ
   first = span_first count s k
 
@@ -230,7 +230,7 @@ module _ (R : Bool → ℤ → Type 0) (turns : Turns R) {plan : CellPlan} {c : 
 
 pub heard_shown : {plan : CellPlan} {c : Carrier} {s : StreamOf Channel} {bits_of : ℕ → List Bool} {base : ℕ}
     (samples : List Sample) → ((k : ℕ) → FrameRelates HasSign plan c s.form samples (base + k)) →
-    IsHeardBy plan c s base → AreReadBy c s bits_of base → IsShown plan.link.samples samples s bits_of base
+    IsHeardBy plan c s base → AreReadBy c s bits_of base → AreFramesShown plan.link.samples samples s bits_of base
 heard_shown samples relates heard read = record {
   whole = read.whole;
   each = read.each;

@@ -1,12 +1,12 @@
 use Rattle.tuned_listener.proofs.Common.{ints, common_steps, ◌++◌, [], List, arith, rules, subst, take, take_rest}
-use Rattle.tuned_listener.proofs.Common.{err_from_is_err_and, Sample, soft_frames, IsTunedTo, Tuning, Channel, HoldsFrames}
+use Rattle.tuned_listener.proofs.Common.{err_from_is_err_and, Sample, soft_frames, IsTunedTo, Tuning, CodeChannel, HoldsFrames}
 use Rattle.tuned_listener.proofs.Common.{tuned_text_of, slot_after, TunedText, WritesFrames, Mark, Tuner, ℕ}
 use Rattle.tuned_listener.proofs.Common.{FrameWriter, Option, Appends-nil, append-nil, refl, sym, text_from}
 use Rattle.tuned_listener.proofs.TunedFrames.{writes_all, writes_more, writes_part}
 use Rattle.tuned_listener.proofs.frame_writer.hear_frames.Goals as goal
 
 -- before the first sample no text is written
-writes_none : (t : Tuning) (channel : Channel) (m : Mark) (form : TunedText) (tuner : Tuner)
+writes_none : (t : Tuning) (channel : CodeChannel) (m : Mark) (form : TunedText) (tuner : Tuner)
     (writer : FrameWriter) (heard samples : List Sample) (sink : Option (List ℕ)) → IsTunedTo t channel m tuner heard →
     HoldsFrames writer t.check30 (slot_after [] (soft_frames t channel m heard)) →
     WritesFrames t channel m form tuner writer heard (heard ++ take 0 samples) sink sink
@@ -26,7 +26,7 @@ loop-taken-init g c = record {
   room = omega arith;
   ready = c.requires.ready;
   text = refl;
-  writes = λ (t : Tuning) (channel : Channel) (heard : List Sample).
+  writes = λ (t : Tuning) (channel : CodeChannel) (heard : List Sample).
       writes_none t channel _ _ _ _ heard c.args.samples.now _;
   later = omega arith;
 }

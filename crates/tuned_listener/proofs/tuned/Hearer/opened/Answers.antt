@@ -1,4 +1,4 @@
-use Rattle.tuned_listener.proofs.Common.{arith, ints, common_steps, ◌≡◌, [], subst, sym, Channel, IsTunedTo, soft_frames}
+use Rattle.tuned_listener.proofs.Common.{arith, ints, common_steps, ◌≡◌, [], subst, sym, CodeChannel, IsTunedTo, soft_frames}
 use Rattle.tuned_listener.proofs.TunedListeners.{can_open, lawful_channel, was_told}
 use Rattle.tuned_listener.proofs.tuned.Hearer.opened.Goals as goal
 
@@ -19,9 +19,9 @@ returns-in-Ahead-clause-listens c t channel heard told =
     let none = tuner.ensures.none t heard (sym ring.0) opens.phase_is opens.deltas_are ring.1 in (
       record {
         marked = marked.marked;
-        tuned = subst (λ (ch : Channel). IsTunedTo t ch m tuner.result heard) opens.channel_is tuned;
+        tuned = subst (λ (ch : CodeChannel). IsTunedTo t ch m tuner.result heard) opens.channel_is tuned;
       },
-      subst (λ (ch : Channel). soft_frames t ch m heard ≡ []) opens.channel_is none,
+      subst (λ (ch : CodeChannel). soft_frames t ch m heard ≡ []) opens.channel_is none,
     )
 
 pub returns-in-Ahead-clause-room : goal.returns-in-Ahead-clause-room

@@ -1,5 +1,6 @@
 use Rattle.tuned_listener.proofs.Common.{ints, common_steps, ◌≡◌, ◌∙◌, ℕ, ◌-◌, ◌++◌, ◌∷◌, [], List, append-nil, ap, arith, length, refl}
-use Rattle.tuned_listener.proofs.Common.{length-take, subst, sym, take, take_all, HasGiven, IsTunedTo, soft_frames, Channel, Mark, Sample}
+use Rattle.tuned_listener.proofs.Common.{length-take, subst, sym, take, take_all, HasGiven, IsTunedTo, soft_frames, CodeChannel, Mark}
+use Rattle.tuned_listener.proofs.Common.{Sample}
 use Rattle.tuned_listener.proofs.Common.{ChannelReceiver, SoftFrame, Tuning, none-some}
 use Rattle.tuned_listener.proofs.FramesGiven.{step_frame, step_none}
 use Rattle.tuned_listener.proofs.tuner.Tuner.step.Goals as goal
@@ -19,7 +20,7 @@ returns-then-samples-left c =
     let end = c.end.ensures in
     let at' = c.taken.ensures.value in
     let whole = take_all (length more) more (omega arith) in
-    let step = λ (t : Tuning) (channel : Channel) (m : Mark) (heard : List Sample) (st : IsTunedTo t channel m r heard).
+    let step = λ (t : Tuning) (channel : CodeChannel) (m : Mark) (heard : List Sample) (st : IsTunedTo t channel m r heard).
     step_none heard more st.given r.sound.receives.given
     (omega (arith, st.ring.taken, st.count_is, room, within)) (omega (arith, st.ring.taken, waits))
     (omega (arith, st.ring.taken, few, end, at')) in
@@ -56,7 +57,7 @@ returns c =
     let at' = c.taken.ensures.value in
     let long : length more ≡ n = omega (arith, length-take n c.args.samples.now, few) in
     let frame = c.take_frame in
-    let step = λ (t : Tuning) (channel : Channel) (m : Mark) (heard : List Sample) (st : IsTunedTo t channel m r heard).
+    let step = λ (t : Tuning) (channel : CodeChannel) (m : Mark) (heard : List Sample) (st : IsTunedTo t channel m r heard).
     step_frame heard more st.given r.sound.receives.given
     (omega (arith, st.ring.taken, st.count_is, room, within, long, few))
     (omega (arith, st.ring.taken, waits)) (omega (arith, st.ring.taken, long, end, at', waits)) in
