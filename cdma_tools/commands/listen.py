@@ -47,7 +47,7 @@ cell1-paging2.txt, with the lines that listening only to it writes, those of syn
 those of a paging channel as well. Without it all lines go to standard output. Objects of --json have `cell`, `carrier`
 and `channel`.
 
-With --cells K the K strongest cells of a file of samples are listened to, with --pn P the one with that PILOT_PN. Each
+With --cells K the K strongest cells of a file of samples are listened to, with --pn P those with that PILOT_PN. Each
 is freed of the others first, as import_capture does it. That takes longer than the recording lasts, and files of
 floating point in $TMPDIR: 8 bytes per sample, and as much again for each cell, for each carrier that is listened to at
 once. `cell` counts them by their strength.
@@ -132,8 +132,8 @@ def add_cells(words: argparse.ArgumentParser) -> None:
     cells = words.add_argument_group("several cells of a file of samples").add_mutually_exclusive_group()
     strongest = "listen to the K strongest cells, each without the others, which are decoded and subtracted"
     cells.add_argument("--cells", type=whole_within(1, MOST_RANK), metavar="K", help=strongest)
-    one = "listen only to the cell with PILOT_PN P, without the stronger ones"
-    cells.add_argument("--pn", type=whole_within(0, OFFSETS - 1), metavar="P", help=one)
+    named = "listen only to the cell with PILOT_PN P, without the stronger ones; may be repeated"
+    cells.add_argument("--pn", type=whole_within(0, OFFSETS - 1), action="append", metavar="P", help=named)
 
 
 def parser() -> Parser:
@@ -174,6 +174,12 @@ def has_channels(options: argparse.Namespace) -> bool:
     return is_several(options) or has_cells or len(shifts_of(options)) > 1 or options.out_dir is not None
 
 
+def check_cells(words: argparse.ArgumentParser, options: argparse.Namespace) -> None:
+    """Ends with status 2 if a cell is named twice."""
+    if len(set(options.pn or ())) != len(options.pn or ()):
+        words.error("--pn: a cell is given twice")
+
+
 def check_channels(words: argparse.ArgumentParser, options: argparse.Namespace) -> None:
     """Ends with status 2 if arguments of an output don't go with several channels."""
     if not has_channels(options):
@@ -190,6 +196,7 @@ def check(words: argparse.ArgumentParser, options: argparse.Namespace) -> None:
     """Ends with status 2 if arguments don't go together."""
     check_source(words, options)
     check_handset(words, options)
+    check_cells(words, options)
     check_channels(words, options)
     if options.append and options.out is None and options.out_dir is None:
         words.error("--append needs --out or --out-dir")
@@ -263,7 +270,7 @@ def cells_wanted(options: argparse.Namespace) -> CellsWanted | None:
     """Returns the cells that the options name, None if it is the strongest one of all."""
     if options.cells is None and options.pn is None:
         return None
-    return CellsWanted(options.cells, options.pn, find_program(options.program))
+    return CellsWanted(options.cells, tuple(options.pn or ()), find_program(options.program))
 
 
 def hear_channels(options: argparse.Namespace) -> bool:

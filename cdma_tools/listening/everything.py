@@ -116,8 +116,7 @@ def hear_file(
             return is_heard
         return False
 
-    has_cells = cells is not None and cells.pn is None
-    places = [replace(place, has_cells=has_cells) for place in places_on(shifts)]
+    places = places_on(shifts, cells)
     return any(done_at_once([Task(place.title, partial(hear_carrier, place)) for place in places], at_once))
 
 
@@ -166,9 +165,10 @@ def hear_cell(
     return hear_recording(recording, channels, sharing.part, workers, sharing.scheduler, show=sharing.show)
 
 
-def places_on(shifts: Sequence[float]) -> list[Place]:
-    """Returns the places of the strongest cell on carriers."""
-    return [Place(1, shift, has_carriers=len(shifts) > 1) for shift in shifts]
+def places_on(shifts: Sequence[float], cells: CellsWanted | None = None) -> list[Place]:
+    """Returns the places of the strongest cell on carriers, on which some cells are wanted."""
+    has_cells = cells is not None and cells.are_several
+    return [Place(1, shift, has_cells, len(shifts) > 1) for shift in shifts]
 
 
 class MakesWriters(Protocol):
@@ -199,9 +199,9 @@ def live_listening(lock: LockOptions, place: Place, wanted: Sequence[Wanted], wr
 class CarrierThread:
     """A listening to a carrier of a stream, in a thread of its own, which gets what comes of the stream."""
 
-    def __init__(self, live: LiveListening) -> None:
-        """Starts it."""
-        self.live, self.backlog = live, Backlog()
+    def __init__(self, live: LiveListening, backlog: Backlog | None = None) -> None:
+        """Starts it, with a backlog that others fill if there is one."""
+        self.live, self.backlog = live, backlog or Backlog()
         self.fault: BaseException | None = None
         self.thread = threading.Thread(target=self.run, daemon=True)
         self.thread.start()

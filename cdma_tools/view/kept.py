@@ -1,5 +1,6 @@
 """What a page shows of a listening, in bounded memory: the last lines, spectra and figures, and the newest panels.
 
+Lines and remarks are those of all cells that are followed; spectra, figures and most panels are kept for each cell.
 Lines, spectra and remarks are numbered. A page gets those after the last one that it has; if those were dropped
 meanwhile it gets the oldest that are kept, and the number of the missing ones.
 """
@@ -24,6 +25,9 @@ MOST_LINES, MOST_SPECTRA, MOST_REMARKS, MOST_POINTS = 5_000, 150, 200, 600
 MOST_SYNCS = 400
 # Messages that identify the base station, by their lines' words, and the names of their tables.
 IDENTITY = {("sync", None): "Sync message", ("paging", "system"): "System Parameters"}
+# Messages of the listening on one cell, which have its number; and the most cells that are kept.
+OF_A_CELL = ("spectrum", "figures")
+MOST_CELLS = 100
 # Figures that are shown over time.
 FIGURES = ("ec_io_db", "carrier_hz", "clock_ppm", "rho")
 FRAMES = ("frame", "frame2")
@@ -60,6 +64,11 @@ class Numbered(Generic[Thing]):
             yield place, self.kept[place - self.first]
 
 
+def cell_text(cell: Any, carrier: Any) -> str:
+    """Returns the text that names a cell: its number, and the carrier unless that is the one around the middle."""
+    return f"{cell} at {carrier} Hz" if carrier else str(cell)
+
+
 class Place(NamedTuple):
     """The cell, the carrier in Hz above the middle and the channel of a line, if several are listened to."""
 
@@ -78,7 +87,7 @@ class Place(NamedTuple):
     @property
     def cell_text(self) -> str:
         """Returns the cell, and the carrier unless that is the first one around the middle."""
-        return f"{self.cell} at {self.carrier} Hz" if self.carrier else str(self.cell)
+        return cell_text(self.cell, self.carrier)
 
 
 @dataclass(frozen=True)
@@ -141,6 +150,85 @@ class LinesFile:
         return f"/proc/{os.getpid()}/fd/{self.file.fileno()}"
 
 
+class Panels:
+    """The newest contents of panels by their names, each with its version."""
+
+    def __init__(self) -> None:
+        """None yet."""
+        self.contents: dict[str, tuple[int, Any]] = {}
+
+    def set(self, name: str, content: Any) -> None:
+        """Takes the newest content of a panel, which has a new version if it has changed."""
+        version, before = self.contents.get(name, (0, None))
+        if version == 0 or content != before:
+            self.contents[name] = version + 1, content
+
+
+class KeptCell:
+    """What is known of one cell that is followed."""
+
+    def __init__(self, name: str) -> None:
+        """Nothing yet of the cell of a name, which is empty if only one is followed."""
+        self.name = name
+        self.panels = Panels()
+        self.spectra = Numbered[dict[str, Any]](MOST_SPECTRA)
+        self.history: Thinned[list[float | None]] = Thinned(MOST_POINTS)
+        self.figures: dict[str, Any] = {}
+        self.quality: dict[str, float] = {}
+        self.identity: dict[str, list[list[str]]] = {}
+        self.pilot: int | None = None  # PILOT_PN of the last sync message
+        self.has_pages = False
+        self.lines = 0
+        self.syncs: deque[Event] = deque(maxlen=MOST_SYNCS)  # by chips from the recording's start
+        self.rows: dict[str, int | None] = {}  # of traffic channels by their names, by the last pilot sets
+
+    def take(self, kind: str, told: dict[str, Any]) -> None:
+        """Takes a message of the listening to the cell."""
+        if kind == "spectrum":
+            self.spectra.add(told)
+        elif kind == "figures":
+            self.figures = told
+            self.panels.set(kind, told)
+
+    def learn(self, read: dict[str, Any], text: str, channel: str) -> None:
+        """Notes what a line says about the base station, of its time, and of the traffic channel's row."""
+        words = read["line"], read.get("message")
+        self.lines += 1
+        if words[0] == "sync":
+            self.pilot = read["pn"]
+            self.syncs.append(Event(read["at"], text))
+        if words[0] == "sets":
+            rows = (row for pn, row, _ in read["active"] if pn == self.pilot)
+            self.rows[channel] = next(rows, self.rows.get(channel))
+        self.has_pages = self.has_pages or words[0] == "paging"
+        if name := IDENTITY.get(words):
+            self.identity[name] = [list(row) for row in rows_of(BY_WORDS[words], read)]
+            self.panels.set("identity", dict(self.identity))
+
+    def add_measured(self, seconds: float, panels: dict[str, Any], quality: dict[str, float]) -> None:
+        """Takes what was measured of the last chips, and adds a point to the figures over time."""
+        for name, panel in panels.items():
+            self.panels.set(name, panel)
+        self.quality = quality
+        self.panels.set("quality", quality)
+        told = {**self.figures, **quality}
+        self.history.add([seconds, *(told.get(name) for name in FIGURES)])
+
+    def shown(self) -> dict[str, Any]:
+        """Returns what a page shows of each cell, whichever is chosen."""
+        figures = self.figures
+        return {
+            "name": self.name,
+            "pn": self.pilot,
+            "ec_io_db": self.quality.get("ec_io_db"),
+            "state": figures.get("state", ""),
+            "lag": figures.get("lag", 0.0),
+            "lost_samples": figures.get("lost_samples", 0),
+            "lost_chips": figures.get("lost_chips", 0),
+            "lines": self.lines,
+        }
+
+
 class Kept:
     """What is known of one listening so far."""
 
@@ -148,21 +236,14 @@ class Kept:
         """Nothing yet of a source, which has a name."""
         self.name = name
         self.lines = Numbered[KeptLine](MOST_LINES)
-        self.spectra = Numbered[dict[str, Any]](MOST_SPECTRA)
         self.remarks = Numbered[dict[str, Any]](MOST_REMARKS)
         self.counts: Counter[str] = Counter()
         self.file = LinesFile()
-        self.figures: dict[str, Any] = {}
-        self.identity: dict[str, list[list[str]]] = {}
-        self.panels: dict[str, tuple[int, Any]] = {}  # each with its version
-        self.history: Thinned[list[float | None]] = Thinned(MOST_POINTS)
+        self.panels = Panels()  # those that don't belong to one cell
+        self.cells = [KeptCell("")]  # the first of which gets its name with the first line or message that has one
+        self.by_name: dict[str, KeptCell] = {}
         self.ended: dict[str, Any] | None = None
         self.base = self.end = 0  # chips: of the first line of this stream, and of the last one
-        self.pilot: int | None = None  # PILOT_PN of the last sync message
-        self.has_pages = False
-        self.syncs: deque[Event] = deque(maxlen=MOST_SYNCS)  # by chips from the recording's start
-        self.main: tuple[Any, Any] | None = None  # the cell and the carrier that the panels show, if there are others
-        self.rows: dict[str, int | None] = {}  # of traffic channels by their names, by the last pilot sets
 
     def take(self, data: bytes) -> None:
         """Takes a message of the listening: a line, or another one."""
@@ -170,13 +251,15 @@ class Kept:
         kind = told.pop("view", None)
         if kind is None:
             self.take_line(data, told)
-        elif kind == "spectrum":
-            self.spectra.add(told)
+        elif kind in OF_A_CELL:
+            self.cells[told.pop("number", 0)].take(kind, told)
         elif kind == "remark":
             self.remarks.add(told)
+        elif kind == "following":
+            for cell, carrier in told["places"]:
+                self.cell_of(cell_text(cell, carrier))
         else:
-            self.set_panel(kind, told)
-            self.figures = told if kind == "figures" else self.figures
+            self.panels.set(kind, told)
             self.ended = told if kind == "ended" else self.ended
 
     def take_line(self, data: bytes, read: dict[str, Any]) -> None:
@@ -194,35 +277,35 @@ class Kept:
         self.counts[kind if kind not in FRAMES else f"{kind} {read['rate']}{'' if read['good'] else ' bad'}"] += 1
         place = Place.taken_from(read)
         self.lines.add(KeptLine(kind, at / CHIP_RATE, text, read.pop(TIME_NAME, ""), read, place))
-        if self.is_main(place):
-            self.learn(read, text, "" if place is None else place.channel)
+        if cell := self.cell_at(place):
+            cell.learn(read, text, "" if place is None else place.channel)
 
-    def is_main(self, place: Place | None) -> bool:
-        """Whether a line is one of the cell that the panels show: the first that has any."""
-        if place is None:
-            return True
-        self.main = self.main or (place.cell, place.carrier)
-        return self.main == (place.cell, place.carrier)
+    def cell_at(self, place: Place | None) -> KeptCell | None:
+        """Returns the cell of a line; None if there are more cells than are kept."""
+        return self.cells[0] if place is None else self.cell_of(place.cell_text)
 
-    def learn(self, read: dict[str, Any], text: str, channel: str) -> None:
-        """Notes what a line says about the base station, of its time, and of the traffic channel's row."""
-        words = read["line"], read.get("message")
-        if words[0] == "sync":
-            self.pilot = read["pn"]
-            self.syncs.append(Event(read["at"], text))
-        if words[0] == "sets":
-            rows = (row for pn, row, _ in read["active"] if pn == self.pilot)
-            self.rows[channel] = next(rows, self.rows.get(channel))
-        self.has_pages = self.has_pages or words[0] == "paging"
-        if name := IDENTITY.get(words):
-            self.identity[name] = [list(row) for row in rows_of(BY_WORDS[words], read)]
-            self.set_panel("identity", self.identity)
+    def cell_of(self, name: str) -> KeptCell | None:
+        """Returns the cell of a name, a new one if none has it yet; None if there are more than are kept."""
+        if name not in self.by_name:
+            if not self.by_name:
+                self.cells[0].name = name
+            elif len(self.cells) < MOST_CELLS:
+                self.cells.append(KeptCell(name))
+            else:
+                return None
+            self.by_name[name] = self.cells[-1]
+        return self.by_name[name]
 
-    def set_panel(self, name: str, content: Any) -> None:
-        """Takes the newest content of a panel."""
-        version = self.panels[name][0] + 1 if name in self.panels else 1
-        self.panels[name] = version, content
+    def lines_of(self, cell: KeptCell) -> Iterator[bytes]:
+        """Yields the lines so far of a cell."""
+        is_first = cell is self.cells[0]
+        with open(self.file.path, "rb") as file:
+            for data in file:
+                place = Place.taken_from(json.loads(data))
+                if is_first if place is None else place.cell_text == cell.name:
+                    yield data
 
-    def add_point(self, seconds: float, told: dict[str, Any]) -> None:
-        """Adds a point to the figures over time."""
-        self.history.add([seconds, *(told.get(name) for name in FIGURES)])
+    def note_counts(self) -> None:
+        """Puts the numbers of lines, and what is shown of each cell, into panels."""
+        self.panels.set("counts", dict(self.counts))
+        self.panels.set("followed", [cell.shown() for cell in self.cells])

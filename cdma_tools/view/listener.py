@@ -6,7 +6,7 @@ import os
 import signal
 import sys
 import time
-from collections.abc import Iterator
+from collections.abc import Iterator, Sequence
 from dataclasses import replace
 
 from cdma_tools.commands import listen
@@ -14,7 +14,7 @@ from cdma_tools.errors import Refused, printable, text_of
 from cdma_tools.frequencies import frequency_given
 from cdma_tools.json_lines import LONGEST, as_json, as_line
 from cdma_tools.lines import NoLine
-from cdma_tools.listening.everything import CarrierListening, live_listening
+from cdma_tools.listening.everything import CarrierListening, places_on
 from cdma_tools.listening.line_writer import Already
 from cdma_tools.listening.options import counts_of, lock_options, shifts_of, source_of
 from cdma_tools.listening.parts import Recording
@@ -23,7 +23,8 @@ from cdma_tools.report.heard_lines import is_lines
 from cdma_tools.sources.live import Stream
 from cdma_tools.sources.stored import is_described, stored_of
 from cdma_tools.starting import INTERRUPTED
-from cdma_tools.view.chip_store import ChipKeeper, ChipStore
+from cdma_tools.view.chip_store import ChipStore
+from cdma_tools.view.following import FollowedCell, SeparateListening, separated_cells
 from cdma_tools.view.outbox import Outbox
 from cdma_tools.view.paced import PacedRecording
 from cdma_tools.view.watched import PageWriters, WatchedStream
@@ -85,30 +86,55 @@ def middle_of(options: argparse.Namespace) -> float | None:
     return frequency_given(options)
 
 
-def tell_listening(options: argparse.Namespace, outbox: Outbox, store: ChipStore) -> str:
+@contextlib.contextmanager
+def followed_cells(
+    options: argparse.Namespace, source: Stream | Recording, outbox: Outbox
+) -> Iterator[list[FollowedCell]]:
+    """Yields the cells that are followed, those of one carrier after the other, the strongest first."""
+    cells = listen.cells_wanted(options)
+    places = places_on(shifts_of(options), cells)
+    if cells is not None and isinstance(source, Recording):
+        with separated_cells(source, places, cells, options.speed, outbox) as found:
+            yield found
+        return
+    if isinstance(source, Recording):
+        lock = source.lock
+    else:
+        lock = lock_options(options, source.kind, source.rate, is_live=True)
+    yield [FollowedCell(place, replace(lock, shift=place.carrier)) for place in places]
+
+
+def tell_listening(options: argparse.Namespace, outbox: Outbox, stores: Sequence[ChipStore]) -> str:
     """Listens, and returns how it ended in words; refuses a source in which no pilot was found."""
     wanted, source = listen.channels_wanted(options), source_of(options)
-    is_live = not isinstance(source, Recording)
-    stream: Stream
-    if isinstance(source, Recording):
-        lock, stream = source.lock, PacedRecording.of(source, options.speed)
-    else:
-        lock, stream = lock_options(options, source.kind, source.rate, is_live=is_live), source
-    outbox.may_wait = not is_live
+    stream = PacedRecording.of(source, options.speed) if isinstance(source, Recording) else source
+    outbox.may_wait = isinstance(source, Recording)
     outbox.tell("source", rate=float(stream.rate), type=stream.kind, frequency=middle_of(options))
     writers = PageWriters(outbox, counts_of(options))
-    first, *others = listen.places_of(options)
-    watched = WatchedStream(lock, first, wanted, outbox, ChipKeeper(store), writers)
-    lives = [live_listening(replace(lock, shift=place.carrier), place, wanted, writers) for place in others]
-    everything: CarrierListening | WatchedStream = CarrierListening([watched, *lives]) if lives else watched
-    everything.hear(stream, NoOutput())
-    if not any(live.listening.is_heard for live in (watched, *lives)):
+    with followed_cells(options, source, outbox) as cells:
+        if listen.has_channels(options):
+            outbox.tell("following", places=[[cell.place.cell, cell.place.hertz] for cell in cells])
+        lives = [
+            WatchedStream(cell, number, wanted, outbox, stores[number], writers) for number, cell in enumerate(cells)
+        ]
+        hear(lives, [cell.stream for cell in cells if cell.stream is not None], stream)
+    if not any(live.listening.is_heard for live in lives):
         policy = policy_of(options)
         raise Refused(f"no pilot stands out anywhere {policy.searched(shifts_of(options)[0])}{policy.advice}")
-    return watched.summary(sum(live.written for live in lives))
+    return lives[0].summary(sum(live.written for live in lives[1:]))
 
 
-def run(options: argparse.Namespace, outbox: Outbox, store: ChipStore) -> int:
+def hear(lives: Sequence[WatchedStream], own: Sequence[Stream], stream: Stream) -> None:
+    """Listens to the streams that cells have of their own, or to the one of all."""
+    if own:
+        SeparateListening(list(zip(lives, own))).hear()
+    elif len(lives) > 1:
+        CarrierListening(lives).hear(stream, NoOutput())
+    else:
+        lives[0].hear(stream, NoOutput())
+
+
+def run(options: argparse.Namespace, outbox: Outbox, stores: Sequence[ChipStore]) -> int:
     """Reports everything, and its end; returns the exit status."""
     status, text = FAILED, ""
     try:
@@ -116,7 +142,7 @@ def run(options: argparse.Namespace, outbox: Outbox, store: ChipStore) -> int:
             outbox.may_wait = True
             text = tell_lines(options, outbox)
         else:
-            text = tell_listening(options, outbox, store)
+            text = tell_listening(options, outbox, stores)
         status = 0
     except Refused as why:
         text = str(why)
@@ -134,7 +160,7 @@ def run(options: argparse.Namespace, outbox: Outbox, store: ChipStore) -> int:
 class ListenerProcess:
     """A child of this process that listens; SIGINT ends it in order, a second one breaks it off."""
 
-    def __init__(self, options: argparse.Namespace, store: ChipStore, closed: list[int]) -> None:
+    def __init__(self, options: argparse.Namespace, stores: Sequence[ChipStore], closed: list[int]) -> None:
         """Starts it, while interrupts are blocked; `closed` are descriptors of files that are not the child's."""
         self.reader, writer = os.pipe()
         sys.stdout.flush()
@@ -147,7 +173,7 @@ class ListenerProcess:
             hear_only_parent()
             for descriptor in (self.reader, *closed):
                 os.close(descriptor)
-            status = run(options, Outbox(writer, may_wait=False), store)
+            status = run(options, Outbox(writer, may_wait=False), stores)
             sys.stderr.flush()
             os._exit(status)
         finally:

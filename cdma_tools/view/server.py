@@ -5,11 +5,13 @@ import gzip
 import importlib.util
 import json
 import os
+import re
 import secrets
 import signal
 import socket
+import tempfile
 import time
-from collections.abc import Callable
+from collections.abc import Callable, Sequence
 from concurrent.futures import ThreadPoolExecutor
 from typing import IO, Any
 
@@ -27,7 +29,7 @@ from cdma_tools.report.heard_lines import heard_lines
 from cdma_tools.starting import INTERRUPTED, called
 from cdma_tools.view.chip_store import ChipStore, Extent
 from cdma_tools.view.feed import Feed
-from cdma_tools.view.kept import Kept, KeptLine, field_rows
+from cdma_tools.view.kept import Kept, KeptCell, KeptLine, field_rows
 from cdma_tools.view.listener import ListenerProcess
 from cdma_tools.view.outbox import message_of
 from cdma_tools.view.safety import Door
@@ -35,13 +37,16 @@ from cdma_tools.view.steps import WHY_NONE, FrameAsked, Handset, MarkTold, of_ch
 from cdma_tools.view.waveform import WHOLE, Measured, Wanted, measured
 
 HERE = os.path.dirname(os.path.abspath(__file__))
-# Seconds from one update of a browser to the next, and from one measurement to the next.
-UPDATE_EVERY, MEASURE_EVERY = 0.1, 0.5
+# Seconds from one update of a browser to the next, from one measurement of a cell to the next, and from that of one cell
+# to that of another.
+UPDATE_EVERY, MEASURE_EVERY, TURN_EVERY = 0.1, 0.5, 0.25
 MOST_VIEWERS = 16
 # Seconds from one ping of a browser to the next, and without an answer after which it is gone. A machine that is very
 # busy may let a browser wait for half a minute.
 PING_EVERY, GONE = 20, 120
 LONGEST_MESSAGE, LONGEST_LINE = 1_000, 1 << 20  # bytes: of a browser's request, and of the listening's
+LONGEST_NUMBER, LONGEST_NAME = 4, 40  # characters of a cell's number in a request, and of its name in a file's
+NO_WORD = re.compile(r"[^0-9A-Za-z]+")
 # Seconds for which a listening may take to end, and a browser to take its end.
 ENDING, LAST_WORDS = 60.0, 1.0
 ASSETS = {"view.js": "text/javascript", "view.css": "text/css"}
@@ -55,20 +60,26 @@ class Hub:
 
     plotly: "asyncio.Future[bytes]"  # Plotly's script, compressed
 
-    def __init__(self, name: str, store: ChipStore, handset: Handset, row: int | None) -> None:
-        """No browser watches yet of the source of a name; the traffic channel begins on a row."""
-        self.kept, self.store, self.handset, self.row = Kept(name), store, handset, row
+    def __init__(self, name: str, stores: Sequence[ChipStore], handset: Handset, row: int | None) -> None:
+        """No browser watches yet of the source of a name, with a store of chips for each cell that may be followed;
+        the traffic channel begins on a row."""
+        self.kept, self.handset, self.row = Kept(name), handset, row
+        self.stores = stores
         self.number = secrets.token_hex(8)  # of this run, so that a page recognizes a new one
         self.viewers: set[Viewer] = set()
         self.worker, self.explainer = ThreadPoolExecutor(max_workers=1), ThreadPoolExecutor(max_workers=1)
-        self.measured = Extent(0, 0)  # chips that were measured last
+        self.measured: dict[KeptCell, tuple[float, Extent, Wanted]] = {}  # of each cell: when, and what, last
         self.is_measuring = False
-        self.counted = 0  # lines of the counts that were sent
+        self.turn = 0  # of the cell that is measured next
 
-    @property
-    def extent(self) -> Extent:
-        """Returns the chips that are kept."""
-        return Extent(*self.kept.figures.get("chips", (0, 0)))
+    def store_of(self, cell: KeptCell) -> ChipStore:
+        """Returns the store of a cell's chips, which is empty if the cell is not followed."""
+        number = self.kept.cells.index(cell)
+        return self.stores[number if number < len(self.stores) else 0]
+
+    def extent_of(self, cell: KeptCell) -> Extent:
+        """Returns the chips of a cell that are kept."""
+        return Extent(*cell.figures.get("chips", (0, 0)))
 
     async def take_all(self, descriptor: int) -> None:
         """Takes everything that the listener reports."""
@@ -85,51 +96,68 @@ class Hub:
 
     def update(self) -> None:
         """Sends each browser what is new."""
-        kept = self.kept
-        if self.viewers and kept.counts.total() != self.counted:
-            self.counted = kept.counts.total()
-            kept.set_panel("counts", dict(kept.counts))
+        if self.viewers:
+            self.kept.note_counts()
         for viewer in list(self.viewers):
             viewer.update()
 
     async def measure(self) -> None:
-        """Measures the last chips, if there are new ones."""
-        extent = self.extent
-        if self.is_measuring or extent.end - extent.first < WHOLE or extent == self.measured:
+        """Measures the last chips of the next cell that has new ones, if nothing is being measured."""
+        if self.is_measuring or (cell := self.next_measured()) is None:
             return
-        self.is_measuring, self.measured = True, extent
-        wanted = Wanted(
-            self.handset.paging if self.kept.has_pages else None, self.kept.pilot, self.kept.figures.get("kept", 1.0)
-        )
-        seconds = self.kept.figures["seconds"]
+        extent, wanted = self.extent_of(cell), self.wanted_of(cell)
+        self.is_measuring, self.measured[cell] = True, (time.monotonic(), extent, wanted)
+        seconds, store = cell.figures["seconds"], self.store_of(cell)
         try:
             loop = asyncio.get_running_loop()
-            told = await loop.run_in_executor(self.worker, self.measure_chips, extent.last(WHOLE), wanted)
+            told = await loop.run_in_executor(self.worker, measure_chips, store, extent.last(WHOLE), wanted)
         finally:
             self.is_measuring = False
         if told is not None:
-            for name, panel in told.panels.items():
-                self.kept.set_panel(name, panel)
-            self.kept.set_panel("quality", told.figures)
-            self.kept.add_point(seconds, {**self.kept.figures, **told.figures})
+            cell.add_measured(seconds, told.panels, told.figures)
+
+    def wanted_of(self, cell: KeptCell) -> Wanted:
+        """Returns what is known of a cell."""
+        return Wanted(self.handset.paging if cell.has_pages else None, cell.pilot, cell.figures.get("kept", 1.0))
+
+    def next_measured(self) -> KeptCell | None:
+        """Returns the cell whose turn it is, of those with enough chips of which something is new; None if there are
+        none."""
+        cells = self.kept.cells
+        for number in range(self.turn, self.turn + len(cells)):
+            if self.is_due(cells[number % len(cells)]):
+                self.turn = number % len(cells) + 1
+                return cells[number % len(cells)]
+        return None
+
+    def is_due(self, cell: KeptCell) -> bool:
+        """Whether a cell should be measured again."""
+        extent = self.extent_of(cell)
+        then, *last = self.measured.get(cell, (0.0, None, None))
+        is_new = last != [extent, self.wanted_of(cell)]
+        return is_new and extent.end - extent.first >= WHOLE and time.monotonic() >= then + MEASURE_EVERY
 
     async def steps(self, line: KeptLine) -> str:
         """Returns the steps of the frame in which a line ends, or why there are none."""
-        origin = self.kept.figures.get("origin", 0)
-        asked = FrameAsked.of(line.read, line.read.get("at", 0) + origin)
-        if asked is None or not self.extent.end or not self.kept.is_main(line.place):
+        cell = self.kept.cell_at(line.place)
+        if cell is None or not self.extent_of(cell).end:
             return WHY_NONE
-        told = [MarkTold.of(Event(sync.chip + origin, sync.line)) for sync in self.kept.syncs]
+        origin = cell.figures.get("origin", 0)
+        asked = FrameAsked.of(line.read, line.read.get("at", 0) + origin)
+        if asked is None:
+            return WHY_NONE
+        told = [MarkTold.of(Event(sync.chip + origin, sync.line)) for sync in cell.syncs]
         marks = [mark for mark in told if mark is not None]
         loop = asyncio.get_running_loop()
         channel = "" if line.place is None else line.place.channel
         handset, row = of_channel(self.handset, self.row, channel)
-        words = self.store, self.extent, asked, marks, handset, self.kept.rows.get(channel) or row
+        words = self.store_of(cell), self.extent_of(cell), asked, marks, handset, cell.rows.get(channel) or row
         return await loop.run_in_executor(self.explainer, steps_text, *words)
 
-    def measure_chips(self, extent: Extent, wanted: Wanted) -> Measured | None:
-        """Returns what chips show; runs in a thread of its own."""
-        return measured(self.store.samples(extent), extent.first, wanted)
+
+def measure_chips(store: ChipStore, extent: Extent, wanted: Wanted) -> Measured | None:
+    """Returns what chips show; runs in a thread of its own."""
+    return measured(store.samples(extent), extent.first, wanted)
 
 
 class Guarded(RequestHandler):
@@ -226,17 +254,26 @@ class Saved(Guarded):
     """A file of what was heard so far."""
 
     async def get(self, name: str, token: str | None = None) -> None:
-        """Sends the lines, a report of them, or the last chips as a sample file."""
+        """Sends the lines of all cells, a report of those of one, or its last chips as a sample file."""
+        cell, cells = self.cell(), self.hub.kept.cells
         kinds = {"lines.jsonl": "application/x-ndjson", "report.html": "text/html; charset=utf-8"}
         self.set_header("Content-Type", kinds.get(name, "application/octet-stream"))
-        self.set_header("Content-Disposition", f'attachment; filename="{name}"')
+        saved = file_name(name, cell.name if len(cells) > 1 else "")
+        self.set_header("Content-Disposition", f'attachment; filename="{saved}"')
         loop = asyncio.get_running_loop()
         if name == "report.html":
-            self.write(await loop.run_in_executor(self.hub.explainer, self.report))
+            self.write(await loop.run_in_executor(self.hub.explainer, self.report, cell))
         elif name == "lines.jsonl":
             await self.send(open(self.hub.kept.file.path, "rb"))
         else:
-            await self.send(await loop.run_in_executor(self.hub.explainer, self.sample_file))
+            await self.send(await loop.run_in_executor(self.hub.explainer, self.sample_file, cell))
+
+    def cell(self) -> KeptCell:
+        """Returns the cell of the number that the request has, the first one without a number."""
+        number, cells = self.get_query_argument("cell", "0") or "", self.hub.kept.cells
+        if not number.isascii() or not number.isdigit() or len(number) > LONGEST_NUMBER or int(number) >= len(cells):
+            raise HTTPError(404)
+        return cells[int(number)]
 
     async def send(self, file: IO[bytes]) -> None:
         """Sends a file, some at a time, so that a large one takes no memory."""
@@ -245,15 +282,29 @@ class Saved(Guarded):
                 self.write(data)
                 await self.flush()
 
-    def report(self) -> bytes:
-        """Returns the report of all lines so far."""
+    def report(self, cell: KeptCell) -> bytes:
+        """Returns the report of all lines so far of a cell."""
         from cdma_tools.report.lines_page import page_of_lines  # takes seconds to load, with all of Plotly
 
-        return page_of_lines(self.hub.kept.name, heard_lines(self.hub.kept.file.path)).encode()
+        kept = self.hub.kept
+        if len(kept.cells) == 1:
+            return page_of_lines(kept.name, heard_lines(kept.file.path)).encode()
+        with tempfile.NamedTemporaryFile(prefix="cdma-view-") as file:
+            file.writelines(kept.lines_of(cell))
+            file.flush()
+            return page_of_lines(f"{kept.name}, cell {cell.name}", heard_lines(file.name)).encode()
 
-    def sample_file(self) -> IO[bytes]:
-        """Returns the sample file of the last chips."""
-        return self.hub.store.sample_file(self.hub.extent.last(), self.hub.handset.flags)
+    def sample_file(self, cell: KeptCell) -> IO[bytes]:
+        """Returns the sample file of the last chips of a cell."""
+        return self.hub.store_of(cell).sample_file(self.hub.extent_of(cell).last(), self.hub.handset.flags)
+
+
+def file_name(name: str, cell: str) -> str:
+    """Returns the name under which a browser saves a file of a cell; that of the lines has all cells."""
+    if not cell or name == "lines.jsonl":
+        return name
+    stem, end = os.path.splitext(name)
+    return f"{stem}-cell-{NO_WORD.sub('-', cell)[:LONGEST_NAME]}{end}"
 
 
 class Viewer(Guarded, WebSocketHandler):
@@ -277,6 +328,7 @@ class Viewer(Guarded, WebSocketHandler):
         self.feed = Feed(self.hub.kept, self.hub.number)
         self.sending: asyncio.Future[None] | None = None
         self.is_explaining = False
+        self.hub.kept.note_counts()
         self.send(self.feed.first())
         self.hub.viewers.add(self)
 
@@ -285,12 +337,15 @@ class Viewer(Guarded, WebSocketHandler):
         self.hub.viewers.discard(self)
 
     async def on_message(self, message: str | bytes) -> None:
-        """Answers a click on a line: with its fields, or with the steps of its frame."""
+        """Answers a click on a line, with its fields or with the steps of its frame, or the choice of a cell."""
         asked = asked_for(message)
         if asked is None:
             self.close(1003)
             return
         what, number = asked
+        if what == "cell":
+            self.send(self.feed.chosen(number))
+            return
         line = self.hub.kept.lines.at(number)
         if what == "line":
             rows = field_rows(line.read) if line is not None else []
@@ -321,7 +376,8 @@ class Viewer(Guarded, WebSocketHandler):
 
 
 def asked_for(message: str | bytes) -> tuple[str, int] | None:
-    """Returns what a browser asks for, fields ("line") or steps of a line, and its number; None if it is neither."""
+    """Returns what a browser asks for, fields ("line") or steps of a line, or a cell, and the number of that; None if it
+    is something else."""
     try:
         asked = json.loads(message)
     except (ValueError, RecursionError):
@@ -329,7 +385,7 @@ def asked_for(message: str | bytes) -> tuple[str, int] | None:
     if not isinstance(asked, dict) or len(asked) != 1:
         return None
     what, number = next(iter(asked.items()))
-    return (what, number) if what in ("line", "steps") and type(number) is int else None
+    return (what, number) if what in ("line", "steps", "cell") and type(number) is int else None
 
 
 def bound(address: str, port: int) -> list[socket.socket]:
@@ -390,7 +446,7 @@ class Serving:
         server.add_sockets(sockets)
         ticks = [
             PeriodicCallback(self.hub.update, 1_000 * UPDATE_EVERY),
-            PeriodicCallback(self.hub.measure, 1_000 * MEASURE_EVERY),
+            PeriodicCallback(self.hub.measure, 1_000 * TURN_EVERY),
         ]
         for tick in ticks:
             tick.start()

@@ -12,6 +12,7 @@ const WITH_STEPS = ["sync", "paging", "frame", "frame2", "traffic"];  // lines t
 const COLORS = { "pilot": "#1f6fb2", "sync": "#d9822b", "paging": "#2a8c4a", "other": "#6b7a89", "not in use": "#d5dae0" };
 const LANES = ["frame", "traffic", "paging", "sync", "sets"];
 const FIGURES = [["Ec/Io, dB", "ec_io_db"], ["Carrier, Hz", "carrier_hz"], ["Clock, ppm", "clock_ppm"], ["rho", "rho"]];
+const CELL_PLOTS = ["spectrum", "domain", "symbols", "waterfall", "history", "correlation"];
 const FONT = { family: "system-ui, sans-serif", size: 10, color: "#22303c" };
 const AXIS = { zeroline: false, showline: true, linecolor: "#aab4bf", automargin: false };
 
@@ -19,8 +20,12 @@ const place = (name) => document.getElementById(name);
 let held, socket, isPaused = false, dirty = new Set();
 
 function emptied() {
-  return { run: "", source: {}, lines: [], kinds: new Set(), channels: new Set(), spectra: [], points: [], figures: {}, quality: {}, ended: null,
-           serial: 0, drawn: 0 };
+  return { run: "", source: {}, lines: [], kinds: new Set(), channels: new Set(), followed: [], ended: null, serial: 0, drawn: 0, ...emptiedCell(0) };
+}
+
+// What the page has of the one cell whose signal it shows.
+function emptiedCell(chosen) {
+  return { chosen, spectra: [], points: [], figures: {}, quality: {}, domain: null, symbols: null, correlation: null, cells: null, identity: null };
 }
 
 // Elements
@@ -47,16 +52,18 @@ function take(told) {
   if (told.hello) {
     held = emptied();
     held.run = told.hello.run;
-    held.points = told.hello.history;
     place("name").textContent = told.hello.name;
     document.title = told.hello.name;
     place("kind").replaceChildren(new Option("all types", ""));
     place("channel").replaceChildren(new Option("all channels", ""));
     place("channel").hidden = true;
     place("lines").className = "";
-    for (const name of ["lines", "cells", "station"]) fill(place(name), []);
-    dirty = new Set(["lines", "history", "spectrum", "waterfall", "timeline"]);
+    place("cell").replaceChildren();
+    place("cell").hidden = place("followed").hidden = true;
+    for (const name of ["lines", "followed"]) fill(place(name), []);
+    dirty = new Set(["lines", "figures"]);
   }
+  if (told.chosen) takeChosen(told.chosen);
   if (told.fields) {
     showFields(told.fields);
     return;
@@ -77,13 +84,23 @@ function take(told) {
     if (held.points.length > MOST_POINTS) held.points = held.points.filter((_, at) => at % 2 === 0);
     mark("history");
   }
-  for (const name of ["source", "figures", "quality", "domain", "symbols", "correlation", "cells", "identity", "counts", "ended", "missed"]) {
+  for (const name of ["source", "figures", "quality", "domain", "symbols", "correlation", "cells", "identity", "counts", "followed", "stage", "ended", "missed"]) {
     if (name in told) {
       held[name] = told[name];
-      mark(name === "missed" || name === "ended" ? "figures" : name);
+      mark(["missed", "ended", "stage"].includes(name) ? "figures" : name);
     }
   }
   if (told.figures) mark("timeline");
+}
+
+// Shows another cell: nothing of the one before stays.
+function takeChosen(chosen) {
+  Object.assign(held, emptiedCell(chosen.number), { points: chosen.history });
+  for (const name of CELL_PLOTS) Plotly.purge(place(name));
+  for (const name of ["domain-note", "cells-note", "figures-note"]) place(name).textContent = "";
+  for (const name of ["cells", "station"]) fill(place(name), []);
+  for (const name of ["report", "samples"]) place(`save-${name}`).search = chosen.number ? `?cell=${chosen.number}` : "";
+  mark("history", "spectrum", "waterfall", "timeline", "figures", "followed");
 }
 
 function addLine(line) {
@@ -94,13 +111,16 @@ function addLine(line) {
     held.kinds.add(line.kind);
     place("kind").append(new Option(line.kind, line.kind));
   }
-  addChannel(held.lines[held.lines.length - 1].where);
+  if (line.channel !== undefined) {
+    addChannel(`cell ${line.cell}`);
+    addChannel(`cell ${line.cell}, ${line.channel}`);
+  }
   mark("lines", "timeline");
 }
 
-// Shows the columns and the choice of channels once a line has one; several thousand of them would be no choice.
+// Shows the columns and the choice of cells and channels once a line has one; several thousand would be no choice.
 function addChannel(where) {
-  if (!where || held.channels.has(where) || held.channels.size >= MOST_CHANNELS) return;
+  if (held.channels.has(where) || held.channels.size >= MOST_CHANNELS) return;
   held.channels.add(where);
   place("channel").append(new Option(where, where));
   if (held.channels.size > 1) return;
@@ -121,19 +141,40 @@ const draw = {};
 draw.figures = () => {
   const figures = held.figures, state = place("state");
   place("seconds").textContent = figures.seconds === undefined ? "0" : figures.seconds.toFixed(1);
-  place("lag").textContent = `${(figures.lag || 0).toFixed(1)} s`;
-  const lost = [[figures.lost_samples, "samples"], [figures.lost_chips, "chips"], [figures.dropped_lines, "lines"]].filter(([count]) => count);
+  const all = held.followed.length ? held.followed : [{ lag: 0, lost_samples: 0, lost_chips: 0 }];
+  place("lag").textContent = `${Math.max(...all.map((one) => one.lag)).toFixed(1)} s`;
+  const sum = (name) => all.reduce((total, one) => total + one[name], 0);
+  const lost = [[sum("lost_samples"), "samples"], [sum("lost_chips"), "chips"], [figures.dropped_lines, "lines"]].filter(([count]) => count);
   place("lost").textContent = lost.map(([count, what]) => `${count.toLocaleString("en")} ${what}`).join(", ") || "none";
   place("missed").textContent = held.missed ? `${held.missed.toLocaleString("en")} updates` : "none";
   if (held.ended) {
     state.textContent = `ended: ${held.ended.text}`;
     state.className = held.ended.status ? "bad" : "good";
   } else {
-    state.textContent = figures.state || "waiting for the source";
+    state.textContent = figures.state || (held.stage ? held.stage.text : "waiting for the source");
     state.className = figures.is_locked ? "good" : "";
   }
   state.title = state.textContent;
   noteFigures();
+};
+
+// The choice of a cell, and what is shown of each, whichever is chosen.
+draw.followed = () => {
+  const choice = place("cell"), names = held.followed.map((one) => `cell ${one.name}${one.pn === null ? "" : `, PN ${one.pn}`}`);
+  names.forEach((name, at) => {
+    if (at === choice.options.length) choice.append(new Option(name, at));
+    else if (choice.options[at].text !== name) choice.options[at].text = name;
+  });
+  choice.hidden = place("followed").hidden = names.length < 2;
+  choice.value = String(held.chosen);
+  const number = (value, digits) => (value === null ? "" : value.toFixed(digits));
+  fill(place("followed"), choice.hidden ? [] : held.followed.map((one, at) => {
+    const made = row([one.name, one.pn === null ? "" : one.pn, number(one.ec_io_db, 2), number(one.lag, 1), one.lines.toLocaleString("en")]);
+    made.className = at === held.chosen ? "chosen" : "";
+    made.title = one.state;
+    return made;
+  }));
+  draw.figures();
 };
 
 draw.quality = noteFigures;
@@ -222,7 +263,9 @@ draw.history = () => {
 draw.timeline = () => {
   const end = Math.max(held.figures.seconds || 0, ...held.lines.slice(-MOST_ROWS).map((line) => line.seconds)), begin = Math.max(0, end - TIME_SHOWN);
   const lane = (line) => LANES.indexOf(line.kind.split(" ")[0].replace("frame2", "frame"));
-  const shown = held.lines.filter((line) => line.n >= 0 && line.seconds >= begin && lane(line) >= 0);
+  const chosen = held.followed.length > 1 ? held.followed[held.chosen].name : undefined;
+  const isOf = (line) => chosen === undefined || line.cell === chosen;
+  const shown = held.lines.filter((line) => line.n >= 0 && line.seconds >= begin && lane(line) >= 0 && isOf(line));
   const color = (line) => (line.good === 0 ? "#c0392b" : ["#6b7a89", "#0f7f86", "#2a8c4a", "#d9822b", "#6a4fb3"][lane(line)]);
   plot("timeline", [{ type: "scatter", mode: "markers", x: shown.map((line) => line.seconds), y: shown.map(lane), customdata: shown.map((line) => line.n),
                       marker: { size: 7, symbol: "line-ns-open", color: shown.map(color) }, hovertemplate: "%{x:.3f} s<extra></extra>" }],
@@ -236,7 +279,8 @@ function isShown(line) {
   const kind = place("kind").value, channel = place("channel").value;
   const words = place("text").value.toLowerCase().split(/\s+/).filter((word) => word);
   const text = `${line.kind} ${line.where} ${line.text}`.toLowerCase();
-  return (!kind || line.kind === kind) && (!channel || line.where === channel) && words.every((word) => text.includes(word));
+  const isThere = !channel || line.where === channel || `cell ${line.cell}` === channel;
+  return (!kind || line.kind === kind) && isThere && words.every((word) => text.includes(word));
 }
 
 function lineRow(line) {
@@ -306,7 +350,7 @@ function drawAll() {
   const names = [...dirty];
   dirty = new Set();
   for (const name of names) {
-    if (draw[name] && (name in held || name === "lines" || name === "history" || name === "waterfall" || name === "spectrum" || name === "timeline")) draw[name]();
+    if (draw[name] && held[name] !== null) draw[name]();
   }
   document.body.dataset.drawn = Number(document.body.dataset.drawn || 0) + 1;
 }
@@ -332,6 +376,9 @@ place("pause").addEventListener("click", () => {
 });
 place("filter").addEventListener("submit", (event) => event.preventDefault());
 place("kind").addEventListener("change", () => held && drawLinesAnew());
+place("cell").addEventListener("change", () => {
+  if (socket.readyState === WebSocket.OPEN) socket.send(JSON.stringify({ cell: Number(place("cell").value) }));
+});
 place("channel").addEventListener("change", () => held && drawLinesAnew());
 place("text").addEventListener("input", () => held && drawLinesAnew());
 place("lines").addEventListener("click", (event) => {

@@ -22,7 +22,8 @@ from cdma_tools.radio.strength import emptied
 from cdma_tools.recordings import TYPES
 from cdma_tools.sources.backlog import Backlog, Item
 from cdma_tools.starting import called
-from cdma_tools.view.chip_store import ChipKeeper
+from cdma_tools.view.chip_store import ChipKeeper, ChipStore
+from cdma_tools.view.following import FollowedCell
 from cdma_tools.view.outbox import Outbox
 from cdma_tools.view.spectrum_rows import SpectrumRows
 
@@ -128,23 +129,18 @@ class WatchedListening(Listening):
 
 
 class WatchedStream(LiveListening):
-    """Listening to a stream that reports to the page what arrives."""
+    """Listening to the cell of a number in a stream, which reports to the page what arrives."""
 
     def __init__(
-        self,
-        lock: LockOptions,
-        place: Place,
-        wanted: Sequence[Wanted],
-        outbox: Outbox,
-        keeper: ChipKeeper,
+        self, cell: FollowedCell, number: int, wanted: Sequence[Wanted], outbox: Outbox, store: ChipStore,
         made: PageWriters,
-    ) -> None:
-        """Nothing has come yet of the channels of a place."""
-        followed, writers = followed_channels(place, wanted, made)
-        handset = wanted[0].handset
+    ) -> None:  # fmt: skip
+        """Nothing has come yet of the channels of a cell."""
+        followed, writers = followed_channels(cell.place, wanted, made)
+        handset, lock, keeper = wanted[0].handset, cell.lock, ChipKeeper(store)
         super().__init__(lock, handset, writers[0], False, followed[1:], writers[1:])
         self.watched = self.listening = WatchedListening(lock, handset, writers[0], keeper, followed[1:])
-        self.outbox, self.keeper = outbox, keeper
+        self.number, self.outbox, self.keeper = number, outbox, keeper
         self.size = TYPES[lock.kind].size
         self.spectra = SpectrumRows(lock.kind)
         self.spectrum_due = Every(SPECTRUM_EVERY)
@@ -176,7 +172,7 @@ class WatchedStream(LiveListening):
         super().take(item)
 
     def summary(self, more: int = 0) -> str:
-        """Returns how the listening ended, in words; `more` lines were written of other carriers."""
+        """Returns how the listening ended, in words; `more` lines were written of other cells."""
         seconds, lines = self.listening.lock.seconds, self.written + more
         how = "stopped" if self.is_stopped else "the source ended"
         return f"{how} after {seconds:,.1f} s: {lines:,} lines, {self.lost:,} samples were lost"
@@ -186,7 +182,8 @@ class WatchedStream(LiveListening):
         lock = self.listening.lock
         levels = self.spectra.row(data[-len(lock.ring.rest) % self.size :])
         if levels is not None:
-            self.outbox.tell("spectrum", seconds=round(lock.seconds, 3), levels=levels.round(1).tolist())
+            told = {"seconds": round(lock.seconds, 3), "levels": levels.round(1).tolist()}
+            self.outbox.tell("spectrum", number=self.number, **told)
 
     def tell_figures(self) -> None:
         """Reports what the lock is doing, its carrier and clock, the chips that are kept, and what was lost."""
@@ -204,7 +201,7 @@ class WatchedStream(LiveListening):
             "origin": self.listening.origin,
             **self.timing(lock),
         }
-        self.outbox.tell("figures", **figures)
+        self.outbox.tell("figures", number=self.number, **figures)
 
     def timing(self, lock: StreamLock) -> dict[str, Any]:
         """Returns the carrier, the clock and the filter's part of a pulse's power, if a pilot is followed."""

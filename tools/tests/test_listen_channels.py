@@ -24,6 +24,7 @@ import numpy
 
 from cdma_tools.errors import Refused
 from cdma_tools.lines import read_line, spell_line
+from cdma_tools.listening.cells import CellsWanted, cells_of
 from cdma_tools.listening.channel_options import Traffic, traffic_in, traffic_of
 from cdma_tools.listening.channels import TRIAL, ChannelOutputs, Trial, wanted_channels
 from cdma_tools.listening.events import Collected, Event
@@ -450,6 +451,7 @@ class Words(unittest.TestCase):
         self.check("--shift: a carrier is given twice", "--shift", "5", "--shift", "5.0")
         self.check("--out goes with one channel", "--cells", "2", "--out", "x.txt")
         self.check("not allowed with argument", "--cells", "2", "--pn", "2")
+        self.check("--pn: a cell is given twice", "--pn", "2", "--pn", "2")
         for words in (("--cells", "2"), ("--pn", "9")):
             status, _, said = run_inside("listen", *STREAM, "--program", "/bin/true", "-", *words)
             self.assertEqual((status, said), (2, "listen: --cells and --pn go with a file of samples\n"))
@@ -494,6 +496,23 @@ class Parts(unittest.TestCase):
             self.assertEqual(tried, names[1:-1] if paging == () else [])
             self.assertTrue(all(one.handset.fingers == 2 for one in wanted))
         self.assertEqual(wanted_channels(base, (2,), [call])[1].handset.paging, 2)
+
+    def test_the_cells_that_are_wanted(self) -> None:
+        """Cells are looked for, the strongest first, until all are found whose PILOT_PNs are wanted."""
+        for pns, wanted, looked in (((7,), [2], 2), ((3, 7), [2, 3], 3), ((9,), [1], 1), ((3, 8), None, 3)):
+            search, lines = unittest.mock.Mock(), list[str]()
+            search.next_cell.side_effect = ["a", "b", "c", None]
+            sent = iter([9, 7, 3])
+            with (
+                unittest.mock.patch("cdma_tools.analysis.importing.written_pn", lambda *_: next(sent)),
+                unittest.mock.patch("cdma_tools.analysis.importing.told", lambda number, _, pn: f"{number}: {pn}"),
+            ):
+                if wanted is None:
+                    with self.assertRaisesRegex(Refused, "^3 cells were found, none of them with PILOT_PN 8: 9, 7, 3$"):
+                        cells_of(search, CellsWanted(None, pns, "program"), lines.append)
+                else:
+                    self.assertEqual(cells_of(search, CellsWanted(None, pns, "program"), lines.append), wanted)
+            self.assertEqual(lines, ["1: 9", "2: 7", "3: 3"][:looked])
 
     def test_a_channel_that_is_tried(self) -> None:
         page = "paging at=9 other type=42 bits=0:"

@@ -222,7 +222,7 @@ class WhatIsKept(unittest.TestCase):
         self.assertEqual((things.at(6), things.at(9), things.at(10)), (None, 19, None))
 
     def test_the_place_of_a_line(self) -> None:
-        """Lines have their cell and channel; only those of the first cell describe the base station."""
+        """Lines have their cell and channel, and describe the base station of their cell."""
         kept = Kept("x")
         self.addCleanup(kept.file.file.close)
         place = {"cell": 1, "carrier": 0, "channel": "paging1"}
@@ -232,7 +232,9 @@ class WhatIsKept(unittest.TestCase):
         told = [line.shown(number) for number, line in kept.lines.since(0, 9)]
         found = [(one["cell"], one["channel"], one["text"]) for one in told]
         self.assertEqual(found, [("1", "paging1", first), ("2", "paging1", other)])
-        self.assertEqual([row[1] for row in kept.identity["Sync message"] if row[0] == "SID"], ["4139"])
+        self.assertEqual([cell.name for cell in kept.cells], ["1", "2"])
+        sids = [{row[0]: row[1] for row in cell.identity["Sync message"]}["SID"] for cell in kept.cells]
+        self.assertEqual(sids, ["4139", "7"])
         self.assertFalse(any(name in line.read for name in place for line in kept.lines.kept))
 
     def test_memory_is_bounded(self) -> None:
@@ -244,10 +246,11 @@ class WhatIsKept(unittest.TestCase):
         for number in range(2_000):
             kept.take(b'{"view":"spectrum","seconds":%d,"levels":[1]}\n' % number)
             kept.take(b'{"view":"remark","seconds":%d,"text":"x"}\n' % number)
-            kept.add_point(number, {"rho": 1.0})
+            kept.cells[0].add_measured(number, {}, {"rho": 1.0})
         self.assertEqual(len(kept.lines.kept), MOST_LINES)
         self.assertEqual(kept.lines.count, MOST_LINES + 500)
-        self.assertLessEqual(max(len(kept.spectra.kept), len(kept.remarks.kept), len(kept.history.kept)), 700)
+        (cell,) = kept.cells
+        self.assertLessEqual(max(len(cell.spectra.kept), len(kept.remarks.kept), len(cell.history.kept)), 700)
         self.assertEqual(kept.counts["frame 1200"], MOST_LINES + 500)
 
 
@@ -283,6 +286,31 @@ class TheFeed(unittest.TestCase):
         self.assertEqual((news["lines"][0]["n"], len(news["lines"])), (1_000, 200))
         self.assertEqual([row["seconds"] for row in news["spectra"]], list(range(390, 400)))
         self.assertLess(len(json.dumps(news)), 50_000)
+
+    def test_the_choice_of_a_cell(self) -> None:
+        """A browser gets the panels, spectra and figures of the cell that it chose, and the lines of all cells."""
+        kept = self.kept
+        kept.take(b'{"view":"following","places":[[1,0],[2,0]]}\n')
+        for number in (0, 1, 1):
+            kept.take(b'{"view":"figures","number":%d,"seconds":%d}\n' % (number, number + 5))
+            kept.take(b'{"view":"spectrum","number":%d,"levels":[%d]}\n' % (number, number))
+        kept.cells[1].add_measured(2.0, {"domain": {"used": [0]}}, {"rho": 0.5})
+        kept.panels.set("counts", {"sync": 3})
+        news = self.feed.news()
+        self.assertEqual((news["figures"], news["spectra"]), ({"seconds": 5}, [{"levels": [0]}]))
+        self.assertNotIn("domain", news)
+        told = self.feed.chosen(1)
+        self.assertEqual(told["chosen"], {"number": 1, "history": [[2.0, None, None, None, 0.5]]})
+        self.assertEqual((told["figures"], told["spectra"]), ({"seconds": 6}, 2 * [{"levels": [1]}]))
+        self.assertEqual((told["domain"], told["quality"]), ({"used": [0]}, {"rho": 0.5}))
+        self.assertEqual(self.feed.news(), {})
+        kept.take(FRAME % 7)
+        kept.take(b'{"view":"figures","number":0,"seconds":9}\n')
+        self.assertEqual(set(self.feed.news()), {"lines"})
+        self.assertEqual(self.feed.chosen(0)["figures"], {"seconds": 9})
+        for number in (-1, 2, 10**9):
+            self.assertEqual(self.feed.chosen(number), {})
+        self.assertEqual(self.feed.number, 0)
 
     def test_only_changed_panels(self) -> None:
         self.kept.take(b'{"view":"figures","seconds":1}\n')
@@ -527,6 +555,37 @@ class TheServer(Server):
         ended = f"view: all {len(FOLLOWED)} lines were read; the page stays until Ctrl-C\n"
         self.assertEqual((status, said), (0, ended))
 
+    def test_cells_of_lines(self) -> None:
+        """Of lines of two cells each has its base station and its report, and the saved lines have both."""
+        lines = [line for line in FOLLOWED if not line.startswith("raw")]
+        others = [line.replace("sid=4139", "sid=77") for line in lines]
+        objects = [
+            json.dumps({**read_line(line), "cell": cell, "carrier": carrier, "channel": "paging1"})
+            for cell, carrier, some in ((1, 0, lines), (2, -1_250_000, others)) for line in some
+        ]  # fmt: skip
+
+        async def ask(connection: WebSocketClientConnection) -> list[dict[str, Any]]:
+            first = await told_until(connection, "ended")
+            await connection.write_message('{"cell":1}')
+            return [first, await told_until(connection, "chosen")]
+
+        _, url = self.start(self.keep("cells.jsonl", "".join(f"{line}\n" for line in objects)))
+        first, second = self.watch(url, ask)
+        self.assertEqual([one["name"] for one in first["followed"]], ["1", "2 at -1250000 Hz"])
+        self.assertEqual([one["pn"] for one in first["followed"]], [300, 300])
+        self.assertEqual([one["lines"] for one in first["followed"]], [len(lines)] * 2)
+        shown = [{row[0]: row[1] for row in told["identity"]["Sync message"]} for told in (first, second)]
+        self.assertEqual([one["SID"] for one in shown], ["4139", "77"])
+        self.assertEqual(self.fetched(url + "save/lines.jsonl?cell=1")[0].count(b"\n"), len(objects))
+        for number, (sid, other) in enumerate(((b"4139", b"=77 "), (b"77", b"=4139 "))):
+            page, headers = self.fetched(f"{url}save/report.html?cell={number}")
+            self.assertIn(b"sid=%s " % sid, page)
+            self.assertNotIn(b"sid%s" % other, page)
+            name = ("report-cell-1.html", "report-cell-2-at-1250000-Hz.html")[number]
+            self.assertEqual(headers["Content-Disposition"], f'attachment; filename="{name}"')
+        for wrong in ("2", "-1", "x", "1" * 5_000, "%D9%A1", ""):
+            self.assertEqual(self.status(f"{url}save/report.html?cell={wrong}"), 404, wrong)
+
     def test_fields_of_a_line(self) -> None:
         async def ask(connection: WebSocketClientConnection) -> dict[str, Any]:
             await told_until(connection, "ended")
@@ -625,6 +684,15 @@ class TheServer(Server):
             ((*raw, "--traffic", "00c0ffee:32:0"), 2, "no traffic channel on row 32"),
             ((*raw, "--shift", "1", "--shift", "1"), 2, "a carrier is given twice"),
             ((*raw, "--paging", "all", "--raw", "1"), 2, "--raw goes with one channel"),
+            ((*raw, "--cells", "2", "--raw", "1"), 2, "--raw goes with one channel"),
+            ((*raw, "--cells", "13"), 2, "--cells"),
+            ((*raw, "--pn", "512"), 2, "--pn"),
+            ((*raw, "--cells", "2", "--pn", "3"), 2, "not allowed with argument"),
+            ((*raw, "--pn", "3", "--pn", "3"), 2, "--pn: a cell is given twice"),
+            ((self.lines, "--cells", "2"), 2, "--cells and --pn go with a file of samples"),
+            ((*raw[:4], "-", "--cells", "2"), 2, "--cells and --pn go with a file of samples"),
+            (("--rate", "2M", "rtl_tcp://127.0.0.1:9", "--pn", "1"), 2, "--cells and --pn go with a file of samples"),
+            ((*raw, "--cells", "12", *(f"--shift={hertz}" for hertz in range(6))), 2, "more than 64 cells"),
         ):
             with self.subTest(words=words):
                 ended, wrote, said = run_inside("view", *words, "--no-browser", "--program", "/bin/true")

@@ -6,6 +6,7 @@ If Chromium, its driver (Debian's chromium and chromium-driver) or python3-selen
 from __future__ import annotations
 
 import json
+import math
 import os
 import random
 import signal
@@ -31,7 +32,7 @@ from tools.tests.test_report import MARKUP  # noqa: E402
 from tools.tests.test_report_browser import started  # noqa: E402
 from tools.tests.test_view import SECONDS, Server, children_of  # noqa: E402
 
-CHIPS = 6 * 1_228_800
+CHIPS, TWO_CHIPS = 6 * 1_228_800, 3 * 1_228_800
 HANDSET = ("--esn", "00c0ffee", "--row", "20")  # of the traffic channel of a drawn cell
 PANELS = ("spectrum", "waterfall", "domain", "symbols", "correlation", "history", "timeline")
 
@@ -215,6 +216,109 @@ class ARecording(Watched):
         self.driver.find_element(By.ID, "steps").click()
         self.wait_text("steps-text", "=> good, at 9600 bits a second")
         self.driver.find_element(By.ID, "close").click()
+
+
+@unittest.skipUnless(PROGRAM, NO_PROGRAM)
+class TwoCells(Watched):
+    """Both cells of a recording, each without the other."""
+
+    cells: ClassVar[list[DrawnCell]]
+    meta: ClassVar[str]
+
+    @classmethod
+    def setUpClass(cls) -> None:
+        super().setUpClass()
+        folder = temporary_folder(cls.addClassCleanup)
+        draws = random.Random("two views")
+        cls.cells = [drawn_cell(draws, pn, (other,)) for pn, other in ((300, 168), (168, 300))]
+        files = [cell.write(os.path.join(folder, f"{cell.pn}.is95"), TWO_CHIPS) for cell in cls.cells]
+        cls.meta = os.path.join(folder, "radio.sigmf-meta")
+        words = ["--type", "cu8", "--rate", "1.5M", "--seed", 3, "--carrier", 3_000, "--clock", 4, "--ec-io", -8]
+        status, _, said = run_main("channel", *words, files[0], f"{files[1]}:-4:20", cls.meta)
+        assert status == 0, said
+
+    def test_each_cell(self) -> None:
+        """The choice of a cell shows its signal and its base station; the table has the lines of both."""
+        process, url = self.start(self.meta, "--cells", "2", "--program", str(PROGRAM))
+        self.resize(1_280, 800)
+        self.driver.get(url)
+        self.wait_text("state", "taking the cells apart")
+        self.wait_text("state", "following the pilot")
+        choice = Select(self.driver.find_element(By.ID, "cell"))
+        self.until("return document.getElementById('cell').options.length === 2")
+        self.check_cell(0)
+        choice.select_by_index(1)
+        self.check_cell(1)
+        self.wait_text("state", "ended: the source ended after ")
+        self.check_cell(1)
+        choice.select_by_index(0)
+        self.check_cell(0)
+        names = [f"cell {number}, PN {cell.pn}" for number, cell in enumerate(self.cells, 1)]
+        self.assertEqual([option.text for option in choice.options], names)
+        self.check_filter()
+        self.check_saved(url)
+        self.quiet()
+        status, said = self.ended(process)
+        self.assertEqual((status, said.count("\n")), (0, 3), said)
+
+    def truth(self, number: int) -> tuple[float, float, list[dict[str, Any]]]:
+        """The Ec/Io of a cell without the other, the carrier, and what the recording's .sigmf-meta says of each."""
+        with open(self.meta, encoding="utf-8") as file:
+            note = json.load(file)["annotations"][0]
+        told, cells = figures(note["core:comment"]), note["cdma_tools:cells"]
+        power = cells[0]["pilot"] / 10 ** (float(told["ec_io_db"]) / 10) - cells[1 - number]["power"]
+        return 10 * math.log10(cells[number]["pilot"] / power), float(told["carrier_hz"]), cells
+
+    def check_cell(self, number: int) -> None:
+        """The chosen cell's PN, Ec/Io, carrier, rows, symbols and base station are those that were sent."""
+        cell, (ec_io, carrier, _) = self.cells[number], self.truth(number)
+        self.until("return document.querySelector('#cells td')?.textContent === arguments[0]", str(cell.pn))
+        self.wait_text("station", "BASE_ID")
+        shown = {row[0]: row[1] for row in self.rows("station") if len(row) == 3}
+        wanted = {"SID": cell.sid, "NID": cell.nid, "PILOT_PN": cell.pn, "BASE_ID": cell.base}
+        self.assertEqual({name: int(shown[name]) for name in wanted}, wanted)
+        self.wait_text("figures-note", "carrier")
+        words = self.text("figures-note").replace(",", "").split()
+        self.assertAlmostEqual(float(words[words.index("carrier") + 1]), carrier, delta=8)
+        self.assertAlmostEqual(float(words[words.index("Ec/Io") + 1]), ec_io, delta=0.3)
+        for name in PANELS:
+            self.until("return document.getElementById(arguments[0]).data", name)
+        used = [row for row, (_, kind) in enumerate(self.plot("domain", "data[0].customdata")) if kind != "not in use"]
+        self.assertEqual(used, [0, 1, 20, 32])
+        self.until("return document.getElementById('symbols').data.length === 3")
+        levels = self.plot("correlation", "data[0].customdata")
+        self.assertEqual(levels.index(max(levels)), len(levels) // 2)
+        followed = self.rows("followed")
+        self.assertEqual([row[0] for row in followed], ["1", "2"])
+        self.assertEqual(followed[number][1], str(cell.pn))
+        self.assertAlmostEqual(float(followed[number][2]), ec_io, delta=0.3)
+
+    def check_filter(self) -> None:
+        """A choice of a cell, and one of a channel, leave its lines."""
+        choice = Select(self.driver.find_element(By.ID, "channel"))
+        for number, cell in enumerate(self.cells, 1):
+            for name in (f"cell {number}", f"cell {number}, paging1"):
+                choice.select_by_visible_text(name)
+                rows = self.rows("lines")
+                self.assertGreater(len(rows), 30)
+                self.assertEqual({row[2] for row in rows}, {str(number)})
+                words = {word for row in rows for word in row[4].split() if word.startswith("pn=")}
+                self.assertEqual(words, {f"pn={cell.pn}"})
+        choice.select_by_visible_text("all channels")
+        self.assertEqual({row[2] for row in self.rows("lines")}, {"1", "2"})
+
+    def check_saved(self, url: str) -> None:
+        """The saved lines have their cells; the samples of each are followed again, and it has a report of its own."""
+        lines = [json.loads(line) for line in self.fetched(url + "save/lines.jsonl")[0].splitlines()]
+        for number, cell in enumerate(self.cells):
+            own = [line for line in lines if line["cell"] == number + 1]
+            self.assertEqual({line["sid"] for line in own if line["line"] == "sync"}, {cell.sid})
+            report, _ = self.fetched(f"{url}save/report.html?cell={number}")
+            self.assertIn(f"sid={cell.sid} ".encode(), report)
+            self.assertNotIn(f"sid={self.cells[1 - number].sid} ".encode(), report)
+            samples, _ = self.fetched(f"{url}save/samples.is95?cell={number}")
+            ran = subprocess.run([str(PROGRAM), "follow", "--messages", "1"], input=samples, capture_output=True)
+            self.assertIn(f" sid={cell.sid} nid={cell.nid} pn={cell.pn} ".encode(), ran.stdout)
 
 
 class Lines(Watched):
