@@ -127,7 +127,9 @@ class Installs(unittest.TestCase):
         self.refused("no program at", *words)
         os.unlink(self.program)
         self.refused("no program at .*: build it first", *words)
-        self.keep(STANDS_FOR)
+
+    def test_a_prefix_that_is_a_file(self) -> None:
+        needs(*MAKERS)
         self.refused("Not a directory|File exists", "--program", self.program, self.program)
 
     def test_a_missing_package_is_named_and_nothing_is_installed(self) -> None:
