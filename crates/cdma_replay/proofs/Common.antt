@@ -72,6 +72,7 @@ pub use Rattle.tuned_listener.specs.TunedListening.{ListensTuned, TellsTuned, Te
 pub use Rattle.tuned_listener.specs.declared.tuned.TunedListener.{TunedListener}
 pub use Rattle.cdma_replay.specs.Common.{AppendsPrefix, ConsumesAtMost, Event, FileFault, HasBits, IsEnd, IsFaultIn, IsLawfulHeader, Mobile}
 pub use Rattle.cdma_replay.specs.Common.{IsRestFault, Sample, TakesSpan, events, sample_len, sample_spelling, width_of}
-pub use Rattle.cdma_replay.specs.Listeners.{BeginsAfter, HandsetGave, HasRoom, HasRoomFor, HasTold, HearsRest, IsBest, IsFreshListener}
-pub use Rattle.cdma_replay.specs.Listeners.{ListenerTells, Listens}
+pub use Rattle.cdma_replay.specs.Listeners.{HasRoom, IsFreshListener, Listens}
+pub use Rattle.run_replies.specs.Listeners.{BeginsAfter, ListenerTells}
+pub use Rattle.run_replies.specs.Handsets.{IsBest}
 pub use Rattle.cdma_replay.specs.declared.listener.Listener.{Listener}

@@ -1,3 +1,2 @@
 pub mod Common
 pub mod Listeners
-pub mod Pilots

@@ -6,7 +6,6 @@
 //! and its standard input, output and error.
 #![tactic(auto)]
 
-mod handset;
 mod listener;
 mod opening;
 #[cfg(test)]
@@ -19,7 +18,6 @@ mod test_runs;
 mod trial;
 #[cfg(test)]
 mod worker_tests;
-mod workspace;
 
 use cdma_io::{ReaderSource, WriterSink};
 pub use command_line::{Job, WordFault, words_of};

@@ -1,28 +1,24 @@
 //! Opens the listener of a job from a file's first samples.
 
 ghost use Rattle.cdma_replay.specs.Common.{Sample as TheSample, IsLawfulHeader, IsFingers};
-ghost use Rattle.cdma_replay.specs.Common.{IsLawfulJob, IsWorkers};
-ghost use Rattle.std.specs.Prelude.{◌≡◌, ◌≤◌, ℕ, List, [], IfOk, length};
-ghost use Rattle.command_line.specs.Args.{IsBase, IsTop, IsWidth};
+ghost use Rattle.cdma_replay.specs.Common.{IsLawfulJob};
+ghost use Rattle.std.specs.Prelude.{◌≡◌, ◌≤◌, List, [], IfOk, length};
 ghost use Rattle.tuned_listener.specs.TunedListening.{ListensTuned, tuned_room};
-ghost use Rattle.event_tap.specs.EventLines.{event_line};
 ghost use Rattle.event_tap.specs.TunedTexts.{IsLawfulTuned};
-ghost use Rattle.run_replies.specs.Hearing.{AreNearTo, AreReady, ByFrames, ByTaps, Unheard};
-ghost use Rattle.run_replies.specs.Hearing.{IsLawfulHandset, best_pilot, listening, settings_for};
+ghost use Rattle.run_replies.specs.Handsets.{IsBest};
+ghost use Rattle.run_replies.specs.Hearing.{AreNearTo, AreReady, ByFrames, ByTaps};
+ghost use Rattle.run_replies.specs.Hearing.{IsLawfulHandset, listening, settings_for};
 ghost use Rattle.run_replies.specs.Hearing.{tuning_for, waiting};
-ghost use Rattle.run_replies.specs.Ranks.{survey_text};
-ghost use Rattle.cdma_replay.specs.Listeners.{IsBest, IsListenerFor};
+ghost use Rattle.cdma_replay.specs.Listeners.{IsListenerFor};
 
-use crate::handset::{boxed_handset, handset, settings_for};
 use crate::listener::Listener;
 use cdma_io::Header;
-use chip_core::{OutOfMemory, Phase, Sample, Traffic};
+use chip_core::{OutOfMemory, Sample, Traffic};
 use command_line::Job;
 use event_tap::TunedText;
 use mobile_core::{CodeChannel, Settings};
 use pilot_search::{Best, Gate, Near, near, search};
-use pilot_survey::survey;
-use run_replies::Findings;
+use run_replies::{boxed_handset, find_pilot, open_handset, rank_pilots, settings_for};
 use short_code::Codes;
 use std::alloc::Global;
 use std::thread::Threads;
@@ -53,27 +49,9 @@ fn tuned_listener(
     ensures room { IfOk result (λ tuned. tuned_room tuned.value ≡ settings.count) }
 {
     let Best { phase, .. } = best;
-    let mobile = handset(alloc, settings, best, near, codes)?;
+    let mobile = open_handset(alloc, settings, best, near, codes)?;
     let tuned = TunedListener::open(alloc, mobile, channel, text, phase, near)?;
     Ok(Box::new(alloc, tuned)?)
-}
-
-/// Searches the pilot; nobody hears the file.
-fn find_pilot<R: Threads + Sync, G: Gate + Sync>(
-    rt: &R,
-    alloc: Global,
-    codes: Codes,
-    first: &[Sample],
-    workers: u8,
-    gate: &G,
-) -> Result<Listener, OutOfMemory>
-    requires few { length first.now ≤ 32768 }
-    requires workers { IsWorkers workers }
-    ensures { (count : ℕ) →
-        IfOk result (IsListenerFor (λ taps. Unheard (event_line (best_pilot first.now))) count) }
-{
-    let best = search(rt, alloc, first, &codes, workers, gate)?;
-    Ok(Listener::Unheard(Findings::Pilot(best)))
 }
 
 /// Opens a handset for a file with this header, on the paths near the pilot in its first samples.
@@ -125,29 +103,6 @@ fn tuned_near(
     let settings = settings_for(&header, fingers, 1, None);
     let tuned = tuned_listener(alloc, settings, *best, paths, channel, text, codes)?;
     Ok(Listener::Tuned(tuned))
-}
-
-/// Ranks the pilots by strength; nobody hears the file.
-fn rank_pilots<R: Threads + Sync, G: Gate + Sync>(
-    rt: &R,
-    alloc: Global,
-    base: u16,
-    width: u8,
-    top: u16,
-    codes: Codes,
-    first: &[Sample],
-    workers: u8,
-    gate: &G,
-) -> Result<Listener, OutOfMemory>
-    requires lawful { IsBase base × IsWidth width × IsTop top }
-    requires few { length first.now ≤ 32768 }
-    requires workers { IsWorkers workers }
-    ensures { (count : ℕ) →
-        IfOk result (IsListenerFor (λ taps. Unheard (survey_text base width top first.now)) count) }
-{
-    let base = Phase::new(base).unwrap();
-    let ranks = survey(rt, alloc, first, &codes, base, width, workers, gate)?;
-    Ok(Listener::Unheard(Findings::Ranks { ranks, top }))
 }
 
 /// Opens the listener of a job, given a file's header and first samples.
@@ -222,7 +177,13 @@ pub fn listener_for<R: Threads + Sync, G: Gate + Sync>(
             width,
             top,
             ..
-        } => rank_pilots(rt, alloc, base, width, top, codes, first, workers, gate),
-        _ => find_pilot(rt, alloc, codes, first, workers, gate),
+        } => {
+            let ranks = rank_pilots(rt, alloc, base, width, top, codes, first, workers, gate)?;
+            Ok(Listener::Unheard(ranks))
+        }
+        _ => {
+            let pilot = find_pilot(rt, alloc, codes, first, workers, gate)?;
+            Ok(Listener::Unheard(pilot))
+        }
     }
 }

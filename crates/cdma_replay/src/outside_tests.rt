@@ -3,13 +3,13 @@
 //! would succeed. The cases of `conformance/` show the output of ordinary runs.
 
 use crate::Status;
-use crate::program::Output;
 use crate::test_runs::{
     Ran, STEADY, TRIAL_LINE, UNBROKEN, ZERO_LINE, ZERO_RANK, run, run_tapped, zeros,
 };
 use cdma_io::{Failed, WriterSink};
 use event_tap::{MessageTap, PilotTap, Tap};
 use pilot_search::Open;
+use run_replies::Output;
 use std::io;
 use std::io::{ErrorKind, Write};
 use std::test::Fail;

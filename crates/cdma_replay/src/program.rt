@@ -1,51 +1,25 @@
 //! What the process does with its arguments and standard streams.
 
-ghost use Rattle.cdma_replay.specs.Common.{CountsFaults, HasCause, Rose, job_named, IsEnd};
-ghost use Rattle.std.specs.Prelude.{◌≡◌, ◌≢◌, ◌↔◌, ◌⊎◌, Bool, IfErr, IfOk, IsTrue, OnErr, OnOk};
-ghost use Rattle.std.specs.Prelude.{drop, map, true};
+ghost use Rattle.cdma_replay.specs.Common.{Rose, job_named};
+ghost use Rattle.std.specs.Prelude.{◌≡◌, ◌≢◌, IfErr, IfOk, IsTrue, OnErr, drop, map};
 ghost use Rattle.std.specs.Io.KnownBytes.{Keeps};
 ghost use Rattle.std.specs.IoError.{error_kind};
 ghost use Rattle.std.specs.Process.{exit_status};
-ghost use Rattle.run_replies.specs.Runs.{ExitsBy, IsPassedOn, MayHold, PassesOn, RunsCommand};
-ghost use Rattle.run_replies.specs.Runs.{TellsEnd, each_form};
+ghost use Rattle.run_replies.specs.Runs.{ExitsBy, IsPassedOn, RunsCommand, TellsEnd, each_form};
 ghost use Rattle.run_ends.specs.Status.{code_of};
 ghost use Rattle.run_ends.specs.Flows.{flow_of};
 
 use crate::replaying::replay;
-use cdma_io::{Failed, FileFault, Sink, Source, WriterSink, write_all};
-use command_line::{WordFault, words_of};
+use cdma_io::{Sink, Source};
 use event_tap::{FrameTap, MessageTap, PilotTap, RawTap, Tap};
 use pilot_search::Open;
 use run_ends::Status;
+use run_replies::{Output, args_after_name, pass_on, report, without_taps};
 use std::alloc::{AllocError, Global};
 use std::io;
-use std::io::{ErrorKind, Write};
+use std::io::ErrorKind;
 use std::process::ExitCode;
 use std::thread::Threads;
-
-/// A sink that may buffer what it was given until it is flushed.
-pub trait Output: Sink {
-    // Nothing is held back.
-    ghost is_flushed: { Self → Bool };
-
-    /// Writes out what is buffered.
-    ///
-    /// Returns [`Failed`] only if the count of faults rose, by one.
-    fn flush(&mut self) -> Result<(), Failed>
-        ensures written { Keeps (Self.written self.old) (Self.written self.new) }
-        ensures cause { HasCause (Self.faults self.old) (Self.faults self.new) result }
-        ensures counted { CountsFaults (Self.faults self.old) (Self.faults self.new) result }
-        ensures flushed { OnOk result (IsTrue (is_flushed self.new)) };
-}
-
-impl<W: Write> Output for WriterSink<W> {
-    // What a flush passes on is the writer's to say, and std promises nothing of it.
-    ghost is_flushed = { λ _. true };
-
-    fn flush(&mut self) -> Result<(), Failed> {
-        WriterSink::flush(self)
-    }
-}
 
 /// Returns the status of a run whose arguments could not be read.
 pub fn without_args(refused: io::Error) -> Status
@@ -56,50 +30,6 @@ pub fn without_args(refused: io::Error) -> Status
         ErrorKind::OutOfMemory => Status::NoMemory,
         _ => Status::BadWords,
     }
-}
-
-/// Returns the status of a run after its output was flushed: a failed flush counts as a failed
-/// write if the run succeeded otherwise.
-fn flushed(status: Status, flush: Result<(), Failed>) -> Status
-    ensures done { OnOk flush (result ≡ status) }
-    ensures lost { OnErr flush (IsEnd status → result ≡ Status.WriteFault) }
-    ensures kept { ¬ (IsEnd status) → result ≡ status }
-{
-    match (status, flush) {
-        (Status::Done | Status::NoSync, Err(Failed)) => Status::WriteFault,
-        _ => status,
-    }
-}
-
-/// Whether a sink may still buffer text after a run with this status.
-fn may_hold(status: Status) -> bool
-    ensures { IsTrue result ↔ MayHold status }
-{
-    match status {
-        Status::Done | Status::NoSync | Status::ReadFault => true,
-        Status::BadFile(fault) => shows_late(fault),
-        _ => false,
-    }
-}
-
-/// Whether text may have been written before this fault of a file is found.
-fn shows_late(fault: FileFault) -> bool
-    ensures { IsTrue result ↔ MayHold (Status.BadFile fault) }
-{
-    matches!(fault, FileFault::Short { .. } | FileFault::Extra { .. })
-}
-
-/// Flushes a sink that may buffer text after a run with this status, and returns the final status.
-/// A sink without text, or whose write failed, is not flushed.
-fn pass_on<K: Output>(status: Status, sink: &mut K) -> Status
-    ensures { PassesOn status result (flow_of K.written K.faults sink.old sink.new)
-        (IsTrue (K.is_flushed sink.new)) }
-{
-    if !may_hold(status) {
-        return status;
-    }
-    let flush = sink.flush();
-    flushed(status, flush)
 }
 
 /// Runs the command that the arguments name, with these taps, and flushes the output.
@@ -148,28 +78,6 @@ fn run_args<R: AllocGlobal + Threads + Sync, S: Source, K: Output>(
     Ok(run_tapped(rt, alloc, args, source, sink, taps))
 }
 
-/// Returns the status of a run that found no memory for its taps. Invalid arguments are reported as
-/// such whatever memory there is.
-fn without_taps(alloc: Global, args: &[String]) -> Status
-    ensures bad_words { (result ≡ Status.BadWords) ↔ (job_named args.now ≡ None) }
-    ensures either { (result ≡ Status.BadWords) ⊎ (result ≡ Status.NoMemory) }
-{
-    match words_of(alloc, args) {
-        Err(WordFault::Bad) => Status::BadWords,
-        _ => Status::NoMemory,
-    }
-}
-
-/// Returns the arguments after the program's own name.
-fn args_after_name(args: &[String]) -> &[String]
-    ensures { result.now ≡ drop 1 args.now }
-{
-    match args.split_first() {
-        Some((_name, following)) => following,
-        None => args,
-    }
-}
-
 /// Runs the command of the process, or returns the status of unreadable arguments.
 fn run_given<R: AllocGlobal + Threads + Sync, S: Source, K: Output>(
     rt: &R,
@@ -197,18 +105,6 @@ fn run_given<R: AllocGlobal + Threads + Sync, S: Source, K: Output>(
         }
         Err(status) => status,
     }
-}
-
-/// Writes the line of a status to standard error, and nothing for [`Status::Done`]. A failure of
-/// that write is ignored, since it cannot be reported.
-fn report<E: Sink>(status: Status, errors: &mut E)
-    ensures { TellsEnd status (flow_of E.written E.faults errors.old errors.new) }
-{
-    if status.is_done() {
-        return;
-    }
-    let line = status.line();
-    let _told = write_all(errors, line.bytes());
 }
 
 /// Runs the process: its arguments (its own name first), standard input, output and error. Returns

@@ -8,64 +8,24 @@ ghost use Rattle.std.specs.Prelude.{OnErr, ◌<◌, take};
 ghost use Rattle.std.specs.Io.KnownBytes.{Appends};
 ghost use Rattle.chip_core.specs.declared.width.Width.TheVariants.{Sixteen};
 ghost use Rattle.cell_plan.specs.Sampled.{made_samples};
-ghost use Rattle.cell_plan.specs.Transmitter.{header_of};
 ghost use Rattle.trial_link.specs.Trial.{trial_plan};
 ghost use Rattle.mobile_core.specs.Standing.{StandsFor, has_room, steps_left};
 ghost use Rattle.run_replies.specs.Trials.{LeavesRoom, counts_of, trial_line};
-ghost use Rattle.run_replies.specs.Trials.{trial_settings};
 
-use crate::handset::{boxed_handset, settings_for};
-use crate::workspace::Workspace;
-use base_modulator::{Cell, trial_cell, trial_serial_number};
-use cdma_io::{Failed, Header, Sink, write_all};
+use base_modulator::{Cell, trial_cell};
+use cdma_io::{Failed, Sink, write_all};
 use chip_core::{OutOfMemory, Sample};
 use event_tap::Text;
-use mobile_core::{Mobile, Settings, Traffic};
+use mobile_core::Mobile;
 use pilot_search::{Gate, near, search};
 use run_ends::Status;
-use run_replies::Counts;
+use run_replies::{Counts, Workspace, boxed_handset, count_events, trial_settings};
 use short_code::Codes;
 use std::alloc::Global;
 use std::thread::Threads;
 
 /// How many of the first samples the pilot search uses.
 const SPAN: usize = 2048;
-
-/// Returns the settings that receive the link of a number with this header: one finger, paging
-/// channel 1, and the traffic channel whose frames are drawn from the number.
-fn settings_by(number: u64, header: &Header) -> Settings
-    requires { header.now ≡ header_of Sixteen (trial_plan number) }
-    ensures { result ≡ trial_settings number }
-{
-    let traffic = Traffic {
-        esn: trial_serial_number(number),
-        row: 8,
-        offset: 0,
-    };
-    settings_for(header, 1, 1, Some(traffic))
-}
-
-/// Gives samples to a handset and counts its events.
-fn count(mobile: &mut Mobile, samples: &[Sample], counts: &mut Counts)
-    requires room { length samples.now ≤ has_room mobile.old }
-    requires few { LeavesRoom counts.old (steps_left mobile.old) }
-    ensures room { has_room mobile.new + length samples.now ≡ has_room mobile.old }
-    ensures few { LeavesRoom counts.new (steps_left mobile.new) }
-    ensures told { (t : Tuning) (heard : List TheSample) (given : List TheEvent) →
-        StandsFor t mobile.old heard given → counts.old ≡ counts_of given →
-        StandsFor t mobile.new (heard ++ samples.now) (events t (heard ++ samples.now)) ×
-        (counts.new ≡ counts_of (events t (heard ++ samples.now))) }
-{
-    let mut taken = 0;
-    loop {
-        let step = mobile.step(&samples[taken..]);
-        taken += step.taken;
-        let Some(event) = step.event else {
-            return;
-        };
-        counts.add(&event);
-    }
-}
 
 /// Gives a handset the next samples of a cell, as many as `samples` has room for, and counts what
 /// it tells.
@@ -83,7 +43,7 @@ fn count_next(mobile: &mut Mobile, cell: &mut Cell, samples: &mut [Sample], coun
         StandsFor t mobile.new later (events t later) × (counts.new ≡ counts_of (events t later)) }
 {
     cell.fill(samples);
-    count(mobile, samples, counts);
+    count_events(mobile, samples, counts);
 }
 
 /// Gives a handset all remaining samples of a cell through the buffer `piece`, and counts its
@@ -125,12 +85,12 @@ fn follow_cell<R: Threads + Sync, G: Gate + Sync>(
     let header = cell.header();
     cell.fill(span);
     let best = search(rt, alloc, span, &codes, workers, gate)?;
-    let settings = settings_by(number, &header);
+    let settings = trial_settings(number, &header);
     let paths = near(span, &codes, best, settings.fingers);
     let mut boxed = boxed_handset(alloc, settings, best, paths, codes)?;
     let mobile = &mut *boxed;
     let mut counts = Counts::none();
-    count(mobile, span, &mut counts);
+    count_events(mobile, span, &mut counts);
     count_rest(mobile, cell, piece, &mut counts);
     Ok(counts.summary(number, header.count, best.phase.get()))
 }

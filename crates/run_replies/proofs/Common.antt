@@ -59,3 +59,46 @@ pub use Rattle.run_replies.specs.JobRuns.{ReceivesFile, RunsJob}
 unfoldable pub use Rattle.run_replies.specs.Trials.{trial_line}
 pub use Rattle.run_replies.specs.TuningLaw.{HandsetsAreTuned, HandsetsLieOnThePath}
 pub use Rattle.run_ends.specs.declared.status.Status.TheVariants.{BadFile, Done, NoMemory, NoSync, WriteFault}
+pub use Rattle.cdma_io.proofs.Common.{zero, err_from_is_err_and}
+pub use Rattle.run_replies.specs.Handsets.{HandsetGave, HasTold, IsBest}
+pub use Rattle.clean_link.proofs.Common.{places-more, filter-append, is_frame, is_page, is_sync}
+unfoldable pub use Rattle.clean_link.proofs.Common.{heard_within}
+pub use Rattle.command_line.specs.Args.{IsLawfulTraffic}
+pub use Rattle.cdma_io.proofs.Prefixes.{begins_more, prefix_before, prefix_after, on_err}
+pub use Rattle.event_tap.proofs.Runs.{run_taps-append, run_taps-more, run_text-append, run_text-more, run_text-none}
+unfoldable pub use Rattle.event_tap.specs.EventLines.{event_line}
+pub use Rattle.event_tap.specs.Taps.{heard_text, taps_after, IsKept}
+unfoldable pub use Rattle.event_tap.specs.Taps.{run_taps}
+pub use Rattle.heard_events.proofs.Common.{filter, flat_map_ext_places, low_of, range_with_len}
+pub use Rattle.heard_events.proofs.EventsGrown.{events_sooner, heard_none}
+pub use Rattle.heard_events.proofs.Growth.{timed_of}
+pub use Rattle.heard_events.specs.declared.event.Event.TheVariants.{Pilot}
+pub use Rattle.mobile_core.proofs.Common.{replicate, places, events_at, event_list, ForSome, AreNear, IsTimed, sync_stream, tuning_by}
+pub use Rattle.mobile_core.proofs.Common.{take-add, ints}
+pub use Rattle.mobile_core.specs.AfterMark.{IsSoundAssignment}
+pub use Rattle.mobile_core.specs.Standing.{IsStep, StandsFor, Steps, events_left, has_room, steps_left}
+pub use Rattle.mobile_core.specs.declared.mobile.Mobile.{Mobile}
+pub use Rattle.mobile_core.specs.declared.mobile.Step.{Step}
+pub use Rattle.pilot_search.proofs.BestPhase.{best_energy-only, best_phase-only}
+pub use Rattle.pilot_search.proofs.Common.{suc, ℤ, IsBestIn, rules}
+pub use Rattle.pilot_search.specs.declared.paths.Near.{Near}
+pub use Rattle.pilot_search.specs.declared.sweeping.Best.{Best}
+pub use Rattle.pilot_survey.proofs.Common.{ranking}
+pub use Rattle.pilot_survey.specs.declared.rank.Rank.{Rank}
+pub use Rattle.run_replies.specs.Hearing.{AreNearTo, AreReady, ByTaps, GainsText, GainsPrefix}
+unfoldable pub use Rattle.run_replies.specs.Hearing.{best_pilot}
+unfoldable pub use Rattle.run_replies.specs.Ranks.{ranks_text, survey_text}
+pub use Rattle.run_replies.specs.Trials.{LeavesRoom, count_of, counts_with, is_good, one_if}
+unfoldable pub use Rattle.run_replies.specs.Trials.{counts_of}
+pub use Rattle.run_replies.specs.declared.counts.Counts.{Counts}
+pub use Rattle.std.proofs.Common.{IsNone}
+pub use Rattle.std.proofs.KnownBytes.{Appends-trans}
+pub use Rattle.std.proofs.lemmas.Grind.{merely, common_steps}
+pub use Rattle.std.proofs.lemmas.List.{length-replicate, take_at, take_rest}
+pub use Rattle.std.specs.Prelude.{IfOk}
+pub use Rattle.run_replies.specs.Listeners.{BeginsAfter, HearsRest, IsHearing, ListenerTells}
+pub use Rattle.clean_link.proofs.Common.{All-append}
+pub use Rattle.cdma_io.proofs.Prefixes.{prefix_of}
+pub use Rattle.run_replies.specs.Broken.{HearsFirst}
+pub use Rattle.run_replies.specs.Hearing.{Listening, LosesSamples}
+pub use Rattle.std.proofs.KnownBytes.{Consumes-kept}

@@ -1,6 +1,6 @@
 -- Lemmas on runs that end before the file does, and on runs over a file that nobody hears.
 use Rattle.run_replies.proofs.Common.{Flow, flow}
-use Rattle.run_replies.proofs.Common.{◌≡◌, ℕ, ◌≤◌, ◌++◌, List, refl, ap, arith, ◌∙◌, true, Option, None, Some, IfSome, Result, ◌⊎◌, inl}
+use Rattle.run_replies.proofs.Common.{◌≡◌, ℕ, ◌≤◌, ◌++◌, List, refl, ap, arith, ◌∙◌, true, Option, None, Some, IfSome, Result, ◌⊎◌, inl, inr}
 use Rattle.run_replies.proofs.Common.{[], Bool, flat_map, Appends-nil, Sample, Rose, FileFault, ReadFault, Header, header_spelling, Status}
 use Rattle.run_replies.proofs.Common.{sample_spelling, width_of, KeptTap, front_begins, Done, NoSync, BadFile, NoMemory, WriteFault, IsEnd}
 use Rattle.run_replies.proofs.Common.{file_status, BeginsFile, IsFault, TakesNoMore, TakesSpan, WritesNoMore, ended, IsUnheard}
@@ -111,3 +111,35 @@ module _ {taps : List KeptTap} {job : Job} {source sink : Flow} where
     later_source = later;
     later_sink = later_sink;
   }
+
+-- a source that lost bytes since isn't as it was
+or_else : {Same X : Type 0} → ⊥ ⊎ X → Same ⊎ X
+or_else (inl never) = absurd never
+or_else (inr holds) = inr holds
+
+-- a run over the rest of a file ends one over the file
+pub received_from : {taps : List KeptTap} {job : Job} {status : Status}
+    {before after : Option (List ℕ)} {faults faults_after : ℕ} {Same : Type 0} {sink : Flow} →
+    ReceivesFile taps job status (flow before after faults faults_after ⊥) sink →
+    ReceivesFile taps job status (flow before after faults faults_after Same) sink
+received_from r = record {
+  done = r.done;
+  at_end = r.at_end;
+  others = r.others;
+  memory = r.memory;
+  early = λ none. or_else (r.early none);
+  alone = r.alone;
+  bad_file = r.bad_file;
+  place = r.place;
+  read_fault = r.read_fault;
+  write_fault = r.write_fault;
+  begun = r.begun;
+  header = r.header;
+  header_alone = r.header_alone;
+  bound = r.bound;
+  written = r.written;
+  cut = r.cut;
+  long = r.long;
+  later_source = r.later_source;
+  later_sink = r.later_sink;
+}

@@ -4,8 +4,10 @@ pub mod CleanLinks
 pub mod Common
 pub mod Find
 pub mod Findings
+pub mod Handsets
 pub mod Hearing
 pub mod JobRuns
+pub mod Listeners
 pub mod Ranks
 pub mod Replies
 pub mod Runs

@@ -1,10 +1,14 @@
 //! How many events a trial's handset reported.
 
-ghost use Rattle.std.specs.Prelude.{◌≡◌, ◌^◌, []};
+ghost use Rattle.std.specs.Prelude.{◌≡◌, ◌≤◌, ◌+◌, ◌^◌, ◌++◌, List, [], length};
+ghost use Rattle.mobile_core.specs.Standing.{StandsFor, has_room, steps_left};
+ghost use Rattle.run_replies.specs.Common.{Event as TheEvent, Sample as TheSample, Tuning, events};
 ghost use Rattle.run_replies.specs.Trials.{LeavesRoom, counts_of, counts_with, summary};
 
+use chip_core::Sample;
 use event_tap::Text;
 use heard_events::Event;
+use mobile_core::Mobile;
 
 /// How many events of each kind a handset reported.
 #[derive(Clone, Copy)]
@@ -64,5 +68,27 @@ impl Counts {
         line.append_named(" good=", self.good);
         line.append_str("\n");
         line
+    }
+}
+
+/// Gives samples to a handset and counts its events.
+pub fn count_events(mobile: &mut Mobile, samples: &[Sample], counts: &mut Counts)
+    requires room { length samples.now ≤ has_room mobile.old }
+    requires few { LeavesRoom counts.old (steps_left mobile.old) }
+    ensures room { has_room mobile.new + length samples.now ≡ has_room mobile.old }
+    ensures few { LeavesRoom counts.new (steps_left mobile.new) }
+    ensures told { (t : Tuning) (heard : List TheSample) (given : List TheEvent) →
+        StandsFor t mobile.old heard given → counts.old ≡ counts_of given →
+        StandsFor t mobile.new (heard ++ samples.now) (events t (heard ++ samples.now)) ×
+        (counts.new ≡ counts_of (events t (heard ++ samples.now))) }
+{
+    let mut taken = 0;
+    loop {
+        let step = mobile.step(&samples[taken..]);
+        taken += step.taken;
+        let Some(event) = step.event else {
+            return;
+        };
+        counts.add(&event);
     }
 }

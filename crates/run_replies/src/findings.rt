@@ -1,11 +1,22 @@
 //! What the first samples of a file show, for a file that nobody hears.
 
+ghost use Rattle.command_line.specs.Args.{IsBase, IsTop, IsWidth, IsWorkers};
+ghost use Rattle.event_tap.specs.EventLines.{event_line};
+ghost use Rattle.run_replies.specs.Findings.{AreWritable, findings_text};
+ghost use Rattle.run_replies.specs.Hearing.{best_pilot};
+ghost use Rattle.run_replies.specs.Ranks.{survey_text};
+ghost use Rattle.std.specs.Prelude.{◌≡◌, ◌≤◌, IfOk, length};
+
 use crate::ranks::write_ranks;
 use cdma_io::{Failed, Sink};
+use chip_core::{OutOfMemory, Phase, Sample};
 use event_tap::write_event;
 use heard_events::hearing::pilot_event;
-use pilot_search::Best;
-use pilot_survey::Survey;
+use pilot_search::{Best, Gate, search};
+use pilot_survey::{Survey, survey};
+use short_code::Codes;
+use std::alloc::Global;
+use std::thread::Threads;
 
 /// What the first samples of a file show, for a file that nobody hears.
 #[derive(Drop)]
@@ -44,4 +55,53 @@ impl Findings {
             Findings::Ranks { ranks, top } => write_ranks(ranks, *top, sink),
         }
     }
+}
+
+/// Searches the pilot in a file's first samples (TIA/EIA-95-B, 7.1.3.1.9), by this many workers.
+///
+/// Fails only if there is no memory.
+pub fn find_pilot<R: Threads + Sync, G: Gate + Sync>(
+    rt: &R,
+    alloc: Global,
+    codes: Codes,
+    first: &[Sample],
+    workers: u8,
+    gate: &G,
+) -> Result<Findings, OutOfMemory>
+    requires few { length first.now ≤ 32768 }
+    requires workers { IsWorkers workers }
+    ensures text { IfOk result (λ findings.
+        event_line (best_pilot first.now) ≡ findings_text findings) }
+    ensures writable { IfOk result AreWritable }
+{
+    let best = search(rt, alloc, first, &codes, workers, gate)?;
+    Ok(Findings::Pilot(best))
+}
+
+/// Ranks the pilots by their strength in a file's first samples (TIA/EIA-95-B, 7.1.3.2.1), each in
+/// a window of `width` chips on either side of its phase, beginning from the phase `base` of pilot
+/// 0. The lines of the first `top` are to be written.
+///
+/// Fails only if there is no memory.
+pub fn rank_pilots<R: Threads + Sync, G: Gate + Sync>(
+    rt: &R,
+    alloc: Global,
+    base: u16,
+    width: u8,
+    top: u16,
+    codes: Codes,
+    first: &[Sample],
+    workers: u8,
+    gate: &G,
+) -> Result<Findings, OutOfMemory>
+    requires lawful { IsBase base × IsWidth width × IsTop top }
+    requires few { length first.now ≤ 32768 }
+    requires workers { IsWorkers workers }
+    ensures text { IfOk result (λ findings.
+        survey_text base width top first.now ≡ findings_text findings) }
+    ensures writable { IfOk result AreWritable }
+{
+    let base = Phase::new(base).unwrap();
+    let ranks = survey(rt, alloc, first, &codes, base, width, workers, gate)?;
+    Ok(Findings::Ranks { ranks, top })
 }

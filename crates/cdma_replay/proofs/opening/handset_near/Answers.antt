@@ -1,4 +1,4 @@
-use Rattle.cdma_replay.proofs.Common.{refl, rules, subst, ap, ◌∙◌, [], AreNearTo, Settings, StandsFor, tuning_for}
+use Rattle.cdma_replay.proofs.Common.{arith, refl, rules, subst, ap, [], AreNearTo, Settings, StandsFor, tuning_for}
 use Rattle.cdma_replay.proofs.opening.handset_near.Goals as goal
 
 -- The listener is one by a handset: from the header's settings and the paths near the best phase,
@@ -16,5 +16,5 @@ returns c =
         refl,
       );
       tellable = tt;
-      room = c.in_ok-mobile.ensures.room ∙ ap (λ (s : Settings). s.count) made.ensures;
+      room = omega (arith, c.in_ok-mobile.ensures.room, ap (λ (s : Settings). s.count) made.ensures);
     }

@@ -1,6 +1,15 @@
-use Rattle.cdma_replay.proofs.Common.{◌≡◌, length, rules, sym, best_phase-only, tuning_for}
-use Rattle.cdma_replay.proofs.Hearings.{near_taken}
+use Rattle.cdma_replay.proofs.Common.{◌≡◌, [], length, merely, refl, rules, sym, best_phase-only, tuning_for}
+use Rattle.run_replies.proofs.Handsets.{near_taken}
 use Rattle.cdma_replay.proofs.opening.tuned_listener.Goals as goal
+
+-- The handset that is opened was told no mark: it has given no event.
+pub open-requires-clause-untold : goal.open-requires-clause-untold
+open-requires-clause-untold c =
+    merely (record {
+      tuning = _;
+      heard = [];
+      has = record { given = []; stands = c.in_ok-mobile.ensures.stands; unset = refl };
+    })
 
 -- The listener is tuned as the file's first samples tell: the phase that was searched is the only
 -- best one, its paths are those that are found near it, and the handset up to the mark was opened

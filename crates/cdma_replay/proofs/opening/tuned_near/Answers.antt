@@ -1,4 +1,4 @@
-use Rattle.cdma_replay.proofs.Common.{rules, subst, ap, ◌∙◌, [], AreNearTo, ListensTuned, Settings, tuning_for}
+use Rattle.cdma_replay.proofs.Common.{arith, rules, subst, ap, [], AreNearTo, ListensTuned, Settings, tuning_for}
 use Rattle.cdma_replay.proofs.opening.tuned_near.Goals as goal
 
 -- The listener is one for the frames of a channel: from the header's settings and the paths near the best phase,
@@ -15,5 +15,5 @@ returns c =
           ListensTuned (tuning_for s first) c.args.channel c.args.text c.in_ok-tuned.tuned.value [])
           made.ensures (c.in_ok-tuned.ensures.listens first c.requires.best near);
       tellable = tt;
-      room = c.in_ok-tuned.ensures.room ∙ ap (λ (s : Settings). s.count) made.ensures;
+      room = omega (arith, c.in_ok-tuned.ensures.room, ap (λ (s : Settings). s.count) made.ensures);
     }

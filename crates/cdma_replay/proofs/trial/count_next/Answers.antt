@@ -12,6 +12,6 @@ returns-clause-told c t given stands is =
     let n = length c.args.samples.now in
     let out = c.fill.new.out in
     let more = made_more plan had n out (next_made plan had n out c.fill.ensures.samples) in
-    subst (λ (xs : List Sample). StandsFor t c.count.new.mobile xs (events t xs)
-    × (c.count.new.counts ≡ counts_of (events t xs))) more
-    (c.count.ensures.told t (take had (made_samples plan)) given stands is)
+    subst (λ (xs : List Sample). StandsFor t c.count_events.new.mobile xs (events t xs)
+    × (c.count_events.new.counts ≡ counts_of (events t xs))) more
+    (c.count_events.ensures.told t (take had (made_samples plan)) given stands is)

@@ -7,24 +7,24 @@ use Rattle.cdma_replay.proofs.trial.follow_cell.Goals as goal
 pub fill-requires : goal.fill-requires
 fill-requires g c = span_fits c.args.cell.now c.args.number (length c.args.span.now) c.requires.cell c.requires.span
 
-pub settings_by-settings-requires : goal.settings_by-settings-requires
-settings_by-settings-requires g c =
+pub trial_settings-settings-requires : goal.trial_settings-settings-requires
+trial_settings-settings-requires g c =
     c.header-header.ensures.value
     ∙ ap (λ (k : CellState). header_of k.width k.plan) c.requires.cell
 
 pub boxed_handset-requires-clause-count : goal.boxed_handset-requires-clause-count
 boxed_handset-requires-clause-count g c = omega (
   arith,
-  ap (λ (s : Settings). s.count) c.settings_by-settings.ensures,
+  ap (λ (s : Settings). s.count) c.trial_settings-settings.ensures,
   trial_counted c.args.number,
 )
 
-pub count-requires-clause-room : goal.count-requires-clause-room
-count-requires-clause-room g c =
+pub count_events-requires-clause-room : goal.count_events-requires-clause-room
+count_events-requires-clause-room g c =
     rw c.deref_mut-mobile.ensures.value (omega (
       arith,
       c.in_ok-boxed.ensures.room,
-      ap (λ (s : Settings). s.count) c.settings_by-settings.ensures,
+      ap (λ (s : Settings). s.count) c.trial_settings-settings.ensures,
       trial_counted c.args.number,
       c.requires.span,
     ))
@@ -37,7 +37,7 @@ returns g c =
     let number = c.args.number in
     let plan = trial_plan number in
     let out = c.fill.new.out in
-    let settings = c.settings_by-settings.result in
+    let settings = c.trial_settings-settings.result in
     let best = c.in_ok-best.best in
     let header : c.header-header.result ≡ header_of Sixteen plan =
     c.header-header.ensures.value ∙
@@ -49,16 +49,16 @@ returns g c =
     let near : AreNearTo out best.phase settings.fingers c.near-paths.result = search rules in
     let t = tuning_for settings out in
     let tuning : t ≡ trial_tuning number =
-    ap (λ (s : Settings). tuning_for s out) c.settings_by-settings.ensures
+    ap (λ (s : Settings). tuning_for s out) c.trial_settings-settings.ensures
     ∙ ap (tuning_for (trial_settings number)) span in
-    let told = c.count.ensures.told t [] []
+    let told = c.count_events.ensures.told t [] []
     (rw c.deref_mut-mobile.ensures.value (c.in_ok-boxed.ensures.given out found near))
     c.none-counts.ensures.value in
     let following = after_span c.args.cell.now c.fill.new.self number (length c.args.span.now)
     c.requires.cell c.requires.span c.fill.ensures.state in
     let rest =
     c.count_rest.ensures t
-    (subst (λ (xs : List Sample). StandsFor t c.count.new.mobile xs (events t xs)) (span ∙ sym following.1) told.0)
+    (subst (λ (xs : List Sample). StandsFor t c.count_events.new.mobile xs (events t xs)) (span ∙ sym following.1) told.0)
     (told.1 ∙ ap (λ (xs : List Sample). counts_of (events t xs)) (span ∙ sym following.1)) in
     line_is number c.summary.result c.header-header.result.count c.get.result
     c.count_rest.new.counts c.summary.ensures (ap (λ (h : Header). h.count) header)

@@ -1,8 +1,0 @@
-use Rattle.cdma_replay.proofs.Common.{◌∙◌, line_told}
-use Rattle.cdma_replay.proofs.program.report.Goals as goal
-
-pub returns : goal.returns
-returns g c =
-    line_told c.is_done.result c.write_all-told.result c.bytes.result.now c.if-is_done.false
-    c.is_done.ensures (c.bytes.ensures.value ∙ c.line-line.ensures) c.write_all-told.ensures.ok
-    c.write_all-told.ensures.err c.write_all-told.ensures.cause

@@ -1,0 +1,35 @@
+//! The buffers of a run that follows samples.
+
+ghost use Rattle.std.specs.Prelude.{◌≡◌, IfOk, vec_len};
+
+use chip_core::{OutOfMemory, Sample};
+use short_code::Codes;
+use std::alloc::Global;
+
+/// How many samples are taken or written at once, at most, after those that are searched.
+pub const PIECE: usize = 4096;
+
+/// The buffers of a run.
+#[derive(Drop)]
+pub struct Workspace {
+    /// The table of the pilot's codes.
+    pub codes: Codes,
+    /// Memory for the samples that the pilot search uses.
+    pub span: Vec<Sample>,
+    /// Room for a piece of the others.
+    pub piece: Vec<Sample>,
+    ghost piece_len: { vec_len piece ≡ 4096 },
+}
+
+impl Workspace {
+    /// Makes one for a span of `samples` samples.
+    pub fn new(alloc: Global, samples: usize) -> Result<Workspace, OutOfMemory>
+        ensures { IfOk result (λ w. vec_len w.span ≡ samples) }
+    {
+        let codes = Codes::new(alloc)?;
+        let nothing = Sample { i: 0, q: 0 };
+        let span = vec![in alloc; nothing; samples]?;
+        let piece = vec![in alloc; nothing; PIECE]?;
+        Ok(Workspace { codes, span, piece })
+    }
+}
