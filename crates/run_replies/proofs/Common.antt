@@ -93,7 +93,7 @@ unfoldable pub use Rattle.run_replies.specs.Trials.{counts_of}
 pub use Rattle.run_replies.specs.declared.counts.Counts.{Counts}
 pub use Rattle.std.proofs.Common.{IsNone}
 pub use Rattle.std.proofs.KnownBytes.{Appends-trans}
-pub use Rattle.std.proofs.lemmas.Grind.{merely, common_steps}
+pub use Rattle.std.proofs.lemmas.Grind.{common_steps}
 pub use Rattle.std.proofs.lemmas.List.{length-replicate, take_at, take_rest}
 pub use Rattle.std.specs.Prelude.{IfOk}
 pub use Rattle.run_replies.specs.Listeners.{BeginsAfter, HearsRest, IsHearing, ListenerTells}

@@ -1,4 +1,4 @@
-use Rattle.cdma_replay.proofs.Common.{◌≡◌, ◌+◌, ℕ, length, inr, refl, subst, rules, arith, Header, HasRoom, IsFreshListener, Status, TakesSpan}
+use Rattle.cdma_replay.proofs.Common.{ℕ, length, inr, refl, subst, rules, arith, Header, HasRoom, IsFreshListener, Status, TakesSpan}
 use Rattle.cdma_replay.proofs.Common.{ended_by, file_status, listening, none_most, rest_most, unread_file}
 use Rattle.run_replies.proofs.Ends.{begins_file, received_from, starved_file}
 use Rattle.cdma_replay.proofs.receiving.receive_file.Goals as goal

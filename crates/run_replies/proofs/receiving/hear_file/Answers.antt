@@ -1,4 +1,4 @@
-use Rattle.run_replies.proofs.Common.{◌≡◌, ◌≤◌, ◌+◌, ◌-◌, ℕ, List, [], Option, IfSome, length, ap, refl, ◌∙◌, subst, arith, FileFault, Job}
+use Rattle.run_replies.proofs.Common.{◌≡◌, ◌≤◌, ◌-◌, ℕ, List, [], Option, IfSome, length, ap, refl, ◌∙◌, subst, arith, FileFault, Job}
 use Rattle.run_replies.proofs.Common.{IsCut, IsEnd, IsFaultIn, IsLong, IsOfFiles, Listening, Sample, Status, TakesSpan, end_when, listening}
 use Rattle.run_replies.proofs.Common.{span_of}
 use Rattle.run_replies.proofs.Bounds.{none_most, rest_most}
