@@ -185,11 +185,15 @@ class Checker:
         self.check_form(line)
         name = words[0].text
         if name not in statements.FORMS:
-            self.add(words[0].column, name, why_no_statement(name))
+            meant = meant_by(name)
+            self.add(words[0].column, name, why_no_statement(name, meant))
+            self.before, self.cycle = meant or self.before, None
             return
         self.check_order(words[0])
         getattr(self, f"take_{name}")(words[1:])
-        self.before = name
+        # What follows a statement that comes too late need not follow it.
+        if not statements.is_late(name, self.before):
+            self.before = name
 
     def check_form(self, line: str) -> None:
         """Checks what stands between the words of a line, and that it is ASCII."""
@@ -252,31 +256,31 @@ class Checker:
         self.cycle = Cycle(size) if size else None
 
     def take_page(self, words: list[Word]) -> None:
-        """Takes `page half BITS` or `page next BITS`."""
+        """Takes `page half BITS` or `page next BITS`.
+
+        After a page whose bits can't be read it isn't known what is left of its half-frame, so no later page of the
+        channel is refused for that.
+        """
+        cycle, self.cycle = self.cycle, None
         if not self.has_words(words, "page", 2):
             return
         start, bits = words
         if start.text not in ("half", "next"):
             reason = "half begins the page with the next half-frame, next right after the page before"
             self.add(start.column, start.text, reason)
+        why = cycle.why_not_next() if cycle and start.text == "next" else None
+        if why:
+            self.add(start.column, start.text, why)
         body = self.value(bits.text, bits.column, BitText(statements.why_no_body))
         if not isinstance(body, str):
             return
         why = statements.why_no_message(body)
         if why:
             self.add(bits.column, bits.text, why)
-        if self.cycle:
-            self.lay(self.cycle, start, bits, len(body))
-
-    def lay(self, cycle: Cycle, start: Word, bits: Word, body: int) -> None:
-        """Lays a page into the cycle of its channel."""
-        follows = start.text == "next"
-        why = cycle.why_not_next() if follows else None
-        if why:
-            self.add(start.column, start.text, why)
-        why = cycle.lay(follows, body)
+        why = cycle.lay(start.text == "next", len(body)) if cycle else None
         if why:
             self.add(bits.column, bits.text, why)
+        self.cycle = cycle
 
     def take_traffic(self, words: list[Word]) -> None:
         """Takes `traffic`."""
@@ -396,10 +400,14 @@ class Checker:
             self.add_other(Kind.TOO_LOUD, (self.link_place[0], 1), loudness, reason)
 
 
-def why_no_statement(name: str) -> str:
-    """Says which statement may be meant."""
-    near = difflib.get_close_matches(name.lower()[:LONGEST_NAME], statements.FORMS, 1)
-    meant = f"; did you mean {near[0]}?" if near else ""
+def meant_by(name: str) -> str:
+    """Returns the statement whose name is like a word, empty if there is none."""
+    return next(iter(difflib.get_close_matches(name.lower()[:LONGEST_NAME], statements.FORMS, 1)), "")
+
+
+def why_no_statement(name: str, near: str) -> str:
+    """Says that a word isn't a statement, and which one may be meant."""
+    meant = f"; did you mean {near}?" if near else ""
     return f"{quoted(name)} is not a statement of a script{meant} ({', '.join(statements.FORMS)})"
 
 

@@ -72,7 +72,16 @@ FORMS = {
     "frame": "frame RATE BITS COMMANDS",
     "frame2": "frame2 RATE BITS COMMANDS",
 }
-"""How each statement is written."""
+"""How each statement is written, in the order of a script."""
+ONCE = ("cell", "link", "pilot", "sync")
+"""The statements that a script has once, before all others."""
+
+
+def is_late(name: str, before: str) -> bool:
+    """Whether a statement that a script has once comes after one that has to follow it."""
+    order = list(FORMS)
+    return name in ONCE and before in FORMS and order.index(name) < order.index(before)
+
 
 # ---- pages
 

@@ -130,7 +130,9 @@ class BitText:
             raise Wrong(f"{count} bits are written in {needed} hex digits, not {len(digits)}", place)
         bits = f"{int(digits, 16):0{4 * needed}b}" if digits else ""
         if "1" in bits[count:]:
-            raise Wrong(f"the last {len(bits) - count} bits pad the last octet and must be 0", place + needed - 2)
+            over = len(bits) - count
+            pads = "bit pads" if over == 1 else f"{over} bits pad"
+            raise Wrong(f"the last {pads} the last octet and must be 0", place + needed - 2)
         why = self.why_not(count)
         if why:
             raise Wrong(why)

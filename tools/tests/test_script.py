@@ -211,8 +211,31 @@ class Reasons(unittest.TestCase):
         self.assertIn("23 more than 32,767: bring the sum of the gains down to 10,922", found[0].reason)
 
     def test_all_faults_are_reported(self) -> None:
-        script = "cell pn=512 time=-1 lc=2 checks=0\nlink re=0 im=0 start=0 samples=1\npilots gain=0\n"
+        script = "cell pn=512 time=-1 lc=2 checks=0\nlink re=0 im=0 start=0 samples=1\npilots gain=0\nsync gain=1\n"
         self.assertEqual([fault.line for fault in check(script.encode())], [1, 1, 1, 2, 3, 4])
+
+    def test_no_fault_that_only_follows_from_another(self) -> None:
+        """A wrong name, a statement that comes too late, and a page whose bits can't be read are one fault each."""
+        cell, link, pilot, sync, paging, half, *_ = self.HEAD
+        other = half.replace("half", "next")
+        for rows, wanted in (
+            ([cell, link, "pilt gain=100", sync, paging, half], [3]),
+            ([cell, link, pilot, sync, "pageing channel=1 gain=60", half, half], [5]),
+            ([cell, link, sync, pilot, paging, half], [3, 4]),
+            ([cell, link, pilot, sync, link, paging, half], [5]),
+            ([cell, link, pilot, sync, paging, "page half 34:04ff80", other, other], [6]),
+            ([cell, link, pilot, sync, paging, "page half", other], [6]),
+            ([cell, link, pilot, sync, paging, "page next 34:04ff80", other], [6, 6]),
+            ([cell, link, pilot, sync, paging, other, other], [6]),
+        ):
+            script = ("\n".join(rows) + "\n").encode()
+            self.assertEqual(verdict(check(script)), by_model(script), rows)
+            self.assertEqual([fault.line for fault in check(script)], wanted, rows)
+
+    def test_bits_that_pad(self) -> None:
+        for count, said in ((33, "the last 7 bits pad "), (39, "the last bit pads ")):
+            script = lines("CELL LINK PILOT SYNC PAGING") + f"page half {count}:ffffffffff\n"
+            self.assertEqual([fault.reason.startswith(said) for fault in check(script.encode())], [True])
 
 
 class Arguments(unittest.TestCase):
