@@ -7,8 +7,8 @@ requested crate comes last, in the checkout, which takes the libraries over.
 
 `rt` also keeps the parts of a proof, for the next one of a changed crate. For that, copies of the prover check a few
 functions each, every one loads all crates below, and the first build of a tree takes half as long again. So a build
-keeps none unless it is told to. `rt` has no option for it, but goes on without the folder of what is kept if that is a
-file.
+keeps none unless it is told to. `rt` has no option for it, but continues without the folder of what is kept if that is
+a file.
 """
 
 from __future__ import annotations
