@@ -83,11 +83,8 @@ pub use Rattle.pilot_search.proofs.BestPhase.{best_energy-only, best_phase-only}
 pub use Rattle.pilot_search.proofs.Common.{suc, ℤ, IsBestIn, rules}
 pub use Rattle.pilot_search.specs.declared.paths.Near.{Near}
 pub use Rattle.pilot_search.specs.declared.sweeping.Best.{Best}
-pub use Rattle.pilot_survey.proofs.Common.{ranking}
-pub use Rattle.pilot_survey.specs.declared.rank.Rank.{Rank}
 pub use Rattle.run_replies.specs.Hearing.{AreNearTo, AreReady, ByTaps, GainsText, GainsPrefix}
 unfoldable pub use Rattle.run_replies.specs.Hearing.{best_pilot}
-unfoldable pub use Rattle.run_replies.specs.Ranks.{ranks_text, survey_text}
 pub use Rattle.run_replies.specs.Trials.{LeavesRoom, count_of, counts_with, is_good, one_if}
 unfoldable pub use Rattle.run_replies.specs.Trials.{counts_of}
 pub use Rattle.run_replies.specs.declared.counts.Counts.{Counts}

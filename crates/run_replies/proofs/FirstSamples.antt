@@ -1,7 +1,6 @@
--- The texts of what the first samples of a file show.
-use Rattle.run_replies.proofs.Common.{◌≡◌, ℕ, List, take, sym, ap, ◌∙◌, Sample, IsBestIn, best_phase, best_phase-only, best_energy-only}
-use Rattle.run_replies.proofs.Common.{Pilot, event_line, Rank, Best, best_pilot, IsBest, ranking, ranks_text, survey_text}
-use Rattle.command_line.specs.declared.job.Job.TheVariants as jobs
+-- The text of the pilot that is found in the first samples of a file.
+use Rattle.run_replies.proofs.Common.{◌≡◌, ℕ, List, sym, ap, ◌∙◌, Sample, IsBestIn, best_phase, best_phase-only, best_energy-only, Pilot}
+use Rattle.run_replies.proofs.Common.{event_line, Best, best_pilot, IsBest}
 
 -- what a sweep over all phases found
 pilot-best : (samples : List Sample) (phase energy : ℕ) →
@@ -15,9 +14,3 @@ pilot-best samples phase energy best =
 pub pilot_text : (first : List Sample) (best : Best) → IsBest first best →
     event_line (best_pilot first) ≡ event_line (Pilot best.phase best.energy)
 pilot_text first best is = sym (ap event_line (pilot-best first best.phase best.energy is))
-
--- and those of the ranks
-pub survey_is : (first : List Sample) (ranks : List Rank) (base width top : ℕ) → ranks ≡ ranking first base width →
-    survey_text base width top first ≡ ranks_text (take top ranks)
-unfolding survey_text
-survey_is first ranks base width top is = sym (ap (λ (rs : List Rank). ranks_text (take top rs)) is)

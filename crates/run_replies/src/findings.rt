@@ -83,6 +83,7 @@ pub fn find_pilot<R: Threads + Sync, G: Gate + Sync>(
 /// 0. The lines of the first `top` are to be written.
 ///
 /// Fails only if there is no memory.
+#[tactic(auto, unfolding(crate::specs::Ranks::survey_text))]
 pub fn rank_pilots<R: Threads + Sync, G: Gate + Sync>(
     rt: &R,
     alloc: Global,
