@@ -39,12 +39,6 @@ FOLDERS = ("cdma", "cdma_tools", "conformance", "examples", "cdma_model", "model
 THIS_FILE = os.path.relpath(__file__, ROOT)
 # Sentences in which a pattern is right. A test fails for an exception that is not needed.
 ALLOWED: tuple[Allowed, ...] = ()
-# How many comments of a crate may have a pattern, since they are still to be reworded: lower the number with each.
-STILL_TO_REWORD = {
-    "cdma_replay": 18,  # the crates of a run, which were left out because their code was being rewritten
-    "command_line": 4,
-    "run_replies": 24,
-}
 # Sentences that read as if translated word by word, as pages and docstrings had them; none may come back.
 GONE = (
     "Of a script whose reading failed nothing was",
@@ -334,7 +328,7 @@ class Style(unittest.TestCase):
                         sentences = (it for it in comment_sentences(place, read_place(place)) if it.length <= MOST_WORDS)
                         found += faults(sentences, (), set(), CRATE_PATTERNS)
             with self.subTest(crate):
-                self.assertLessEqual(len(found), STILL_TO_REWORD.get(crate, 0), "\n".join(found))
+                self.assertEqual(found, [])
 
     def test_old_sentences_are_gone(self) -> None:
         """From pages, and from everything in modules."""
