@@ -6,6 +6,7 @@ import asyncio
 import contextlib
 import json
 import os
+import random
 import re
 import signal
 import socket
@@ -41,8 +42,10 @@ from cdma_tools.view.safety import Door  # noqa: E402
 from cdma_tools.view.spectrum_rows import SpectrumRows  # noqa: E402
 from cdma_tools.view.steps import WHY_NONE, FrameAsked, Handset, MarkTold, of_channel, steps_text  # noqa: E402
 from cdma_tools.view.waveform import WHOLE, Measured, Wanted, measured  # noqa: E402
+from tools.tests.drawn_cells import drawn_cell  # noqa: E402
 from tools.tests.radio_helping import code, whole_cell  # noqa: E402
 from tools.tests.report_fixture import FOLLOWED  # noqa: E402
+from tools.tests.test_listen import Server as RadioServer  # noqa: E402
 from tools.tests.test_listen_channels import STREAM, TRAFFIC, made_recording  # noqa: E402
 
 SECONDS = 120  # that a server may take to start on a busy machine
@@ -748,6 +751,41 @@ class Channels(Server):
         self.assertEqual({name for name, kind in found if kind == "frame"}, set(names))
         self.assertTrue(all(found[name, "frame"] > 50 for name in names), found)
         self.assertEqual(self.ended(process)[0], 0)
+
+
+@unittest.skipUnless(PROGRAM, NO_PROGRAM)
+class ARadio(Server):
+    """A receiver that an rtl_tcp server on this machine has."""
+
+    parted, seconds = True, 8
+    rate, frequency, pn = 1_500_000, 878_490_000, 300
+
+    def test_a_radio(self) -> None:
+        """The page shows what is received at which frequency, and that the server went away; Ctrl-C ends it."""
+        cell = drawn_cell(random.Random("a radio"), self.pn, ())
+        samples = cell.write(os.path.join(self.folder, "cell.is95"), 3 * 1_228_800)
+        path = os.path.join(self.folder, "radio.cu8")
+        status, _, said = run_inside("channel", *STREAM, "--ec-io", "-8", samples, path)
+        self.assertEqual(status, 0, said)
+        with open(path, "rb") as file:
+            radio = RadioServer([file.read()])
+        words = ("--rate", str(self.rate), "--frequency", str(self.frequency), "--program", str(PROGRAM))
+        process, url = self.start(*words, radio.address)
+
+        async def watched(connection: WebSocketClientConnection) -> dict[str, Any]:
+            told = await told_until(connection, "remarks")
+            process.send_signal(signal.SIGINT)
+            return {**told, **await told_until(connection, "ended")}
+
+        told = self.watch(url, watched)
+        self.assertEqual(radio.commands, [b"\x02%s\x01%s" % (self.rate.to_bytes(4), self.frequency.to_bytes(4))])
+        self.assertEqual(told["source"], {"rate": self.rate, "type": "cu8", "frequency": self.frequency})
+        self.assertRegex(told["remarks"][0]["text"], f"^the connection to {radio.address} was lost: ")
+        shown = {row[0]: row[1] for row in told["identity"]["Sync message"]}
+        self.assertEqual((shown["SID"], shown["PILOT_PN"]), (str(cell.sid), str(self.pn)))
+        self.assertEqual(told["ended"]["status"], 0)
+        _, said = process.communicate(timeout=SECONDS)
+        self.assertEqual((process.returncode, said.splitlines()[-1]), (0, f"view: {told['ended']['text']}"))
 
 
 class Streams(Server):
