@@ -46,7 +46,7 @@ MOST_VIEWERS = 16
 PING_EVERY, GONE = 20, 120
 LONGEST_MESSAGE, LONGEST_LINE = 1_000, 1 << 20  # bytes: of a browser's request, and of the listening's
 LONGEST_NUMBER, LONGEST_NAME = 4, 40  # characters of a cell's number in a request, and of its name in a file's
-NO_WORD = re.compile(r"[^0-9A-Za-z]+")
+NO_WORD = re.compile(r"[^0-9A-Za-z-]+")
 # Seconds for which a listening may take to end, and a browser to take its end.
 ENDING, LAST_WORDS = 60.0, 1.0
 ASSETS = {"view.js": "text/javascript", "view.css": "text/css"}

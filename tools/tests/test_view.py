@@ -574,9 +574,10 @@ class TheServer(Server):
 
         _, url = self.start(self.keep("cells.jsonl", "".join(f"{line}\n" for line in objects)))
         first, second = self.watch(url, ask)
-        self.assertEqual([one["name"] for one in first["followed"]], ["1", "2 at -1250000 Hz"])
-        self.assertEqual([one["pn"] for one in first["followed"]], [300, 300])
-        self.assertEqual([one["lines"] for one in first["followed"]], [len(lines)] * 2)
+        followed = first["followed"][-2:]  # those of the last update
+        self.assertEqual([one["name"] for one in followed], ["1", "2 at -1250000 Hz"])
+        self.assertEqual([one["pn"] for one in followed], [300, 300])
+        self.assertEqual([one["lines"] for one in followed], [len(lines)] * 2)
         shown = [{row[0]: row[1] for row in told["identity"]["Sync message"]} for told in (first, second)]
         self.assertEqual([one["SID"] for one in shown], ["4139", "77"])
         self.assertEqual(self.fetched(url + "save/lines.jsonl?cell=1")[0].count(b"\n"), len(objects))
@@ -584,7 +585,7 @@ class TheServer(Server):
             page, headers = self.fetched(f"{url}save/report.html?cell={number}")
             self.assertIn(b"sid=%s " % sid, page)
             self.assertNotIn(b"sid%s" % other, page)
-            name = ("report-cell-1.html", "report-cell-2-at-1250000-Hz.html")[number]
+            name = ("report-cell-1.html", "report-cell-2-at--1250000-Hz.html")[number]
             self.assertEqual(headers["Content-Disposition"], f'attachment; filename="{name}"')
         for wrong in ("2", "-1", "x", "1" * 5_000, "%D9%A1", ""):
             self.assertEqual(self.status(f"{url}save/report.html?cell={wrong}"), 404, wrong)

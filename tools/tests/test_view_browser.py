@@ -384,6 +384,32 @@ class Lines(Watched):
         self.assertEqual(self.driver.find_elements(By.CSS_SELECTOR, "#state *, #name *, #lines td *"), [])
         self.quiet()
 
+    def test_hostile_cells(self) -> None:
+        """Cells and channels that are markup are shown as text, and can be chosen and saved."""
+        lines = [line for line in FOLLOWED if not line.startswith("raw")]
+        places = [(1, 0, "paging1"), (MARKUP, 5, MARKUP), ([MARKUP], {"x": MARKUP}, "paging1")]
+        objects = [
+            json.dumps({**read_line(line), "cell": cell, "carrier": carrier, "channel": channel})
+            for cell, carrier, channel in places for line in lines
+        ]  # fmt: skip
+        _, url = self.start(self.keep("cells.jsonl", "\n".join(objects) + "\n"))
+        self.driver.get(url)
+        self.wait_text("state", "lines were read")
+        self.until("return document.getElementById('cell').options.length === 3")
+        choice = Select(self.driver.find_element(By.ID, "cell"))
+        self.assertEqual(choice.options[1].text, f"cell {MARKUP} at 5 Hz, PN 300")
+        choice.select_by_index(1)
+        self.until("return document.querySelector('#followed tr.chosen td')?.textContent.startsWith(arguments[0])", MARKUP)
+        self.wait_text("station", "BASE_ID")
+        Select(self.driver.find_element(By.ID, "channel")).select_by_visible_text(f"cell {MARKUP} at 5 Hz, {MARKUP}")
+        self.assertEqual([row[2:4] for row in self.rows("lines")], [[f"{MARKUP} at 5 Hz", MARKUP]] * len(lines))
+        _, headers = self.fetched(f"{url}save/report.html?cell=1")
+        self.assertRegex(headers["Content-Disposition"], r'^attachment; filename="report-cell-[0-9A-Za-z-]{1,40}\.html"$')
+        self.assertIsNone(self.driver.execute_script("return window.taken || null"))
+        markup = "#followed td *, #lines td *, #cell option *, #channel option *"
+        self.assertEqual(self.driver.find_elements(By.CSS_SELECTOR, markup), [])
+        self.quiet()
+
     def test_a_killed_listening(self) -> None:
         """If the listening's process is killed, the page says so and keeps what it has."""
         words = ["--type", "cu8", "--rate", "2M", "--program", "/bin/true", "-"]
