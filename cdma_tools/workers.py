@@ -34,15 +34,30 @@ def hear_interrupts() -> None:
 
 
 @contextlib.contextmanager
-def held_interrupts() -> Iterator[None]:
-    """Holds Ctrl-C back until this context is left; processes started in it don't get it at all."""
+def held_interrupts(*numbers: signal.Signals) -> Iterator[None]:
+    """Holds interrupts back until this context is left, Ctrl-C if none are named; processes started in it don't get
+    them at all."""
+    numbers = numbers or (signal.SIGINT,)
     resource_tracker.ensure_running()  # which would make the thread that first starts a process receive Ctrl-C again
-    with noted_interrupts(signal.SIGINT):
-        signal.pthread_sigmask(signal.SIG_BLOCK, {signal.SIGINT})
+    with noted_interrupts(*numbers):
+        signal.pthread_sigmask(signal.SIG_BLOCK, numbers)
         try:
             yield
         finally:
-            signal.pthread_sigmask(signal.SIG_UNBLOCK, {signal.SIGINT})
+            signal.pthread_sigmask(signal.SIG_UNBLOCK, numbers)
+
+
+@contextlib.contextmanager
+def in_order(cluster: AbstractContextManager[Any]) -> Iterator[Any]:
+    """The client of a cluster of processes of this machine, which leave interrupts to this process.
+
+    An interrupt takes the cluster down in order, even one that all processes get, or one while it begins.
+    """
+    with contextlib.ExitStack() as stack:
+        with held_interrupts(*INTERRUPTS):
+            client = stack.enter_context(cluster)
+            client.run(pass_over_interrupts)
+        yield client
 
 
 def hear_only_parent() -> None:

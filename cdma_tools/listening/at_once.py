@@ -28,7 +28,7 @@ from cdma_tools.workers import hear_only_parent
 
 FORK = get_context("fork")
 # Seconds from one look for lines to the next, and in which a process must end that was interrupted.
-LOOK_AGAIN, ENDING = 0.1, 10.0
+LOOK_AGAIN, ENDING = 0.1, 30.0
 PIECE = 1 << 20  # bytes of lines that are passed on at once, more than any line has
 
 Show = Callable[..., Any]  # makes a bar, as `progress.bar` does

@@ -5,6 +5,7 @@ import concurrent.futures
 import contextlib
 import heapq
 import itertools
+import threading
 import time
 from collections.abc import Callable, Iterable, Iterator, Sequence
 from dataclasses import dataclass
@@ -16,7 +17,7 @@ from cdma_tools.listening.follow_run import Handset
 from cdma_tools.listening.line_writer import LineWriter
 from cdma_tools.listening.parts import Joined, Joiner, Part, PartHeard, Recording, hear_part, part_at, parts_of
 from cdma_tools.progress import bar
-
+from cdma_tools.workers import in_order
 
 LOOK_AGAIN = 0.1  # seconds after which it is looked whether a part that workers do is still wanted
 
@@ -140,7 +141,10 @@ def workers_for(
     if scheduler is None and count == 1:
         yield Alone(recording, parts, look)
         return
-    with connected(scheduler, count) as client:
+    # Python handles signals in its main thread; in another thread, as of a program with `import cdma`, they are its own.
+    is_main = threading.current_thread() is threading.main_thread()
+    cluster = connected(scheduler, count)
+    with in_order(cluster) if scheduler is None and is_main else cluster as client:
         handed = Handed(recording, parts, client, look)
         try:
             yield handed

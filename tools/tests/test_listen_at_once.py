@@ -209,28 +209,44 @@ class Interrupted(unittest.TestCase):
 
     def begun(self, *words: str) -> subprocess.Popen[bytes]:
         """A listening in a session of its own, once its three processes have begun."""
+        shifts = [word for hertz in (-1_250_000, 0, 1_250_000) for word in ("--shift", str(hertz))]
+        run = self.started("--workers", "3", *shifts, *words)
+        self.workers = self.waited(run, "--ppid", 3)
+        return run
+
+    def started(self, *words: str) -> subprocess.Popen[bytes]:
+        """A listening in a session of its own, with a folder for temporary files."""
         made = os.path.join(self.folder, "made")
         os.makedirs(made, exist_ok=True)
-        given = ["--type", "cu8", "--rate", "4M", "--program", "/bin/true", "--workers", "3"]
-        shifts = [word for hertz in (-1_250_000, 0, 1_250_000) for word in ("--shift", str(hertz))]
         run = subprocess.Popen(
-            [*TOOL, *given, *shifts, *words, self.path],
+            [*TOOL, "--type", "cu8", "--rate", "4M", "--program", "/bin/true", *words, self.path],
             stdout=subprocess.PIPE, stderr=subprocess.PIPE, start_new_session=True, env={**os.environ, "TMPDIR": made},
             preexec_fn=partial(signal.signal, signal.SIGINT, signal.SIG_DFL),
         )  # fmt: skip
         self.addCleanup(run.kill)
+        return run
+
+    def waited(self, run: subprocess.Popen[bytes], chosen: str, count: int) -> list[int]:
+        """The processes that a listening has started, or those of its session, once there are at least `count`."""
         until = time.monotonic() + SECONDS
-        while len(self.children(run.pid)) < 3:
+        while True:
+            told = subprocess.run(["ps", chosen, str(run.pid), "-o", "pid="], capture_output=True, text=True)
+            if len(found := [int(word) for word in told.stdout.split()]) >= count:
+                return found
             self.assertIsNone(run.poll())
             self.assertLess(time.monotonic(), until)
             time.sleep(0.05)
-        self.workers = self.children(run.pid)
-        return run
 
-    def children(self, number: int) -> list[int]:
-        """The processes that a process has started."""
-        told = subprocess.run(["ps", "--ppid", str(number), "-o", "pid="], capture_output=True, text=True)
-        return [int(word) for word in told.stdout.split()]
+    def test_an_interrupt_of_workers(self) -> None:
+        """An interrupt that workers of this machine get too ends all with one line, while they begin and later."""
+        for number, count in ((signal.SIGTERM, 2), (signal.SIGINT, 5)):
+            run = self.started("--part", "10", "--workers", "2")
+            self.waited(run, "-s", count)
+            os.killpg(run.pid, number)
+            wrote_bytes, said = run.communicate(timeout=SECONDS)
+            self.assertEqual((run.returncode, wrote_bytes, said), (130, b"", b"listen: broken off\n"))
+            self.assertTrue(is_gone(run.pid))
+            self.assertEqual(os.listdir(os.path.join(self.folder, "made")), [])
 
     def test_an_interrupt(self) -> None:
         """Ctrl-C, or SIGTERM, ends all with one line and status 130, whether all processes get it or only the first."""
