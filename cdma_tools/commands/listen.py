@@ -305,7 +305,7 @@ def hear_one(options: argparse.Namespace) -> bool:
             writer.packets, writer.notes = packets, notes
             if isinstance(source, Recording):
                 channels = [Channel(handset, writer)]
-                is_heard = hear_recording(source, channels, options.part, options.workers or 1, options.scheduler)
+                is_heard = hear_recording(source, channels, options.part, options.workers, options.scheduler)
             else:
                 lock = lock_options(options, source.kind, source.rate, is_live=True)
                 is_heard = hear_stream(source, lock, handset, writer, output, output.already.lines > 0)

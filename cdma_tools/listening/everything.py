@@ -161,8 +161,7 @@ def hear_cell(
     """Listens to the channels of the strongest cell; returns whether a pilot was found."""
     handsets = sent_channels(recording, wanted)
     channels = [Channel(one, writers.of(place, Wanted(one))) for one in handsets]
-    workers = sharing.workers or 1
-    return hear_recording(recording, channels, sharing.part, workers, sharing.scheduler, show=sharing.show)
+    return hear_recording(recording, channels, sharing.part, sharing.workers, sharing.scheduler, show=sharing.show)
 
 
 def places_on(shifts: Sequence[float], cells: CellsWanted | None = None) -> list[Place]:

@@ -156,17 +156,18 @@ def hear_recording(
     recording: Recording,
     channels: Sequence[Channel],
     seconds: float,
-    count: int,
+    count: int | None,
     scheduler: str | None,
     look: Callable[[], None] = nothing,
     show: Callable[..., Any] = bar,
 ) -> bool:
     """Listens to channels of a recording, in parts of `seconds`; returns whether a pilot was found.
 
+    This process does all if `count`, the number of processes of this machine, is None or 1, and there is no scheduler.
     `look` is called now and then, and may raise to break the listening off. `show` makes the bar of progress.
     """
     parts, is_heard = parts_of(recording, seconds), False
-    with workers_for(recording, parts, count, scheduler, look) as workers:
+    with workers_for(recording, parts, count or 1, scheduler, look) as workers:
         joiners, first = start_of(parts, channels, workers)
         is_heard = first > 0
         with show(total=len(parts) - first, text="parts", unit="") as shown:
