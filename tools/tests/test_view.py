@@ -11,8 +11,10 @@ import re
 import signal
 import socket
 import subprocess
+import threading
 import time
 import unittest
+import unittest.mock
 import urllib.error
 import urllib.request
 from collections import Counter
@@ -31,12 +33,15 @@ from tornado.httpclient import HTTPClientError, HTTPRequest  # noqa: E402
 from tornado.websocket import WebSocketClientConnection, websocket_connect  # noqa: E402
 
 from cdma_tools.analysis.spectrum import BINS  # noqa: E402
+from cdma_tools.errors import Refused  # noqa: E402
 from cdma_tools.lines import read_line  # noqa: E402
 from cdma_tools.listening.events import Event  # noqa: E402
 from cdma_tools.listening.pieces import Chips  # noqa: E402
 from cdma_tools.radio.air import PERIOD  # noqa: E402
+from cdma_tools.sources.backlog import Backlog, Item, Skipped  # noqa: E402
 from cdma_tools.view.chip_store import CHIP_BYTES, MOST, ROOM, ChipKeeper, ChipStore, Extent  # noqa: E402
 from cdma_tools.view.feed import Feed  # noqa: E402
+from cdma_tools.view.following import SeparateListening  # noqa: E402
 from cdma_tools.view.kept import MOST_LINES, Kept, Numbered  # noqa: E402
 from cdma_tools.view.safety import Door  # noqa: E402
 from cdma_tools.view.spectrum_rows import SpectrumRows  # noqa: E402
@@ -449,6 +454,45 @@ class TheDoor(unittest.TestCase):
         self.assertTrue(first.is_token(first.token))
         self.assertFalse(first.is_token("") or first.is_token(second.token) or first.is_token("é"))
         self.assertEqual(Door.of("::1", 9).url, "http://[::1]:9/")
+
+
+class StreamsOfCells(unittest.TestCase):
+    """Cells that each have a stream of their own."""
+
+    def stream(self, items: list[Item]) -> unittest.mock.Mock:
+        """A stream with some items."""
+        backlog = Backlog()
+        for item in items:
+            backlog.put(item)
+        backlog.put(None)
+        return unittest.mock.Mock(opened=lambda: contextlib.nullcontext(backlog))
+
+    def test_each_gets_its_own(self) -> None:
+        sent: list[list[Item]] = [[b"one", Skipped(3, "lost"), b"two"], [], [b"three"]]
+        took: list[list[Item]] = [[], [], []]
+        lives = [unittest.mock.Mock(take_all=one.extend) for one in took]
+        SeparateListening(list(zip(lives, map(self.stream, sent)))).hear()
+        self.assertEqual(took, sent)
+        self.assertTrue(all(live.listening.kill.called for live in lives))
+
+    def test_one_that_fails_ends_all(self) -> None:
+        """Its fault is raised at once, though another cell has no end."""
+        begun = threading.Event()
+
+        def lasts(_: Backlog) -> None:
+            begun.set()
+            time.sleep(SECONDS)
+
+        def fails(_: Backlog) -> None:
+            begun.wait(SECONDS)
+            raise Refused("the disk is full")
+
+        lives = [unittest.mock.Mock(take_all=one) for one in (lasts, fails)]
+        begin = time.monotonic()
+        with self.assertRaisesRegex(Refused, "^the disk is full$"):
+            SeparateListening([(live, self.stream([])) for live in lives]).hear()
+        self.assertLess(time.monotonic() - begin, SECONDS / 2)
+        self.assertTrue(all(live.listening.kill.called for live in lives))
 
 
 class Server(unittest.TestCase):
