@@ -13,7 +13,7 @@ Several channels are followed at once with --paging 1,2 or all, --traffic and --
 wide recording with --shift, repeated. With --cells K the K strongest cells of a file of samples are followed, and with
 --pn P those with that PILOT_PN: first each is freed of the others, as with `listen`, and then all are played at once.
 The table of lines has the cell and the channel of each, and can be filtered by them. The other panels, the report and
-the sample file are those of the cell that is chosen in the page's head, at first the strongest one of the first carrier.
+the sample file are those of the cell that is chosen in the page's head, at first the strongest of the first carrier.
 What all channels of a cell have, as its sync messages, is shown once.
 
 `listen` runs in its own process, and doesn't wait for a browser: a page gets at most ten updates a second, and

@@ -141,7 +141,7 @@ def workers_for(
     if scheduler is None and count == 1:
         yield Alone(recording, parts, look)
         return
-    # Python handles signals in its main thread; in another thread, as of a program with `import cdma`, they are its own.
+    # Python handles signals in its main thread. In another thread, as with `import cdma`, they are the program's own.
     is_main = threading.current_thread() is threading.main_thread()
     cluster = connected(scheduler, count)
     with in_order(cluster) if scheduler is None and is_main else cluster as client:

@@ -89,7 +89,7 @@ class SeparateListening:
         self.lives = lives
 
     def hear(self) -> None:
-        """Listens up to the end of all streams. An interrupt ends it after what has come; a second one breaks it off."""
+        """Listens up to the end of all streams. An interrupt ends it after what has come, a second one at once."""
         try:
             with ExitStack() as stack:
                 backlogs = [stack.enter_context(stream.opened()) for _, stream in self.lives]

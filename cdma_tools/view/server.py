@@ -37,8 +37,8 @@ from cdma_tools.view.steps import WHY_NONE, FrameAsked, Handset, MarkTold, of_ch
 from cdma_tools.view.waveform import WHOLE, Measured, Wanted, measured
 
 HERE = os.path.dirname(os.path.abspath(__file__))
-# Seconds from one update of a browser to the next, from one measurement of a cell to the next, and from that of one cell
-# to that of another.
+# Seconds from one update of a browser to the next, from one measurement of a cell to its next, and to that of another
+# cell.
 UPDATE_EVERY, MEASURE_EVERY, TURN_EVERY = 0.1, 0.5, 0.25
 MOST_VIEWERS = 16
 # Seconds from one ping of a browser to the next, and without an answer after which it is gone. A machine that is very
@@ -376,8 +376,8 @@ class Viewer(Guarded, WebSocketHandler):
 
 
 def asked_for(message: str | bytes) -> tuple[str, int] | None:
-    """Returns what a browser asks for, fields ("line") or steps of a line, or a cell, and the number of that; None if it
-    is something else."""
+    """Returns what a browser asks for, fields ("line") or steps of a line, or a cell, and the number of that; None if
+    it is something else."""
     try:
         asked = json.loads(message)
     except (ValueError, RecursionError):

@@ -32,7 +32,6 @@ from tools.tests.test_report import MARKUP  # noqa: E402
 from tools.tests.test_report_browser import started  # noqa: E402
 from tools.tests.test_view import SECONDS, Server, children_of  # noqa: E402
 
-CHIPS, TWO_CHIPS = 6 * 1_228_800, 3 * 1_228_800
 HANDSET = ("--esn", "00c0ffee", "--row", "20")  # of the traffic channel of a drawn cell
 PANELS = ("spectrum", "waterfall", "domain", "symbols", "correlation", "history", "timeline")
 
@@ -87,10 +86,13 @@ class Watched(Server):
         self.assertEqual(self.driver.get_log("browser"), [])
 
 
-@unittest.skipUnless(PROGRAM, NO_PROGRAM)
-class ARecording(Watched):
-    """A recording of two cells, played at the pace of the air."""
+class Recorded(Watched):
+    """Two drawn cells, and a recording of them, in which the second has a level in dB."""
 
+    drawn_from: ClassVar[str]
+    chips: ClassVar[int]
+    rate: ClassVar[str]
+    level: ClassVar[int]
     cells: ClassVar[list[DrawnCell]]
     meta: ClassVar[str]
 
@@ -98,13 +100,20 @@ class ARecording(Watched):
     def setUpClass(cls) -> None:
         super().setUpClass()
         folder = temporary_folder(cls.addClassCleanup)
-        draws = random.Random("a view 1")
+        draws = random.Random(cls.drawn_from)
         cls.cells = [drawn_cell(draws, pn, (other,)) for pn, other in ((300, 168), (168, 300))]
-        files = [cell.write(os.path.join(folder, f"{cell.pn}.is95"), CHIPS) for cell in cls.cells]
+        files = [cell.write(os.path.join(folder, f"{cell.pn}.is95"), cls.chips) for cell in cls.cells]
         cls.meta = os.path.join(folder, "radio.sigmf-meta")
-        words = ["--type", "cu8", "--rate", "2.4M", "--seed", 3, "--carrier", 3_000, "--clock", 4, "--ec-io", -8]
-        status, _, said = run_main("channel", *words, files[0], f"{files[1]}:-6:20", cls.meta)
+        words = ["--type", "cu8", "--rate", cls.rate, "--seed", 3, "--carrier", 3_000, "--clock", 4, "--ec-io", -8]
+        status, _, said = run_main("channel", *words, files[0], f"{files[1]}:{cls.level}:20", cls.meta)
         assert status == 0, said
+
+
+@unittest.skipUnless(PROGRAM, NO_PROGRAM)
+class ARecording(Recorded):
+    """A recording of two cells, played at the pace of the air."""
+
+    drawn_from, chips, rate, level = "a view 1", 6 * 1_228_800, "2.4M", -6
 
     def truth(self) -> tuple[dict[str, str], list[dict[str, Any]]]:
         """What the recording's .sigmf-meta says of it, and of its cells."""
@@ -219,23 +228,10 @@ class ARecording(Watched):
 
 
 @unittest.skipUnless(PROGRAM, NO_PROGRAM)
-class TwoCells(Watched):
+class TwoCells(Recorded):
     """Both cells of a recording, each without the other."""
 
-    cells: ClassVar[list[DrawnCell]]
-    meta: ClassVar[str]
-
-    @classmethod
-    def setUpClass(cls) -> None:
-        super().setUpClass()
-        folder = temporary_folder(cls.addClassCleanup)
-        draws = random.Random("two views")
-        cls.cells = [drawn_cell(draws, pn, (other,)) for pn, other in ((300, 168), (168, 300))]
-        files = [cell.write(os.path.join(folder, f"{cell.pn}.is95"), TWO_CHIPS) for cell in cls.cells]
-        cls.meta = os.path.join(folder, "radio.sigmf-meta")
-        words = ["--type", "cu8", "--rate", "1.5M", "--seed", 3, "--carrier", 3_000, "--clock", 4, "--ec-io", -8]
-        status, _, said = run_main("channel", *words, files[0], f"{files[1]}:-4:20", cls.meta)
-        assert status == 0, said
+    drawn_from, chips, rate, level = "two views", 3 * 1_228_800, "1.5M", -4
 
     def test_each_cell(self) -> None:
         """The choice of a cell shows its signal and its base station; the table has the lines of both."""
@@ -399,12 +395,14 @@ class Lines(Watched):
         choice = Select(self.driver.find_element(By.ID, "cell"))
         self.assertEqual(choice.options[1].text, f"cell {MARKUP} at 5 Hz, PN 300")
         choice.select_by_index(1)
-        self.until("return document.querySelector('#followed tr.chosen td')?.textContent.startsWith(arguments[0])", MARKUP)
+        chosen = "document.querySelector('#followed tr.chosen td')?.textContent"
+        self.until(f"return {chosen} === arguments[0]", f"{MARKUP} at 5 Hz")
         self.wait_text("station", "BASE_ID")
         Select(self.driver.find_element(By.ID, "channel")).select_by_visible_text(f"cell {MARKUP} at 5 Hz, {MARKUP}")
         self.assertEqual([row[2:4] for row in self.rows("lines")], [[f"{MARKUP} at 5 Hz", MARKUP]] * len(lines))
         _, headers = self.fetched(f"{url}save/report.html?cell=1")
-        self.assertRegex(headers["Content-Disposition"], r'^attachment; filename="report-cell-[0-9A-Za-z-]{1,40}\.html"$')
+        saved = r'^attachment; filename="report-cell-[0-9A-Za-z-]{1,40}\.html"$'
+        self.assertRegex(headers["Content-Disposition"], saved)
         self.assertIsNone(self.driver.execute_script("return window.taken || null"))
         markup = "#followed td *, #lines td *, #cell option *, #channel option *"
         self.assertEqual(self.driver.find_elements(By.CSS_SELECTOR, markup), [])
