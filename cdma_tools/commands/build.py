@@ -3,10 +3,7 @@
 `rt run` and `rt lib` build the crates below one after the other. This tool starts `rt lib` of each crate as soon as
 those below it are built, the longest chain of work first, as many at once as processors and memory allow. A library
 gets several jobs if processors are left over. Then the requested crate is built in this checkout: a program by `rt run`
-in crates/NAME/out/NAME, a library by `rt lib`. What `rt` kept is used, and not built again.
-
-`rt` would also keep the parts of each proof, which makes later builds of a changed crate shorter, but takes half as
-long again. So nothing but what is built is kept, unless --keep is given or a crate has kept parts from `rt check`.
+with at most two jobs, in crates/NAME/out/NAME, a library by `rt lib`. What `rt` kept is used, and not built again.
 
     tools/build
     tools/build mobile_core --jobs 2 --memory 8
@@ -52,7 +49,6 @@ def parser() -> Parser:
         metavar="GB",
         help=f"memory to plan with, in GB (default {100 * OF_FREE:g} %% of what is free)",
     )
-    words.add_argument("--keep", action="store_true", help="keep the parts of proofs for later builds")
     words.add_argument("--root", metavar="FOLDER", default=TOP, help="checkout to build in (default this one)")
     return words
 
@@ -82,7 +78,7 @@ def main(arguments: list[str] | None = None) -> int:
     root, name, begun = os.path.abspath(options.root), options.name, time.monotonic()
     crates = crates_in(root, name)
     memory = OF_FREE * free_memory() if options.memory is None else 1_000 * options.memory
-    builder = Builder(root, crates, name, Room(options.jobs, memory), tell, options.keep)
+    builder = Builder(root, crates, name, Room(options.jobs, memory), tell)
     try:
         builder.build()
     except Failed as why:

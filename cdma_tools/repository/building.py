@@ -4,11 +4,6 @@
 shares what it built among the checkouts of a machine: if the same text was built over the same libraries, it takes that
 over, and proves nothing again. So the first of several runs works in the checkout, and the others in copies. The
 requested crate comes last, in the checkout, which takes the libraries over.
-
-`rt` also keeps the parts of a proof, for the next one of a changed crate. For that, copies of the prover check a few
-functions each, every one loads all crates below, and the first build of a tree takes half as long again. So a build
-keeps none unless it is told to. `rt` has no option for it, but continues without the folder of what is kept if that is
-a file.
 """
 
 from __future__ import annotations
@@ -33,15 +28,13 @@ from cdma_tools.starting import pass_over_interrupts
 
 OF_JOB = 0.6  # of what a crate is planned with, each job of its run but the first takes so much more
 MOST_JOBS = 8  # of one run: `rt` itself chooses no more
+JOBS_OF_PROGRAM = 2  # of its build: by three or four they end at different times, and it lasts longer
 OF_FREE = 0.85  # of the memory that is free, so much is planned with, as `rt ci` does
 LAST_LINES = 12  # of the log of a run that failed
 SECONDS_TO_END = 10.0
 # What a copy leaves out: build output, and edits, which no build reads.
 LEFT_OUT = {"out", "must-fail"}
 COPIED = ("crates.txt", "HANDLES")
-# The folder of a crate in which `rt` keeps the parts of its proof, and what a file in its place says.
-KEPT_PARTS = os.path.join("out", "incremental")
-NONE_KEPT = "tools/build keeps no parts of proofs; without this file, rt does.\n"
 MEMORY_INFO, GROUP_LIMIT, GROUP_HELD = "/proc/meminfo", "/sys/fs/cgroup/memory.max", "/sys/fs/cgroup/memory.current"
 
 
@@ -137,29 +130,11 @@ def remove(folder: str) -> None:
         shutil.rmtree(folder, ignore_errors=True)
 
 
-def keep_no_parts(folder: str) -> None:
-    """Has `rt` keep no parts of the proof of the crate in this folder, unless some are there, which it uses."""
-    kept = os.path.join(folder, KEPT_PARTS)
-    os.makedirs(os.path.dirname(kept), exist_ok=True)
-    if not os.path.isdir(kept):
-        with open(kept, "w", encoding="ascii") as file:
-            file.write(NONE_KEPT)
-
-
 class Builder:
-    """Builds a crate and those below it, as many at once as resources allow; `tell` takes lines about the progress.
-    `keeps` says whether `rt` keeps the parts of proofs."""
+    """Builds a crate and those below it, as many at once as resources allow; `tell` takes lines about the progress."""
 
-    def __init__(
-        self,
-        root: str,
-        crates: dict[str, Crate],
-        name: str,
-        room: Room,
-        tell: Callable[[str], None],
-        keeps: bool = False,
-    ) -> None:
-        self.root, self.asked, self.room, self.tell, self.keeps = root, name, room, tell, keeps
+    def __init__(self, root: str, crates: dict[str, Crate], name: str, room: Room, tell: Callable[[str], None]) -> None:
+        self.root, self.asked, self.room, self.tell = root, name, room, tell
         self.below = stands_on(crates)
         names = {name, *all_below(self.below, name)}
         self.ahead = work_ahead(crates, names)
@@ -175,7 +150,6 @@ class Builder:
     def build(self) -> None:
         """Builds all, and ends runs under way if one fails or an interrupt comes."""
         self.folder = tempfile.mkdtemp(prefix="cdma-build-")
-        self.keep_parts()
         try:
             while self.left or self.running:
                 self.begin_ready()
@@ -185,15 +159,7 @@ class Builder:
             raise
         finally:
             self.end_all()
-            self.keep_parts()
             remove(self.folder)
-
-    def keep_parts(self) -> None:
-        """Lets `rt` keep the parts of proofs in the checkout again, also after a build that was killed."""
-        for name in self.memory:
-            kept = os.path.join(self.root, "crates", name, KEPT_PARTS)
-            if os.path.isfile(kept):
-                os.unlink(kept)
 
     def unused(self) -> Room:
         """Returns the resources that no run uses."""
@@ -209,8 +175,9 @@ class Builder:
         for at, name in enumerate(ready):
             room, memory = self.unused(), self.memory[name]
             if room.processors > 0 and (memory <= room.memory or not self.running):
+                most = JOBS_OF_PROGRAM if is_program(self.root, name) else MOST_JOBS
                 jobs = jobs_for(memory, room, len(ready) - at - 1) if self.is_longest(name) else 1
-                self.begin(name, jobs)
+                self.begin(name, min(jobs, most))
 
     def is_longest(self, name: str) -> bool:
         """Whether no longer work lies ahead of a crate that isn't built: what is waited for in the end."""
@@ -227,9 +194,6 @@ class Builder:
         """Begins a crate; the requested one is built with no other, so its place is the checkout."""
         place = self.free_place()
         self.left.remove(name)
-        folder = os.path.join(place, "crates", name)
-        if not self.keeps:
-            keep_no_parts(folder)
         source = os.path.join(self.root, "crates", name, "stdin")
         log = log_of(self.root, name)
         os.makedirs(os.path.dirname(log), exist_ok=True)
@@ -242,7 +206,7 @@ class Builder:
         ):
             child = subprocess.Popen(
                 command_of(self.root, name, jobs),
-                cwd=folder,
+                cwd=os.path.join(place, "crates", name),
                 stdin=read,
                 stdout=write,
                 stderr=subprocess.STDOUT,

@@ -137,7 +137,7 @@ class Builds(Checkout):
             at = next(place for place, line in enumerate(told) if line.startswith(f"begun {name} "))
             self.assertIn(f"ended {below}", told[:at])
         self.assertEqual(runs["core"].words, ["lib", "--jobs", "3"])
-        self.assertEqual(runs["top"].words, ["run", "--jobs", "3", "--", "find", "--all"])
+        self.assertEqual(runs["top"].words, ["run", "--jobs", "2", "--", "find", "--all"])
         self.assertIn("read top some samples", told)
         self.assertEqual([runs[name].place for name in ("core", "short", "top")], [self.root] * 3)
         self.assertTrue(runs["wide"].place.startswith(self.room), runs["wide"].place)
@@ -160,37 +160,10 @@ class Builds(Checkout):
         """A copy has only the sources: a run that finds the checkout's build output there, or no source, fails."""
         with open(os.path.join(self.commands, "rt"), "a", encoding="utf-8") as file:
             file.write("[ -e ../../HANDLES ] && [ -e src/lib.rt ] || exit 7\n")
-            file.write("case $PWD in */copies/*) [ ! -e out/made.rt ] || exit 8 ;; esac\n")
+            file.write("case $PWD in */copies/*) [ ! -e out ] || exit 8 ;; esac\n")
         self.write("it/crates.txt", CRATES.replace("long: short", "long: short wide"))
         self.built("long", "--jobs", "2", MEET="wide short")
         self.assertTrue(any(run.place.startswith(self.room) for run in self.begun()))
-
-    def kept(self, *words: str) -> list[str]:
-        """Returns what stands in the place of kept parts of proofs in each run of a build."""
-        with open(os.path.join(self.commands, "rt"), "a", encoding="utf-8") as file:
-            file.write("""[ -e out/incremental ] || echo "kept $name none" >> "$EVENTS"
-[ ! -f out/incremental ] || echo "kept $name file" >> "$EVENTS"
-[ ! -d out/incremental ] || echo "kept $name folder" >> "$EVENTS"
-""")
-        self.built("top", "--jobs", "2", *words)
-        for crate in LINES:
-            self.assertFalse(os.path.isfile(os.path.join(self.root, "crates", crate, "out", "incremental")), crate)
-        return [line.removeprefix("kept ") for line in self.lines() if line.startswith("kept ")]
-
-    def test_no_parts_are_kept(self) -> None:
-        """Nor by a build that follows one that was killed, but for a crate that has kept some."""
-        self.write("it/crates/core/out/incremental", "left by a build that was killed\n")
-        os.makedirs(os.path.join(self.root, "crates", "short", "out", "incremental"))
-        self.assertEqual(
-            sorted(self.kept()), ["core file", "long file", "short folder", "top file", "wide file"]
-        )
-
-    def test_parts_are_kept(self) -> None:
-        self.write("it/crates/core/out/incremental", "left by a build that was killed\n")
-        os.makedirs(os.path.join(self.root, "crates", "short", "out", "incremental"))
-        self.assertEqual(
-            sorted(self.kept("--keep")), ["core none", "long none", "short folder", "top none", "wide none"]
-        )
 
     def most_at_once(self, weight: dict[str, float] | None = None) -> float:
         """Returns the most jobs at once; with the crates' weights, the greatest sum of these, 0.6 more for each
@@ -238,11 +211,6 @@ class Builds(Checkout):
 class Ends(Checkout):
     """Runs that do not end normally."""
 
-    def assert_nothing_stands_for_kept_parts(self) -> None:
-        """Asserts that no file is left that keeps `rt` from keeping parts of proofs."""
-        for name in LINES:
-            self.assertFalse(os.path.exists(os.path.join(self.root, "crates", name, "out", "incremental")), name)
-
     def test_a_crate_that_fails(self) -> None:
         wrote, said = self.built(
             "top", "--jobs", "2", "--memory", "100", MEET="wide short", FAILS="short", WAITS="wide", status=1
@@ -252,7 +220,6 @@ class Ends(Checkout):
         self.assert_gone(runs["wide"].process)
         log = os.path.join(self.root, "crates", "short", "out", "build.log")
         self.assertEqual(said, f"build: short wasn't built; its log is {log}\n")
-        self.assert_nothing_stands_for_kept_parts()
         self.assertRegex(wrote, r"(?m)^0:00:\d\d short failed after 0:00:\d\d, status 3; the end of its log:$")
         shown = "".join(f"    line {number} of short\n" for number in range(2, 14))
         self.assertIn(f"its log:\n{shown}0:00:", wrote)
@@ -280,7 +247,6 @@ class Ends(Checkout):
                 self.assertEqual(len(self.begun()), 3)
                 for run in self.begun():
                     self.assert_gone(run.process)
-                self.assert_nothing_stands_for_kept_parts()
 
     def test_a_reader_that_has_gone(self) -> None:
         reader, writer = os.pipe()
