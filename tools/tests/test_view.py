@@ -631,7 +631,7 @@ class TheServer(Server):
             self.assertNotIn(b"sid%s" % other, page)
             name = ("report-cell-1.html", "report-cell-2-at--1250000-Hz.html")[number]
             self.assertEqual(headers["Content-Disposition"], f'attachment; filename="{name}"')
-        for wrong in ("2", "-1", "x", "1" * 5_000, "%D9%A1", ""):
+        for wrong in ("2", "-1", "x", "1" * 5_000, "%d9%a1", ""):
             self.assertEqual(self.status(f"{url}save/report.html?cell={wrong}"), 404, wrong)
 
     def test_fields_of_a_line(self) -> None:
