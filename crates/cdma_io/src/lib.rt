@@ -32,4 +32,5 @@ pub use sample_bytes::sample_bytes_into;
 pub use sample_reader::SampleReader;
 pub use sink::{Sink, write_all};
 pub use source::{Failed, Source};
+pub use width::bytes_for;
 pub use writer_sink::WriterSink;

@@ -7,20 +7,8 @@ ghost use Rattle.std.specs.Io.KnownBytes.{Appends};
 ghost use Rattle.run_ends.specs.Make.{made_file, piece_bytes};
 
 use crate::cell::Cell;
-use cdma_io::{Failed, Sink, Width, header_bytes, sample_bytes_into, write_all};
+use cdma_io::{Failed, Sink, Width, bytes_for, header_bytes, sample_bytes_into, write_all};
 use chip_core::Sample;
-
-/// Returns how many bytes `count` samples take.
-fn bytes_for(width: Width, count: usize) -> usize
-    requires { count ≤ 4096 }
-    ensures value { result ≡ sample_len width * count }
-    ensures most { result ≤ 4 * count }
-{
-    match width {
-        Width::Sixteen => 4 * count,
-        Width::Eight => 2 * count,
-    }
-}
 
 /// Spells the cell's next samples, exactly as many as `samples` holds.
 fn spell_next(cell: &mut Cell, width: Width, samples: &mut [Sample], bytes: &mut [u8])
@@ -49,7 +37,7 @@ fn spell_piece(cell: &mut Cell, width: Width, samples: &mut [Sample], bytes: &mu
         { given = cell.old.given + min 4096 (cell.old.plan.link.samples - cell.old.given) } }
 {
     let count = cell.left().min(samples.len() as u64) as usize;
-    let len = bytes_for(width, count);
+    let len = bytes_for(width, count as u64) as usize;
     spell_next(cell, width, &mut samples[..count], &mut bytes[..len]);
     len
 }
