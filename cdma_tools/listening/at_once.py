@@ -24,6 +24,7 @@ from cdma_tools.interrupts import INTERRUPTS, blocked_interrupts, noted_interrup
 from cdma_tools.listening.output import StandardOutput
 from cdma_tools.progress import Silent, bar
 from cdma_tools.receiver_run import ended_text
+from cdma_tools.starting import pass_over_interrupts
 from cdma_tools.workers import hear_only_parent
 
 FORK = get_context("fork")
@@ -81,19 +82,30 @@ def end_with_parent(life: Connection) -> None:
 
 
 def work(task: Task, lines: io.FileIO, pipe: Connection, life: Connection, held: Connection) -> None:
-    """Does a task in a process of its own. `held` is the end of the pipe `life` that only the parent may have."""
-    hear_only_parent()
-    held.close()
-    threading.Thread(target=end_with_parent, args=(life,), daemon=True).start()
-    sys.stdout = io.TextIOWrapper(io.BufferedWriter(lines), write_through=True)
+    """Does a task in a process of its own. `held` is the end of the pipe `life` that only the parent may have.
+
+    An interrupt may have come before the process could take it, so it breaks off all of this, as does the parent's end.
+    """
     try:
-        result = Result(task.do(partial(ToldBar, pipe)))
+        hear_only_parent()
+        held.close()
+        threading.Thread(target=end_with_parent, args=(life,), daemon=True).start()
+        sys.stdout = io.TextIOWrapper(io.BufferedWriter(lines), write_through=True)
+        pipe.send(result_of(task, pipe))
+    except (KeyboardInterrupt, BrokenPipeError):
+        return
+    finally:
+        pass_over_interrupts()
+
+
+def result_of(task: Task, pipe: Connection) -> Result:
+    """Does a task, and returns how it ended; its steps go into a pipe."""
+    try:
+        is_heard = task.do(partial(ToldBar, pipe))
         sys.stdout.flush()
     except (Refused, WrongArguments, MemoryError, OSError) as why:
-        result = Result(False, why)
-    except KeyboardInterrupt:
-        return
-    pipe.send(result)
+        return Result(False, why)
+    return Result(is_heard)
 
 
 class Working:

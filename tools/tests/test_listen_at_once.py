@@ -263,6 +263,24 @@ class Interrupted(unittest.TestCase):
                 self.assertTrue(all(is_gone(other) for other in self.workers))
                 self.assertEqual(os.listdir(os.path.join(self.folder, "made")), [])
 
+    def test_an_early_interrupt(self) -> None:
+        """An interrupt that comes while a process of a task begins ends it in order, without a word."""
+        told = """if True:
+            from cdma_tools.listening import at_once
+            from cdma_tools.progress import Silent
+
+            def interrupted():
+                raise KeyboardInterrupt
+
+            at_once.hear_only_parent = interrupted
+            try:
+                at_once.AtOnce([at_once.Task("", bool)] * 2, 2, Silent()).run()
+            except at_once.Refused as why:
+                print(why)
+        """
+        ran = subprocess.run([PYTHON, "-c", told], cwd=ROOT, capture_output=True, text=True, timeout=SECONDS)
+        self.assertEqual((ran.stdout, ran.stderr), ("its process was status 0\n", ""))
+
     def test_a_kill(self) -> None:
         """If the first process is killed the others end too, and undo what they have begun: folders of cells here."""
         run = self.begun("--cells", "2")
