@@ -4,6 +4,7 @@ Most of it runs over a stand-in for the program, `fake_receiver.py`, in which on
 """
 
 import csv
+import gc
 import json
 import os
 import re
@@ -303,6 +304,9 @@ class Cluster(Curves):
         self.assertEqual((self.rows(), self.batches()), (self.rows_of_one_worker(), BATCHES))
 
     def test_a_scheduler_that_is_not_there(self) -> None:
+        # A client that found no scheduler closes when it is collected. If that happens while another client starts in
+        # this process, each of the two waits for the other.
+        self.addCleanup(gc.collect)
         self.refused("no scheduler at tcp://127.0.0.1:9", self.words("--scheduler", "tcp://127.0.0.1:9"))
         self.refused("no scheduler at nonsense", self.words("--scheduler", "nonsense"))
 
