@@ -27,8 +27,8 @@ class NoList(Exception):
     """Reason why crates.txt is not a list of crates."""
 
 
-def crates_below(root: str) -> dict[str, list[str]]:
-    """Returns the crates of crates.txt in order, each with its dependencies; a crate that isn't listed is the kit's."""
+def listed_crates(root: str) -> dict[str, list[str]]:
+    """Returns the crates of crates.txt in order, each with its dependencies, the kit's libraries among them."""
     path = os.path.join(root, "crates.txt")
     try:
         with open(path, encoding="utf-8") as file:
@@ -43,7 +43,13 @@ def crates_below(root: str) -> dict[str, list[str]]:
             if not colon or not head.split():
                 raise NoList(f"crates.txt has a line that names no crate: {line[:60]!r}")
             found[head.split()[0]] = below.split()
-    return {name: [it for it in below if it in found] for name, below in found.items()}
+    return found
+
+
+def crates_below(root: str) -> dict[str, list[str]]:
+    """Returns the crates of crates.txt in order, each with its dependencies; a crate that isn't listed is the kit's."""
+    listed = listed_crates(root)
+    return {name: [it for it in below if it in listed] for name, below in listed.items()}
 
 
 def all_below(below: Mapping[str, Sequence[str]], name: str) -> set[str]:

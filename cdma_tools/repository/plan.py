@@ -4,10 +4,10 @@ from __future__ import annotations
 
 import os
 from collections.abc import Collection
-from dataclasses import dataclass
+from dataclasses import dataclass, field
 
 from cdma_tools.errors import Refused
-from cdma_tools.repository.crate_list import all_below, crates_below
+from cdma_tools.repository.crate_list import all_below, listed_crates
 
 # The folders of a crate that a check reads.
 PARTS = ("src", "specs", "proofs")
@@ -19,7 +19,8 @@ TIME_OF_ANY, TIME_OF_PROOF = 50.0, 0.04
 
 @dataclass
 class Crate:
-    """A crate: its dependencies, the numbers of lines of its files, and whether it has tests and edits."""
+    """A crate: its dependencies, the numbers of lines of its files, whether it has tests and edits, and the libraries
+    of the kit that it names."""
 
     name: str
     below: list[str]
@@ -27,12 +28,15 @@ class Crate:
     proof: int = 0
     has_tests: bool = False
     edits: int = 0
+    of_kit: list[str] = field(default_factory=list)
 
 
 def crates_of(root: str) -> dict[str, Crate]:
     """The crates of a repository by their names, in the order of crates.txt, with the lines of their files."""
-    found = {name: Crate(name, below) for name, below in crates_below(root).items()}
+    listed = listed_crates(root)
+    found = {name: Crate(name, [it for it in below if it in listed]) for name, below in listed.items()}
     for crate in found.values():
+        crate.of_kit = [it for it in listed[crate.name] if it not in listed]
         count_lines(crate, os.path.join(root, "crates", crate.name))
     return found
 

@@ -1,15 +1,17 @@
-"""tools/build: which crates it starts, when and where, over a stand-in for `rt` that records its arguments."""
+"""tools/build: which crates it checks, when and by which commands, over stand-ins for `rattle` that record their
+arguments."""
 
 from __future__ import annotations
 
 import contextlib
+import fcntl
 import os
 import signal
 import subprocess
 import time
 import unittest
 
-from cdma_tools.repository.building import Room, free_memory, jobs_for
+from cdma_tools.repository.building import VERDICT, Room, free_memory, jobs_for
 from cdma_tools.repository.plan import Crate, work_ahead
 from tools.tests.helping import PYTHON, ROOT, temporary_folder
 
@@ -23,12 +25,13 @@ top: wide long
 apart: core
 """
 LINES = {"core": 10, "wide": 300, "short": 10, "long": 400, "top": 5, "apart": 7}
-# It records its folder, its number of jobs and its process; waits if the test says so; and records its end. Those named
-# by MEET wait for one another, which they could not do if they ran one after the other.
-STAND_IN_FOR_RT = """#!/bin/sh
+PROVED = "logic=proved functions=3 axioms=0 native=nat,char,string logic-built=trusted"
+PROVED += " libraries-built=trusted statements=trusted"
+# It records its folder, its process and its arguments; waits if the test says so; makes what its last word names; and
+# records its end. Those named by MEET wait for one another, which they could not do if they ran one after the other.
+STAND_IN_FOR_RATTLE = """#!/bin/sh
 name=${PWD##*/}
 echo "begun $name $PWD $$ $*" >> "$EVENTS"
-read -r line && echo "read $name $line" >> "$EVENTS"
 case " $MEET " in *" $name "*)
     for other in $MEET; do
         tries=0
@@ -42,36 +45,47 @@ esac
 case " $WAITS " in *" $name "*) sleep 100 ;; esac
 for number in 1 2 3 4 5 6 7 8 9 10 11 12 13; do echo "line $number of $name"; done
 case " $FAILS " in *" $name "*) exit 3 ;; esac
+case " $CHANGES " in *" $name "*) echo >> src/lib.rt ;; esac
+case " $DOUBTS " in *" $name "*) echo "$VERDICT pinned=no" ;; *) echo "$VERDICT" ;; esac
+for made; do :; done
+echo "made of $name" > "$made"
 echo "ended $name" >> "$EVENTS"
+"""
+STAND_IN_FOR_THE_LINKER = """#!/bin/sh
+echo "linked $*" >> "$EVENTS"
+[ "$LINKS" != no ] || { echo "no link"; exit 4; }
+while [ "$1" != -o ]; do shift; done
+echo "linked of ${PWD##*/}" > "$2"
+chmod +x "$2"
 """
 
 
 class Begun:
-    """A run of the stand-in: its crate, the checkout or copy in which it began, its process and its arguments."""
+    """A run of the stand-in: its crate, its folder, its process and its arguments."""
 
     def __init__(self, line: str) -> None:
-        _, self.name, folder, process, *self.words = line.split()
-        self.place, self.process = folder.removesuffix(f"/crates/{self.name}"), int(process)
+        _, self.name, self.folder, process, *self.words = line.split()
+        self.process = int(process)
         self.jobs = int(self.words[self.words.index("--jobs") + 1])
 
 
 class Checkout(unittest.TestCase):
-    """A checkout of six crates, one of which depends on nothing that the others need."""
+    """A checkout of six crates, one of which depends on nothing that the others need, and a kit beside it."""
 
     def setUp(self) -> None:
         self.folder = os.path.realpath(temporary_folder(self.addCleanup))
-        self.root, self.room, self.commands = (os.path.join(self.folder, name) for name in ("it", "copies", "bin"))
+        self.root, self.kit, self.path = (os.path.join(self.folder, name) for name in ("it", "kit", "path"))
         self.events = os.path.join(self.folder, "events")
-        for name in (self.room, self.commands):
-            os.mkdir(name)
         self.write("it/crates.txt", CRATES)
-        self.write("it/HANDLES", "Handles allowed: none.\n")
         for name, lines in LINES.items():
             self.write(f"it/crates/{name}/src/{'main' if name == 'top' else 'lib'}.rt", "\n" * lines)
-            self.write(f"it/crates/{name}/out/made.rt", "made")
-        self.write("it/crates/top/args", "find\n--all\n")
-        self.write("it/crates/top/stdin", "some samples\n")
-        os.chmod(self.write("bin/rt", STAND_IN_FOR_RT), 0o700)
+        self.write("kit/WHAT", "a kit\n")
+        for name, text in (
+            ("rattle", STAND_IN_FOR_RATTLE), ("rattle-link", STAND_IN_FOR_THE_LINKER), ("rt", "#!/bin/sh\nexit 9\n"),
+        ):  # fmt: skip
+            os.chmod(self.write(f"kit/bin/{name}", text), 0o700)
+        os.makedirs(self.path)
+        os.symlink(os.path.join(self.kit, "bin", "rt"), os.path.join(self.path, "rt"))
 
     def write(self, place: str, text: str) -> str:
         """Makes a file."""
@@ -82,34 +96,47 @@ class Checkout(unittest.TestCase):
         return path
 
     def environment(self, **more: str) -> dict[str, str]:
-        """Returns the environment of a run: the stand-in's path, the folder of copies, and what the stand-in must do.
-        """
-        path = f"{self.commands}:/usr/bin:/bin"
-        told = {"PATH": path, "TMPDIR": self.room, "EVENTS": self.events, "MEET": "", "WAITS": "", "FAILS": ""}
-        return {**told, **more}
+        """Returns the environment of a run: the path to the stand-ins, and what they must do."""
+        told = {"PATH": f"{self.path}:/usr/bin:/bin", "EVENTS": self.events, "VERDICT": PROVED}
+        return {**told, **dict.fromkeys(("MEET", "WAITS", "FAILS", "CHANGES", "DOUBTS", "LINKS"), ""), **more}
 
     def command(self, *words: str) -> list[str]:
         """Returns the command line of a run over the checkout."""
         return [PYTHON, "-B", os.path.join(ROOT, "tools", "build"), "--root", self.root, *words]
 
     def built(self, *words: str, status: int = 0, **more: str) -> tuple[str, str]:
-        """Returns what a run writes on standard output and standard error; asserts that none of its copies is left."""
+        """Returns what a run writes on standard output and standard error."""
         ran = subprocess.run(
             self.command(*words), env=self.environment(**more), capture_output=True, text=True, timeout=SECONDS
         )
         self.assertEqual(ran.returncode, status, ran.stdout + ran.stderr)
-        self.assertEqual(os.listdir(self.room), [])
         return ran.stdout, ran.stderr
 
+    def built_anew(self, name: str, **more: str) -> list[str]:
+        """Builds a crate, one job at a time, and returns the crates that were checked for it, in order."""
+        with contextlib.suppress(FileNotFoundError):
+            os.unlink(self.events)
+        self.built(name, "--jobs", "1", status=0, **more)
+        return [run.name for run in self.begun()]
+
     def lines(self) -> list[str]:
-        """Returns what the stand-in has recorded so far."""
+        """Returns what the stand-ins have recorded so far."""
         with contextlib.suppress(FileNotFoundError), open(self.events, encoding="utf-8") as file:
             return file.read().splitlines()
         return []
 
     def begun(self) -> list[Begun]:
-        """Returns the runs of the stand-in, in order."""
+        """Returns the runs of the stand-in for `rattle`, in order."""
         return [Begun(line) for line in self.lines() if line.startswith("begun ")]
+
+    def in_crate(self, name: str, *path: str) -> str:
+        """Returns the path of a file in a crate's folder."""
+        return os.path.join(self.root, "crates", name, *path)
+
+    def text_in(self, name: str, *path: str) -> str:
+        """Returns the text of a file in a crate's folder."""
+        with open(self.in_crate(name, *path), encoding="utf-8") as file:
+            return file.read()
 
     def assert_gone(self, process: int) -> None:
         """Asserts that a process has ended, or ends within some seconds."""
@@ -124,46 +151,97 @@ class Checkout(unittest.TestCase):
 
 
 class Builds(Checkout):
-    """Which runs begin, when and where."""
+    """Which checks begin, when, and by which commands."""
 
     def test_all_that_a_program_needs(self) -> None:
         wrote, said = self.built("top", "--jobs", "3", "--memory", "100", MEET="wide short")
         self.assertEqual(said, "")
         runs = {run.name: run for run in self.begun()}
         self.assertEqual(len(runs), len(self.begun()), "a crate was begun twice")
-        self.assertEqual(list(runs), ["core", "short", "wide", "long", "top"])
+        self.assertEqual((set(runs), list(runs)[0], list(runs)[-1]), (set(LINES) - {"apart"}, "core", "top"))
         told = self.lines()
         for name, below in (("wide", "core"), ("short", "core"), ("long", "short"), ("top", "wide"), ("top", "long")):
             at = next(place for place, line in enumerate(told) if line.startswith(f"begun {name} "))
             self.assertIn(f"ended {below}", told[:at])
-        self.assertEqual(runs["core"].words, ["lib", "--jobs", "3"])
-        self.assertEqual(runs["top"].words, ["run", "--jobs", "2", "--", "find", "--all"])
-        self.assertIn("read top some samples", told)
-        self.assertEqual([runs[name].place for name in ("core", "short", "top")], [self.root] * 3)
-        self.assertTrue(runs["wide"].place.startswith(self.room), runs["wide"].place)
+        self.assertEqual([runs[name].jobs for name in ("core", "top")], [3, 3])
+        self.assertEqual({name: run.folder for name, run in runs.items()}, {it: self.in_crate(it) for it in runs})
+        self.assertEqual(self.text_in("top", "out", "top"), "linked of top\n")
+        self.assertTrue(os.access(self.in_crate("top", "out", "top"), os.X_OK))
         self.assertRegex(wrote, r"(?m)^0:00:\d\d core begun, 3 jobs\n0:00:\d\d core built in 0:00:\d\d$")
         self.assertRegex(wrote, r"\n5 crates are built, in 0:00:\d\d: crates/top/out/top\n\Z")
 
+    def rest(self) -> list[str]:
+        """Returns the words that each check has: the kit's logic, and one job."""
+        logic = ["--antt-project", f"{self.kit}/rattle/logic/antt-project.json", "--logic-built"]
+        return [*logic, f"{self.kit}/logic_built", "--jobs", "1"]
+
+    def test_the_words_of_a_library(self) -> None:
+        """It stands over the libraries of the kit that it names, and over the statements of the crates below."""
+        self.built("long", "--jobs", "1")
+        rlibs = f"{self.kit}/rlibs"
+        core, short = (self.in_crate(name, "out", "statements") for name in ("core", "short"))
+        self.assertEqual([run.words for run in self.begun()], [
+            ["build", "--crate-name", "core", "src/lib.rt", "--extern", f"std={rlibs}/std.rlib", "--extern",
+             f"thiserror={rlibs}/thiserror.rlib", "-L", f"dependency={rlibs}", *self.rest(), "--links", "core=",
+             "--statements", "-o", f"{core}/core.rlib"],
+            ["build", "--crate-name", "short", "src/lib.rt", "--extern", f"std={rlibs}/std.rlib", "--extern",
+             f"core={core}/core.rlib", "-L", f"dependency={rlibs}", "-L", f"dependency={core}", *self.rest(), "--links",
+             "short=", "--statements", "-o", f"{short}/short.rlib"],
+            ["build", "--crate-name", "long", "src/lib.rt", "--extern", f"std={rlibs}/std.rlib", "--extern",
+             f"short={short}/short.rlib", "-L", f"dependency={rlibs}", "-L", f"dependency={core}", "-L",
+             f"dependency={short}", *self.rest(), "--links", "long=", "--statements", "-o",
+             self.in_crate("long", "out", "statements", "long.rlib")],
+        ])  # fmt: skip
+
+    def test_the_words_of_a_program(self) -> None:
+        """A program is compiled over the statements of the crates below, and linked with the kit's C library."""
+        self.built("top", "--jobs", "1")
+        words, made = self.begun()[-1].words, self.in_crate("top", "out", "top")
+        toolchain = ["--toolchain", f"{self.kit}/toolchain"]
+        self.assertEqual(words[:4], ["build", "--crate-name", "top", "src/main.rt"])
+        self.assertEqual(words[-8:], ["--links", "top=", *toolchain, "--backend", "llvm", "-o", f"{made}.o"])
+        below = [self.in_crate(name, "out", "statements") for name in ("core", "long", "short", "wide")]
+        self.assertEqual(
+            [words[at + 1] for at, word in enumerate(words) if word == "-L"],
+            [f"dependency={it}" for it in (f"{self.kit}/rlibs", *below)],
+        )
+        told = ["linked --target x86_64-unknown-linux-gnu", *toolchain, f"-o {made}.new {made}.o"]
+        told += [f"{self.kit}/c/libos_c.a", f"{self.kit}/c/liblibc_c.a"]
+        self.assertEqual(self.lines()[-1], " ".join(told))
+
     def test_a_library_and_what_is_below_it(self) -> None:
         wrote, _ = self.built("apart", "--jobs", "2")
-        self.assertEqual([(run.name, run.words[0]) for run in self.begun()], [("core", "lib"), ("apart", "lib")])
-        self.assertIn(": crates/apart/out/rlib/apart.rlib\n", wrote)
+        self.assertEqual([run.name for run in self.begun()], ["core", "apart"])
+        self.assertIn(": crates/apart/out/statements/apart.rlib\n", wrote)
+        self.assertEqual(self.text_in("apart", "out", "statements", "apart.rlib"), "made of apart\n")
 
-    def test_one_at_a_time_in_the_checkout(self) -> None:
-        """The longest chain of work comes first, and no copy is needed."""
-        self.built("top", "--jobs", "1")
-        self.assertEqual([run.name for run in self.begun()], ["core", "short", "long", "wide", "top"])
-        self.assertEqual({run.place for run in self.begun()}, {self.root})
+    def test_one_at_a_time(self) -> None:
+        """The longest chain of work comes first."""
+        self.assertEqual(self.built_anew("top"), ["core", "short", "long", "wide", "top"])
         self.assertEqual({run.jobs for run in self.begun()}, {1})
 
-    def test_a_copy_has_the_sources_alone(self) -> None:
-        """A copy has only the sources: a run that finds the checkout's build output there, or no source, fails."""
-        with open(os.path.join(self.commands, "rt"), "a", encoding="utf-8") as file:
-            file.write("[ -e ../../HANDLES ] && [ -e src/lib.rt ] || exit 7\n")
-            file.write("case $PWD in */copies/*) [ ! -e out ] || exit 8 ;; esac\n")
-        self.write("it/crates.txt", CRATES.replace("long: short", "long: short wide"))
-        self.built("long", "--jobs", "2", MEET="wide short")
-        self.assertTrue(any(run.place.startswith(self.room) for run in self.begun()))
+    def test_again_what_changed_and_what_is_above_it(self) -> None:
+        self.built_anew("top")
+        wrote, _ = self.built("top")
+        self.assertRegex(wrote, r"\A5 crates are built, 5 of them before, in 0:00:\d\d: crates/top/out/top\n\Z")
+        self.assertEqual(self.built_anew("top"), [])
+        self.write("it/crates/long/proofs/of/One.antt", "other\n")
+        self.assertEqual(self.built_anew("top"), ["long", "top"])
+        self.write("it/crates/long/must-fail/one.edit", "an edit\n")
+        self.assertEqual(self.built_anew("top"), [])
+        os.unlink(self.in_crate("short", "out", "statements", "short.rlib"))
+        self.assertEqual(self.built_anew("short"), ["short"])
+        self.assertEqual(self.built_anew("top"), ["long", "top"])
+        self.write("it/crates.txt", CRATES.replace("wide: core", "wide: core clap"))
+        self.assertEqual(self.built_anew("top"), ["wide", "top"])
+        self.write("kit/WHAT", "another kit\n")
+        self.assertEqual(self.built_anew("top"), ["core", "short", "long", "wide", "top"])
+
+    def test_no_stamp_of_rt_on_a_program_of_this_tool(self) -> None:
+        """By its stamp `rt run` knows a program that it has built; it must not take another for it."""
+        stamp = self.write("it/crates/top/out/top.stamp", "of rt\n")
+        self.built("top")
+        self.assertFalse(os.path.exists(stamp))
 
     def most_at_once(self, weight: dict[str, float] | None = None) -> float:
         """Returns the most jobs at once; with the crates' weights, the greatest sum of these, 0.6 more for each
@@ -209,7 +287,11 @@ class Builds(Checkout):
 
 
 class Ends(Checkout):
-    """Runs that do not end normally."""
+    """Builds that do not end normally."""
+
+    def log_of(self, name: str) -> str:
+        """Returns the path of a crate's log."""
+        return self.in_crate(name, "out", "build.log")
 
     def test_a_crate_that_fails(self) -> None:
         wrote, said = self.built(
@@ -218,20 +300,48 @@ class Ends(Checkout):
         runs = {run.name: run for run in self.begun()}
         self.assertEqual(sorted(runs), ["core", "short", "wide"])
         self.assert_gone(runs["wide"].process)
-        log = os.path.join(self.root, "crates", "short", "out", "build.log")
-        self.assertEqual(said, f"build: short wasn't built; its log is {log}\n")
+        self.assertEqual(said, f"build: short wasn't built; its log is {self.log_of('short')}\n")
         self.assertRegex(wrote, r"(?m)^0:00:\d\d short failed after 0:00:\d\d, status 3; the end of its log:$")
         shown = "".join(f"    line {number} of short\n" for number in range(2, 14))
         self.assertIn(f"its log:\n{shown}0:00:", wrote)
         self.assertTrue(wrote.endswith(" broken off: wide\n"), wrote)
-        with open(log, encoding="utf-8") as file:
-            self.assertEqual(file.read().count("\n"), 13)
+        self.assertEqual(self.text_in("short", "out", "build.log").count("\n"), 13)
+        self.assertEqual(self.built_anew("top"), ["short", "long", "wide", "top"])
+
+    def failed(self, name: str, why: str, **more: str) -> None:
+        """Asserts that a build fails at a crate for this reason, and that the next one checks the crate again."""
+        wrote, said = self.built("top", "--jobs", "1", status=1, **more)
+        self.assertRegex(wrote, rf"(?m)^0:00:\d\d {name} failed after 0:00:\d\d, {why}; the end of its log:$")
+        self.assertEqual(said, f"build: {name} wasn't built; its log is {self.log_of(name)}\n")
+        self.assertIn(name, self.built_anew("top"))
+
+    def test_a_verdict_that_leaves_something_out(self) -> None:
+        self.failed("short", "its log has no verdict that all is proved", DOUBTS="short")
+
+    def test_a_file_that_changes_meanwhile(self) -> None:
+        self.failed("wide", "its files changed meanwhile", CHANGES="wide")
+
+    def test_a_program_that_is_not_linked(self) -> None:
+        """The older program stays until the newer one is whole."""
+        made = self.write("it/crates/top/out/top", "an older one\n")
+        wrote, _ = self.built("top", "--jobs", "1", LINKS="no", status=1)
+        self.assertRegex(wrote, r"top failed after 0:00:\d\d, status 4 of the linker; the end of its log:\n")
+        self.assertTrue(wrote.endswith("\n    no link\n"), wrote)
+        with open(made, encoding="utf-8") as file:
+            self.assertEqual(file.read(), "an older one\n")
+        self.assertEqual(self.built_anew("top"), ["top"])
+
+    def test_another_build_in_the_checkout(self) -> None:
+        with open(os.path.join(self.root, "crates.txt"), "rb") as file:
+            fcntl.flock(file, fcntl.LOCK_EX)
+            _, said = self.built("top", status=1)
+        self.assertEqual((said, self.begun()), (f"build: another build works in {self.root}\n", []))
+        self.assertEqual(len(self.built_anew("top")), 5)
 
     def test_an_interrupt(self) -> None:
         for number in (signal.SIGINT, signal.SIGTERM):
             with self.subTest(number):
-                with contextlib.suppress(FileNotFoundError):
-                    os.unlink(self.events)
+                self.setUp()
                 child = subprocess.Popen(
                     self.command("top", "--jobs", "2", "--memory", "100"), env=self.environment(WAITS="wide short"),
                     stdout=subprocess.DEVNULL, stderr=subprocess.PIPE, preexec_fn=hear, start_new_session=True,
@@ -243,7 +353,6 @@ class Ends(Checkout):
                 os.killpg(child.pid, number)
                 _, said = child.communicate(timeout=SECONDS)
                 self.assertEqual((child.returncode, said), (130, b"build: broken off\n"))
-                self.assertEqual(os.listdir(self.room), [])
                 self.assertEqual(len(self.begun()), 3)
                 for run in self.begun():
                     self.assert_gone(run.process)
@@ -259,7 +368,7 @@ class Ends(Checkout):
             timeout=SECONDS,
         )
         os.close(writer)
-        self.assertEqual((ran.returncode, ran.stderr, os.listdir(self.room)), (1, b"", []))
+        self.assertEqual((ran.returncode, ran.stderr), (1, b""))
         for run in self.begun():
             self.assert_gone(run.process)
 
@@ -272,7 +381,7 @@ class Ends(Checkout):
     def test_refusals(self) -> None:
         self.refused("build: crates.txt has no crate none", "none")
         self.refused("build: rt is not on the path", "top", PATH="/usr/bin:/bin")
-        self.refused("is not a checkout with crates: .*crates.txt: No such file", "--root", self.room)
+        self.refused("is not a checkout with crates: .*crates.txt: No such file", "--root", self.path)
         self.refused("--jobs: not 1 to 64: '0'", "--jobs", "0")
         self.refused("--memory: not above 0", "--memory", "0")
         self.refused("unrecognized arguments", "top", "core")
@@ -280,6 +389,29 @@ class Ends(Checkout):
         self.refused("has a cycle: core top core", "top")
         self.write("it/crates.txt", CRATES + "new:\n")
         self.refused("no folder .*crates/new", "top")
+        self.write("it/crates.txt", CRATES)
+        os.unlink(os.path.join(self.kit, "WHAT"))
+        self.refused("lies in no folder of Rattle's kit: .*/kit has no WHAT", "top")
+
+
+class Verdicts(unittest.TestCase):
+    """The last lines of a check that are taken as its proof."""
+
+    def test_forms(self) -> None:
+        for line, is_taken in (
+            (PROVED, True),
+            (PROVED.replace(" axioms=0", " axioms=0 target=x86-64-v2 cpu=none threads=0 main=Ends sum=77"), True),
+            (f"earlier lines\n{PROVED}\n", True),
+            (f"{PROVED} pinned=no", False),
+            (f"{PROVED} incremental=trusted", False),
+            (PROVED.replace("proved", "open"), False),
+            (PROVED.replace(" axioms=0", " hides=2"), False),
+            (PROVED.replace(" axioms=0", " bugs=1"), False),
+            (PROVED.replace(" statements=trusted", ""), False),
+            (f"fn one: {PROVED}", False),
+            ("", False),
+        ):
+            self.assertEqual(bool(VERDICT.search(line)), is_taken, line)
 
 
 class Planning(unittest.TestCase):
