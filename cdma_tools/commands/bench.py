@@ -2,9 +2,8 @@
 
 For each run: the best wall-clock time of several, and the greatest resident memory. Then, as tests of receiver_tests do
 it, the sweep over all phases, on lanes and by a plain loop, the decoder and the list decoder. Then, as tests of
-message_tests do it, a million messages of each kind, read and written. Build them first, for example with `(cd
-crates/cdma_replay && rt run -- find < ../../examples/pilot_in_noise.is95)`, `(cd crates/receiver_tests && rt test)` and
-`(cd crates/message_tests && rt test)`.
+message_tests do it, a million messages of each kind, read and written. Build them first, with `tools/build`, `(cd
+crates/receiver_tests && rt test)` and `(cd crates/message_tests && rt test)`.
 
     tools/bench
     tools/bench ./cdma_replay

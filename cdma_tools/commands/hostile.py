@@ -3,8 +3,7 @@
 Sample files and scripts are cut off, or have bits inverted, bytes added or removed, or lines exchanged. Each run must
 end with a status that the command has, and write exactly that status's line on standard error. Nothing may be written
 for a script or a header with a fault. For a file that is cut off at any byte, the output must be the beginning of the
-complete file's, and for one with bytes after its samples all of it. Build the program first, for example with `(cd
-crates/cdma_replay && rt run -- find < ../../examples/pilot_in_noise.is95)`.
+complete file's, and for one with bytes after its samples all of it. Build the program first, with `tools/build`.
 
     tools/hostile --count 1000
     tools/hostile --tools --count 10000

@@ -2,10 +2,10 @@
 them.
 
 PREFIX/bin gets cdma_replay and the commands cdma-NAME, PREFIX/share the rest. It builds nothing: build the program
-first with `rt ci` at the top of the repository, or with `(cd crates/cdma_replay && rt run -- find <
-../../examples/pilot_in_noise.is95)`. Manual pages and completions are made by the packages python3-argparse-manpage and
-python3-shtab, which the installed tools don't need. Missing folders are made, and older files of these names are
-replaced, each at once. --remove removes what was installed, and folders that are then empty.
+first, with `tools/build` or with `rt ci` at the top of the repository. Manual pages and completions are made by the
+packages python3-argparse-manpage and python3-shtab, which the installed tools don't need. Missing folders are made, and
+older files of these names are replaced, each at once. --remove removes what was installed, and folders that are then
+empty.
 
     tools/install /usr/local
     tools/install --program ./cdma_replay "$HOME/.local"

@@ -4,7 +4,7 @@ For each command the program runs once as it is, and then once for each allocati
 refused. Such a run must end with status 6, nothing on standard output and the line of that status on standard error;
 or, if the program can do without the allocation, as the first run did. A small library, which gcc compiles, counts and
 refuses the C library's calls. So allocations of the program's runtime and threads fail too. Build the program first,
-for example with `(cd crates/cdma_replay && rt run -- find < ../../examples/pilot_in_noise.is95)`.
+with `tools/build`.
 
     tools/starve
     tools/starve --program ./cdma_replay
