@@ -70,7 +70,7 @@ class Begun:
 
 
 class Checkout(unittest.TestCase):
-    """A checkout of six crates, one of which depends on nothing that the others need, and a kit beside it."""
+    """A checkout of six crates, one of which depends on nothing that the others need, and a kit next to it."""
 
     def setUp(self) -> None:
         self.folder = os.path.realpath(temporary_folder(self.addCleanup))
