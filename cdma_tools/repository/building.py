@@ -317,7 +317,7 @@ class Builder:
         return self.why_not_linked(run.name) if is_program(self.root, run.name) else ""
 
     def why_not_linked(self, name: str) -> str:
-        """Links a program, in place of an older one, and says why that failed; nothing if it didn't."""
+        """Links a program, which replaces an older one, and says why that failed; nothing if it didn't."""
         made = made_by(self.root, name)
         with open(log_of(self.root, name), "ab") as log:
             status = subprocess.run(
