@@ -1,4 +1,4 @@
-//! A cell by its script.
+//! A cell, opened from its script.
 
 ghost use Rattle.std.specs.Prelude.{◌≡◌, ◌≢◌, ◌≤◌, ◌+◌, length, map, take, drop, All, Ok, Err};
 ghost use Rattle.std.specs.Prelude.{IsOk, IfOk, IfErr};
@@ -16,9 +16,9 @@ use chip_core::{OutOfMemory, Sample};
 use std::alloc::Global;
 use std::marker::Model;
 
-/// A cell that gives its samples in order, as a handset receives them over the cell's link.
+/// A cell that returns its samples in order, as a handset receives them over the cell's link.
 ///
-/// Contracts see the width of the samples, the plan, and how many samples it has given.
+/// Contracts see the width of the samples, the plan, and how many samples it has returned.
 #[derive(Drop)]
 pub struct Cell {
     samples: CellSamples,
@@ -33,11 +33,11 @@ impl Model for Cell {
 }
 
 impl Cell {
-    /// The cell that a script names, in samples of a width, before its first sample; or why it
-    /// names none.
+    /// Opens the cell that a script names, before its first sample, in samples of `width`. Returns
+    /// the fault of a script that names no cell.
     ///
-    /// The faults are tried in the order of [`ScriptFault`], each over the whole script. Only where
-    /// there is none may [`ScriptFault::OutOfMemory`] come.
+    /// The faults are checked in the order of [`ScriptFault`], each over the whole script.
+    /// [`ScriptFault::OutOfMemory`] is returned only if there is no other fault.
     pub fn new(alloc: Global, script: &[u8], width: Width) -> Result<Cell, ScriptFault>
         ensures planned { IfOk result (λ cell. plan_named width script.now ≡ Ok cell.plan) }
         ensures fresh { IfOk result (λ cell. (cell.width ≡ width) × (cell.given ≡ 0)) }
@@ -54,8 +54,8 @@ impl Cell {
         }
     }
 
-    /// The header of the cell's file: version 1 for samples of 16 bits and 2 for those of 8, the
-    /// forms of the checks, and the number of all samples.
+    /// Returns the header of the cell's file: version 1 for samples of 16 bits and 2 for those of
+    /// 8, the forms of the checks, and the number of all samples.
     pub fn header(&self) -> Header
         ensures value { result ≡ header_of self.now.width self.now.plan }
         ensures lawful { IsLawfulHeader result }
@@ -63,7 +63,7 @@ impl Cell {
         self.samples.header()
     }
 
-    /// Returns how many samples the cell has still to give.
+    /// Returns the number of samples that the cell has not returned yet.
     pub fn left(&self) -> u64
         ensures { result + self.now.given ≡ self.now.plan.link.samples }
     {
@@ -72,7 +72,7 @@ impl Cell {
 
     /// Fills `out` with the next samples of the cell, in order.
     ///
-    /// Whatever the cut, the pieces together are the samples of the definition.
+    /// However the samples are divided, the pieces together are those of the definition.
     pub fn fill(&mut self, out: &mut [Sample])
         requires { self.old.given + length out.old ≤ self.old.plan.link.samples }
         ensures samples { map of_sample out.new ≡

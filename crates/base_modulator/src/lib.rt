@@ -2,8 +2,8 @@
 //! handset would receive. [`make`] writes them as a sample file.
 //!
 //! TIA/EIA-95-B, 7.1.3.1: the forward channels of a cell, spread by their Walsh rows and by the
-//! pilot's codes. What a plan says and what is sent by it is `cell_plan`'s, how a script is read
-//! `cell_script`'s, and how samples are made `cell_samples`'s.
+//! pilot's codes. `cell_plan` defines plans and what is sent by them, `cell_script` reads scripts,
+//! and `cell_samples` makes the samples.
 #![tactic(auto)]
 
 mod cell;

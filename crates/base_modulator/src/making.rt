@@ -25,7 +25,7 @@ use writing::write_cell;
 /// noticed.
 const MOST_READ: usize = 1_048_577;
 
-/// How many samples are written at once, at most.
+/// The most samples that are written at once.
 const PIECE: usize = 4096;
 
 /// The buffers for reading a script and writing its cell, allocated before anything is read.
@@ -108,11 +108,11 @@ fn make_file<S: Source, K: Sink>(
     }
 }
 
-/// Reads a script and writes the sample file of the cell that it names: the header, then the samples
-/// of the cell's forward channels (TIA/EIA-95-B, 7.1.3.1) in this width.
+/// Reads a script and writes the sample file of the cell that it names: the header, then the
+/// samples of the cell's forward channels (TIA/EIA-95-B, 7.1.3.1) in this width.
 ///
-/// At most 1,048,577 bytes are read, one more than the longest script has. Nothing is written if the
-/// script is rejected.
+/// At most 1,048,577 bytes are read, one more than the longest script has. Nothing is written if
+/// the script is rejected.
 ///
 /// Returns [`Status::ReadFault`] or [`Status::WriteFault`] only if the source's or the sink's count
 /// of faults rose, [`Status::BadScript`] with the fault of a script that names no cell, and

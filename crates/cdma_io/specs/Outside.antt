@@ -3,36 +3,35 @@ use Rattle.std.specs.Prelude.{◌≡◌, ℕ, ◌+◌, ◌-◌, ◌^◌, ◌<◌
 use Rattle.std.specs.Prelude.{Result, OnErr, IfOk, MatchResult}
 use Rattle.std.specs.Io.KnownBytes.{Appends, Consumes}
 
--- the next number of a count that stops at the last number of 64 bits
+-- the next value of a count that stops at 2^64 - 1
 abbrev pub next_count : ℕ → ℕ
 next_count n = min (n + 1) (2 ^ 64 - 1)
 
--- a count of faults rose in a call, or stands at its last number
+-- a count of faults rose in a call, or has reached 2^64 - 1
 abbrev pub Rose : ℕ → ℕ → Type 0
 Rose before now = next_count before ≤ now
 
--- a call leaves a count of faults as it was or higher, and fails only where it rose
+-- a call never lowers the count of faults, and fails only if the count rose
 pub record HasCause {T E : Type 0} (before now : ℕ) (result : Result T E) : Type 0 where
   pub later : before ≤ now
   pub failed : OnErr result (Rose before now)
 
--- a count of faults rose by one in a call that failed, up to its last number, and stayed in one
--- that did not
+-- a failed call raises the count of faults by one, up to 2^64 - 1; any other leaves it unchanged
 abbrev pub CountsFaults : {T E : Type 0} → ℕ → ℕ → Result T E → Type 0
 CountsFaults before now result =
     MatchResult result (λ _. now ≡ before) (λ _. now ≡ next_count before)
 
--- a give to a sink took some of a piece that has any
+-- a sink took at least one byte, unless the piece is empty
 abbrev pub Progresses : {E : Type 0} → Result ℕ E → List ℕ → Type 0
 Progresses result piece = IfOk result (λ n. 0 < length piece → 1 ≤ n)
 
--- known bytes lost at most `most` bytes at their front
+-- known bytes lost at most `most` bytes from their front
 pub record ConsumesAtMost (most : ℕ) (old new : Option (List ℕ)) : Type 0 where
   pub bytes : List ℕ
   pub fits : length bytes ≤ most
   pub consumed : Consumes old new bytes
 
--- or fewer
+-- known bytes lost fewer than `limit` bytes from their front
 pub record ConsumesFewer (limit : ℕ) (old new : Option (List ℕ)) : Type 0 where
   pub bytes : List ℕ
   pub fits : length bytes < limit

@@ -29,7 +29,7 @@ magic = 73 ∷ 83 ∷ 57 ∷ 53 ∷ []
 abbrev pub is_version : ℕ → Bool
 is_version version = if version == 1 then true else version == 2
 
--- version 1 has parts of samples of 16 bits, and version 2 of 8 bits
+-- the parts of samples have 16 bits in version 1, and 8 bits in version 2
 abbrev pub width_in : ℕ → Width
 width_in version = if version == 2 then Eight else Sixteen
 
@@ -37,12 +37,12 @@ width_in version = if version == 2 then Eight else Sixteen
 abbrev pub width_of : Header → Width
 width_of header = width_in header.version
 
--- the most samples that a file has
+-- the most samples that a file may have
 abbrev pub most_samples : Width → ℕ
 most_samples Sixteen = 33554432
 most_samples Eight = 67108864
 
--- 1 where check bits are complemented
+-- 1 if check bits are complemented
 abbrev pub form_flag : CheckForm → ℕ
 form_flag Plain = 0
 form_flag Complemented = 1
@@ -98,17 +98,17 @@ pub record IsSampleFile (bytes : List ℕ) (header : Header) (samples : List Sam
   pub spelled : bytes ≡
       header_spelling header ++ flat_map (sample_spelling (width_of header)) samples
 
--- ---- what opening a file answers
+-- ---- the result of opening a file
 
--- complemented where the flag is set
+-- complemented if the flag is set
 abbrev pub check_form_of : Bool → CheckForm
 check_form_of flag = if flag then Complemented else Plain
 
--- what is due where a test passes, and the fault where it fails
+-- the result `due` if a test passes, otherwise the fault
 abbrev pub due_if : Bool → FileFault → Result Header FileFault → Result Header FileFault
 due_if test fault due = if test then due else Err fault
 
--- what is due for a header of these numbers: the first fault in them, or the header
+-- the result for a header of these numbers: the header, or the first fault in them
 abbrev pub header_due : ℕ → ℕ → ℕ → Result Header FileFault
 header_due version flags count =
     due_if (is_version version) Version
@@ -121,7 +121,7 @@ header_due version flags count =
       count = count;
     }))))
 
--- what opening a file of these bytes answers: its header, or the first fault in the first 16 bytes
+-- the result of opening a file of these bytes: its header, or the first fault in the first 16 bytes
 unfoldable pub opening : List ℕ → Result Header FileFault
 opening bytes =
     due_if (nat_le 16 (length bytes)) (Short (length bytes))
@@ -129,9 +129,9 @@ opening bytes =
     (header_due (big_number 2 (drop 4 bytes)) (big_number 2 (drop 6 bytes))
     (big_number 8 (drop 8 bytes))))
 
--- ---- what a reader holds and answers
+-- ---- the state and the results of a reader
 
--- a reader: the file's header, how many samples aren't read yet, and the fault that it met
+-- a reader: the file's header, the number of samples not read yet, and the fault met, if any
 pub record Reading : Type 0 where
   pub header : Header
   pub left : ℕ
@@ -150,12 +150,12 @@ abbrev pub next_place : Reading → ℕ
 next_place reading =
     16 + sample_len (width_of reading.header) * (reading.header.count - reading.left)
 
--- what `open` answered is what is due, or a read failed
+-- `open` returned the result `due`, or a read failed
 abbrev pub Opens : Result Reading FileFault → Result Header FileFault → Type 0
 Opens (Ok reading) due = due ≡ Ok reading.header
 Opens (Err e) due = e ≢ ReadFault → due ≡ Err e
 
--- n bytes of samples couldn't be read: the file ends before them, or a read failed
+-- `wanted` bytes of samples couldn't be read: the file ends before them, or a read failed
 abbrev pub CutsShort : FileFault → ℕ → ℕ → Option (List ℕ) → Option (List ℕ) → Type 0
 CutsShort (Short place) wanted from None new = ⊤
 CutsShort (Short place) wanted from (Some bytes) new =
@@ -177,14 +177,14 @@ pub record ReadsSamples {T : Type 0} (width : Width) (place count : ℕ) (old ne
   pub later : before ≤ now
   pub cause : result ≡ Err ReadFault → Rose before now
 
--- the file has more bytes than its samples, or a read failed
+-- the file goes on after its samples, or a read failed
 abbrev pub RunsOn : FileFault → ℕ → Option (List ℕ) → Type 0
 RunsOn (Extra place) end None = place ≡ end
 RunsOn (Extra place) end (Some bytes) = (0 < length bytes) × (place ≡ end)
 RunsOn ReadFault end old = ⊤
 RunsOn _ end old = ⊥
 
--- the place in the file of what a fault is about
+-- the place of a fault in the file
 abbrev pub fault_place : FileFault → Option ℕ
 fault_place Magic = Some 0
 fault_place Version = Some 4

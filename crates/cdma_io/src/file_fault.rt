@@ -1,4 +1,4 @@
-//! What may be wrong with a sample file.
+//! The faults of a sample file.
 
 ghost use Rattle.std.specs.Prelude.{◌≡◌};
 ghost use Rattle.cdma_io.specs.SampleFile.{fault_place};
@@ -6,9 +6,9 @@ ghost use Rattle.cdma_io.specs.SampleFile.{fault_place};
 use crate::source::Failed;
 use thiserror::Error;
 
-/// Why a sample file couldn't be read.
+/// The reason why a sample file could not be read.
 ///
-/// Its text names only the kind of fault; [`FileFault::place`] is the place.
+/// Its text names only the kind of fault; [`FileFault::place`] returns the place.
 #[derive(Clone, Copy, PartialEq, Eq, Debug, Error)]
 pub enum FileFault {
     /// The first four bytes aren't `IS95`.
@@ -17,20 +17,20 @@ pub enum FileFault {
     /// The version is neither 1 nor 2.
     #[error("version")]
     Version,
-    /// A flag is set that has no meaning.
+    /// A flag without a meaning is set.
     #[error("flags")]
     Flags,
-    /// The header counts more samples than its version has: 33,554,432 in version 1, and 67,108,864
-    /// in version 2.
+    /// The header counts more samples than its version allows: 33,554,432 in version 1, and
+    /// 67,108,864 in version 2.
     #[error("count")]
     Count,
     /// The file ends before its header or its samples do. It has `at` bytes.
     #[error("short")]
     Short {
-        /// How many bytes the file has.
+        /// The number of bytes in the file.
         at: u64,
     },
-    /// The file has more bytes than its samples. The first of them is byte `at`.
+    /// The file goes on after its samples. The first further byte is byte `at`.
     #[error("extra")]
     Extra {
         /// The place of the first byte after the samples.
@@ -42,14 +42,14 @@ pub enum FileFault {
     /// The file counts fewer samples than its reader needs.
     #[error("too few")]
     TooFew {
-        /// How many samples the header counts.
+        /// The number of samples that the header counts.
         count: u64,
     },
 }
 
 impl FileFault {
-    /// The place in the file of what the fault is about, in bytes from its start; `None` for a read
-    /// that failed.
+    /// Returns the place of the fault in the file, in bytes from its start; `None` for a read that
+    /// failed.
     pub fn place(&self) -> Option<u64>
         ensures { result ≡ fault_place self.now }
     {

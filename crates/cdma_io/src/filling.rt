@@ -1,4 +1,4 @@
-//! Filling a whole buffer from a source.
+//! Fills a whole buffer from a source.
 
 ghost use Rattle.std.specs.Prelude.{◌≤◌, ◌<◌, take, length, IfOk, OnErr};
 ghost use Rattle.std.specs.Io.KnownBytes.{Consumes, IsAtEnd};

@@ -9,7 +9,7 @@ use crate::width::{is_known, most_for, width_for};
 use byteorder::{BigEndian, ByteOrder};
 use chip_core::{CheckForm, Width};
 
-/// How many bytes a header has.
+/// The length of a header, in bytes.
 pub const HEADER_LEN: usize = 16;
 
 /// The first bytes of a file.
@@ -24,7 +24,7 @@ pub struct Header {
     pub check30: CheckForm,
     /// The form of the 16-bit checks of messages.
     pub check16: CheckForm,
-    /// How many samples follow: at most 33,554,432 in version 1 and 67,108,864 in version 2.
+    /// The number of samples that follow: at most 33,554,432 in version 1, 67,108,864 in version 2.
     pub count: u64,
 }
 
@@ -49,7 +49,7 @@ pub fn header_bytes(header: &Header) -> [u8; 16]
     bytes
 }
 
-/// The flags of a header.
+/// Returns the flags of a header.
 fn flags_for(header: &Header) -> u16
     ensures { result ≡ flags_of header.now }
 {

@@ -12,7 +12,7 @@ ghost use Rattle.cdma_io.specs.SampleFile.{CutsShort, HasBits, IsLawfulHeader, I
 ghost use Rattle.cdma_io.specs.SampleFile.{Reading, RunsOn, header_spelling, opening, sample_len};
 ghost use Rattle.cdma_io.specs.SampleFile.{sample_spelling};
 
-/// A file's bytes fix its header and its samples.
+/// A file's bytes determine its header and its samples.
 pub fn file_is_unique()
     ensures { (bytes : List ℕ) (header other_header : Header)
         (samples other_samples : List Sample) →
@@ -41,8 +41,8 @@ pub fn file_opens()
         MatchResult answer (λ reading. reading.header ≡ header) (λ e. e ≡ FileFault.ReadFault) }
 {}
 
-/// If the source's remaining bytes spell samples, those that are read are the first of these, and
-/// the remaining bytes spell the others.
+/// If the source's remaining bytes spell samples, a read returns the first of these, and the bytes
+/// that then remain spell the others.
 pub fn file_is_read_in_order()
     ensures { (width : Width) (samples next : List Sample) (new : Option (List ℕ)) →
         All (HasBits width) samples → All (HasBits width) next →

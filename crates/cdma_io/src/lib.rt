@@ -2,8 +2,8 @@
 //!
 //! The program reads everything through a [`Source`] and writes everything through a [`Sink`].
 //! Their contracts state which bytes moved, if that is known, and that a call fails only if the
-//! count of faults rose. [`SampleReader`] reads a sample file from a source: by its contracts the
-//! samples are those that the file's bytes spell, and a bad file gets its fault.
+//! count of faults rose. [`SampleReader`] reads a sample file from a source. Its contracts state
+//! that the samples are those that the file's bytes spell, and that a bad file gets its fault.
 #![tactic(auto)]
 
 mod file_fault;

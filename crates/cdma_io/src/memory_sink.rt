@@ -16,7 +16,7 @@ use std::marker::Model;
 /// A sink that keeps its bytes in memory, with a fixed room, a limit per call, and chosen calls
 /// that fail.
 ///
-/// Contracts always see the bytes that it was given.
+/// Contracts always see the bytes that it has taken.
 #[derive(Drop)]
 pub struct MemorySink {
     bytes: Vec<u8>,
@@ -45,7 +45,8 @@ impl Model for MemorySink {
 
 impl MemorySink {
     /// Makes an empty sink with room for `room` bytes. It takes at most `piece` bytes per call and
-    /// fails at the calls whose numbers, from 1, are listed. The count of calls stops at 2^64 - 1.
+    /// fails at the calls whose numbers, from 1, are in `failing`. The count of calls stops at
+    /// 2^64 - 1.
     ///
     /// Allocates all of its memory; returns [`OutOfMemory`] if that fails.
     pub fn new(
@@ -75,7 +76,7 @@ impl MemorySink {
         })
     }
 
-    /// Returns the bytes that it was given, in order.
+    /// Returns the bytes that it has taken, in order.
     pub fn bytes(&self) -> &[u8]
         ensures { result.now ≡ self.now.bytes }
     {

@@ -12,7 +12,7 @@ use std::marker::Model;
 
 /// A source over bytes in memory, with a limit per call and chosen calls that fail.
 ///
-/// Contracts always see the bytes that are left.
+/// Contracts always see the remaining bytes.
 #[derive(Drop)]
 pub struct MemorySource {
     bytes: Vec<u8>,
@@ -38,8 +38,8 @@ impl Model for MemorySource {
 }
 
 impl MemorySource {
-    /// Makes a source of these bytes. It gives at most `piece` bytes per call and fails at the
-    /// calls whose numbers, from 1, are listed. The count of calls stops at 2^64 - 1.
+    /// Makes a source of these bytes. It returns at most `piece` bytes per call and fails at the
+    /// calls whose numbers, from 1, are in `failing`. The count of calls stops at 2^64 - 1.
     pub fn new(bytes: Vec<u8>, piece: usize, failing: Vec<u64>) -> MemorySource
         requires { 1 ≤ piece }
         ensures { result ≡ record {

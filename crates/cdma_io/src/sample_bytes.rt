@@ -9,7 +9,7 @@ use crate::width::bytes_for;
 use byteorder::{BigEndian, ByteOrder};
 use chip_core::{Sample, Width};
 
-/// The four bytes of a sample.
+/// Returns the four bytes of a sample.
 fn wide_bytes(sample: Sample) -> [u8; 4]
     ensures { result ≡ sample_spelling Width.Sixteen sample }
 {
@@ -19,7 +19,7 @@ fn wide_bytes(sample: Sample) -> [u8; 4]
     bytes
 }
 
-/// The byte of a part.
+/// Returns the byte of a part.
 fn part_byte(part: i16) -> u8
     requires { FitsSigned w8 part }
     ensures { result ≡ cast_unsigned w8 part }
@@ -27,7 +27,7 @@ fn part_byte(part: i16) -> u8
     (part as i8).cast_unsigned()
 }
 
-/// The two bytes of a sample.
+/// Returns the two bytes of a sample.
 fn narrow_bytes(sample: Sample) -> [u8; 2]
     requires { HasBits Width.Eight sample }
     ensures { result ≡ sample_spelling Width.Eight sample }

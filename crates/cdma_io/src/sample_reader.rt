@@ -1,4 +1,4 @@
-//! Reading a sample file.
+//! Reads a sample file.
 
 ghost use Rattle.std.specs.Prelude.{◌≡◌, ◌<◌, ◌≤◌, ◌+◌, ◌*◌, ◌-◌, min, length, take, drop, All};
 ghost use Rattle.std.specs.Prelude.{IfOk, OnOk, IfErr, OnErr, IfSome, IsSome, IsNone, Err};
@@ -67,7 +67,7 @@ impl SampleReader {
         })
     }
 
-    /// The file's header.
+    /// Returns the file's header.
     pub fn header(&self) -> Header
         ensures value { result ≡ self.now.header }
         ensures lawful { IsLawfulHeader result }
@@ -85,7 +85,7 @@ impl SampleReader {
 
     /// Reads the next samples, up to the length of `out` and the number left, and returns how many.
     ///
-    /// Takes no byte after them, also on a fault. Returns [`FileFault::Short`] if the source ends
+    /// Takes no byte after them, even on a fault. Returns [`FileFault::Short`] if the source ends
     /// before them, and [`FileFault::ReadFault`] as soon as a take fails. The content of `out`
     /// after a fault is unspecified.
     pub fn read<S: Source>(
@@ -101,7 +101,7 @@ impl SampleReader {
         ensures beyond { IfOk result (λ n. drop n out.new ≡ drop n out.old) }
         ensures ok { IfOk result (λ n. self.new ≡ record self.old { left = self.old.left - n }) }
 
-        // A fault is kept, and answered by every later call.
+        // A fault is kept, and returned by every later call.
         ensures err { IfErr result (λ e. self.new ≡ faulted self.old e) }
         ensures kept { IfSome self.old.fault (λ e. result ≡ Err e) }
         ensures untouched { IsSome self.old.fault → source.new ≡ source.old }
@@ -147,7 +147,7 @@ impl SampleReader {
         ensures nothing_taken { OnOk result (Keeps (S.rest source.old) (S.rest source.new)) }
         ensures ok { OnOk result (self.new ≡ self.old) }
 
-        // A fault is kept, and answered by every later call.
+        // A fault is kept, and returned by every later call.
         ensures err { IfErr result (λ e. self.new ≡ faulted self.old e) }
         ensures kept { IfSome self.old.fault (λ e. result ≡ Err e) }
         ensures untouched { IsSome self.old.fault → source.new ≡ source.old }

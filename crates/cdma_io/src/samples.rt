@@ -14,7 +14,7 @@ use chip_core::{Sample, Width};
 /// The most samples that are read at once.
 const MOST_AT_ONCE: usize = 1024;
 
-/// The sample that four bytes spell.
+/// Returns the sample that four bytes spell.
 fn parse_wide(bytes: &[u8]) -> Sample
     requires { length bytes.now ≡ 4 }
     ensures spelled { bytes.now ≡ sample_spelling Width.Sixteen result }
@@ -26,7 +26,7 @@ fn parse_wide(bytes: &[u8]) -> Sample
     }
 }
 
-/// The sample that two bytes spell.
+/// Returns the sample that two bytes spell.
 fn parse_narrow(bytes: &[u8]) -> Sample
     requires { length bytes.now ≡ 2 }
     ensures spelled { bytes.now ≡ sample_spelling Width.Eight result }
@@ -38,7 +38,7 @@ fn parse_narrow(bytes: &[u8]) -> Sample
     }
 }
 
-/// The sample that the bytes spell.
+/// Returns the sample that the bytes spell.
 fn parse_sample(width: Width, bytes: &[u8]) -> Sample
     requires { length bytes.now ≡ sample_len width }
     ensures spelled { bytes.now ≡ sample_spelling width result }
@@ -50,7 +50,7 @@ fn parse_sample(width: Width, bytes: &[u8]) -> Sample
     }
 }
 
-/// The samples that the bytes spell.
+/// Fills `out` with the samples that the bytes spell.
 fn parse_samples(width: Width, bytes: &[u8], out: &mut [Sample])
     requires few { length out.old ≤ MOST_AT_ONCE }
     requires bytes { length bytes.now ≡ sample_len width * length out.old }

@@ -9,13 +9,13 @@ use crate::source::Failed;
 
 /// A sink of bytes that counts its faults.
 ///
-/// Contracts see the bytes that it was given, if known, and the count of faults, which never falls
+/// Contracts see the bytes that it has taken, if known, and the count of faults, which never falls
 /// and stops at 2^64 - 1.
 pub trait Sink {
-    // The bytes that were given, where they are told.
+    // The bytes that it has taken, if known.
     ghost written: { Self → Option (List ℕ) };
 
-    // How often calls failed.
+    // The count of faults.
     ghost faults: { Self → ℕ };
 
     /// Takes the first bytes of a piece and returns how many: at least 1 unless the piece is empty.
@@ -28,7 +28,7 @@ pub trait Sink {
         ensures cause { HasCause (faults self.old) (faults self.new) result };
 }
 
-/// Gives all of the bytes to the sink.
+/// Writes all of the bytes to the sink.
 ///
 /// Returns [`Failed`] only if the sink's count of faults rose; the sink then took a prefix of the
 /// bytes.

@@ -17,10 +17,10 @@ pub struct Failed;
 /// Contracts see the remaining bytes, if known, and the count of faults, which never falls and
 /// stops at 2^64 - 1.
 pub trait Source {
-    // The bytes that are left, where they are told.
+    // The remaining bytes, if known.
     ghost rest: { Self → Option (List ℕ) };
 
-    // How often calls failed.
+    // The count of faults.
     ghost faults: { Self → ℕ };
 
     /// Moves the next bytes to the front of the buffer and returns how many. 0 means the end,

@@ -12,8 +12,8 @@ use std::io::Write;
 /// A sink over a writer. Contracts see the written bytes if the writer specifies them, which
 /// standard output does not.
 ///
-/// The count of faults starts at 0. Each error of the writer raises it, and so does each piece of
-/// which the writer took no byte, up to 2^64 - 1.
+/// The count of faults starts at 0. Each error of the writer raises it, and so does each nonempty
+/// piece of which the writer takes no byte, up to 2^64 - 1.
 #[derive(Drop)]
 pub struct WriterSink<W: Write> {
     writer: W,

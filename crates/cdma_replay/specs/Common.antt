@@ -1,4 +1,4 @@
--- What the definitions of this crate cite of the crates below, and of its own types.
+-- Names from other crates that the definitions of this crate use.
 pub use Rattle.cdma_io.specs.Outside.{AppendsPrefix, ConsumesAtMost, Rose}
 pub use Rattle.cdma_io.specs.declared.file_fault.FileFault.{FileFault}
 pub use Rattle.chip_core.specs.declared.sample.Sample.{Sample}

@@ -10,7 +10,7 @@ use tuned_listener::TunedListener;
 /// The listener that takes the samples of a file, with the results of its first samples.
 #[derive(Drop)]
 pub enum Listener {
-    /// No listener: only what the first samples show is written.
+    /// No listener: only the findings in the first samples are written.
     Unheard(Findings),
     /// A handset whose events the taps receive.
     Handset(Box<Mobile>),

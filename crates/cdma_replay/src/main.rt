@@ -2,8 +2,8 @@
 //!
 //! The whole program is [`replay`], over command-line arguments, a source and a sink.
 //! [`program::run`] adds what the process does around it: it flushes the output and reports a
-//! failed run on standard error. This file only makes these parameters of the process's arguments
-//! and its standard input, output and error.
+//! failed run on standard error. This file only passes it the process's arguments and its standard
+//! input, output and error.
 #![tactic(auto)]
 
 mod listener;

@@ -24,9 +24,9 @@ use std::alloc::Global;
 use std::thread::Threads;
 use tuned_listener::TunedListener;
 
-/// Opens a listener for the frames of one channel in its own box, with these settings and on paths
-/// near the pilot's phase.
-// Its frame holds the listener several times over, and is free again before the listener hears.
+/// Opens a boxed listener for the frames of one channel, with these settings and on paths near the
+/// pilot's phase.
+// Not inlined: its stack frame holds several copies of the listener, and ends before it listens.
 #[inline(never)]
 fn tuned_listener(
     alloc: Global,
@@ -107,8 +107,7 @@ fn tuned_near(
 
 /// Opens the listener of a job, given a file's header and first samples.
 ///
-/// Only the pilot is searched for `find`, and for `make` and `trial`, for which no file is
-/// received.
+/// For `find`, only the pilot is searched; likewise for `make` and `trial`, which receive no file.
 pub fn listener_for<R: Threads + Sync, G: Gate + Sync>(
     rt: &R,
     alloc: Global,

@@ -15,7 +15,7 @@ use std::io::{ErrorKind, Write};
 use std::test::Fail;
 use std::thread::Threads;
 
-/// The command over a file of 80 samples, 336 bytes, whose 64th sample ends at byte 272.
+/// A command for a file of 80 samples, 336 bytes, whose 64th sample ends at byte 272.
 const FIND: &str = "find --span 64";
 
 /// A command that writes a line for each of 512 pilots.
@@ -24,21 +24,21 @@ const SURVEY: &str = "survey --span 64";
 /// A command that reads nothing.
 const TRIAL: &str = "trial --number 0";
 
-/// A script of 93 bytes,
+/// A script of 93 bytes.
 const SCRIPT: &[u8] = b"cell pn=0 time=1000 lc=20000000000 checks=0\n\
     link re=0 im=-3 start=0 samples=1\n\
     pilot gain=100\n";
 
-/// and its file.
+/// The file that this script describes.
 const MADE: &[u8] = b"IS95\x00\x01\x00\x00\x00\x00\x00\x00\x00\x00\x00\x01\xfe\xd4\x01\x2c";
 
-/// The script of a cell whose first sync message is complete within 262,144 samples,
+/// The script of a cell whose first sync message is complete within 262,144 samples.
 const CELL: &[u8] = b"cell pn=0 time=1000 lc=20000000000 checks=0\n\
     link re=1 im=1 start=0 samples=300000\n\
     pilot gain=100\n\
     sync gain=30 prev=3 min=1 sid=1 nid=2 lp=13 ltm=0 daylt=0 prat=0 rest=3:00\n";
 
-/// and the output of `follow` for it: a line of 34 bytes, and a second line.
+/// The output of `follow` for that cell: a line of 34 bytes, and a second line.
 const HEARD: &str = "pilot phase=0 energy=335544320000\n\
     sync at=262144 prev=3 min=1 sid=1 nid=2 pn=0 lc=102a1d2e508 time=1007 lp=13 ltm=0 daylt=0 \
         prat=0 rest=3:00\n";
@@ -69,8 +69,8 @@ fn expect<R: AllocGlobal>(
 #[test]
 fn ends_where_a_read_fails(rt: HostRuntime) -> Result<(), Fail> {
     let file = zeros(rt.alloc(), 80)?;
-    // Of a file four calls for the header, 52 for the first 64 samples, 13 for the others, and one
-    // for the end; of a script fourteen give its bytes, and one more tells its end.
+    // The file takes four calls for the header, 52 for the first 64 samples, 13 for the others, and
+    // one for the end. The script takes fourteen for its bytes, and one for its end.
     for (line, input, piece, calls, silent, text) in [
         (FIND, file.as_slice(), 5, 70, 57, ZERO_LINE),
         ("make", SCRIPT, 7, 15, 16, MADE),
@@ -90,7 +90,7 @@ fn ends_where_a_read_fails(rt: HostRuntime) -> Result<(), Fail> {
 fn ends_where_a_write_fails(rt: HostRuntime) -> Result<(), Fail> {
     let file = zeros(rt.alloc(), 80)?;
     let samples = file.as_slice();
-    // In the first line, between two lines, and in a file.
+    // Writes fail in the first line, between two lines, and in a file.
     for (line, input, writes, text, count) in [
         (FIND, samples, (5, 3), ZERO_LINE, 10),
         (SURVEY, samples, (65536, 1), ZERO_RANK, 0),
@@ -122,8 +122,8 @@ fn ends_where_a_write_of_one_byte_fails(rt: HostRuntime) -> Result<(), Fail> {
 fn ends_where_a_call_fails_while_a_cell_is_followed(rt: HostRuntime) -> Result<(), Fail> {
     let file = cell(&rt)?;
     let (line, text) = ("follow", HEARD.as_bytes());
-    // Calls of 7 octets took some 175,000 samples before the 100,000th, and some 280,000 before the
-    // 160,000th.
+    // Calls of 7 octets have read about 175,000 samples before the 100,000th call, and about
+    // 280,000 before the 160,000th.
     for (reads, writes, end, count) in [
         ((65536, 1), STEADY, Status::ReadFault, 0),
         ((7, 100_000), STEADY, Status::ReadFault, 34),

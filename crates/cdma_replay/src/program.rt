@@ -117,12 +117,13 @@ pub fn run<R: AllocGlobal + Threads + Sync, S: Source, K: Output, E: Sink>(
     sink: &mut K,
     errors: &mut E,
 ) -> ExitCode
-    // Arguments that weren't given move nothing, and that is told.
+    // If the arguments could not be read, source and sink are unchanged, and the end is reported.
     ensures refused { IfErr args (λ status. (exit_status result ≡ code_of status) ×
         (source.new ≡ source.old) × (sink.new ≡ sink.old) ×
         TellsEnd status (flow_of E.written E.faults errors.old errors.new)) }
-    // The exit status is that of an end with all that `replay` promises of the arguments after the
-    // first, with a tap of each form; the end is told, and what was written was passed on.
+    // The exit status is that of an end that fulfils the contract of `replay` for the arguments
+    // after the first, with a tap of each form. The end is reported, and what was written has been
+    // passed on.
     ensures ran { IfOk args (λ given. ExitsBy
         (λ status. RunsCommand each_form (job_named (drop 1 given.items)) status
         (flow_of S.rest S.faults source.old source.new)

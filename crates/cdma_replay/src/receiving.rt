@@ -18,7 +18,7 @@ use std::alloc::Global;
 use std::thread::Threads;
 
 /// Reads the file's first samples into `span`, writes their text, and reads on to the end of the
-/// file through the buffer `piece`. If somebody hears the file, the listener takes all samples.
+/// file through the buffer `piece`. The listener, if any, takes all samples.
 fn receive_file<R: Threads + Sync, S: Source, K: Sink, T: KeepsTaps, G: Gate + Sync>(
     rt: &R,
     alloc: Global,
@@ -45,9 +45,8 @@ fn receive_file<R: Threads + Sync, S: Source, K: Sink, T: KeepsTaps, G: Gate + S
     hear_file(reader, span, piece, source, &mut listener, &mut taps, sink)
 }
 
-/// Writes the text of the file's first samples, then reads on to the end of the file. If
-/// somebody hears the file, the listener takes all samples; the taps receive each event of a
-/// handset, the pilot first.
+/// Writes the text of the file's first samples, then reads on to the end of the file. The listener,
+/// if any, takes all samples; the taps receive each event of a handset, the pilot first.
 ///
 /// All memory is allocated before the first line is written.
 pub fn receive<R: Threads + Sync, S: Source, K: Sink, T: KeepsTaps, G: Gate + Sync>(

@@ -1,4 +1,4 @@
-//! The top call: the whole program.
+//! The top-level call: the whole program.
 
 ghost use Rattle.cdma_replay.specs.Common.{IsLawfulJob, job_named, ended, RunsJob};
 ghost use Rattle.std.specs.Prelude.{◌≡◌, map};
@@ -26,7 +26,7 @@ fn status_of(run: Result<(), Status>) -> Status
     }
 }
 
-/// Does a job over a source and a sink, and returns how it ended.
+/// Runs a job over a source and a sink, and returns how it ended.
 fn run_job<R: Threads + Sync, S: Source, K: Sink, G: Gate + Sync>(
     rt: &R,
     alloc: Global,
@@ -55,20 +55,20 @@ fn run_job<R: Threads + Sync, S: Source, K: Sink, G: Gate + Sync>(
 
 /// Runs the command that the arguments name over a source and a sink, and returns how it ended.
 ///
-/// `find` reads a sample file, searches the phase of the pilot (TIA/EIA-95-B, 7.1.3.1.9) in the
-/// first samples, as many as its span is, writes its line, and reads on to the end of the file.
-/// `follow` does that too, and lets the taps hear the pilot and each event that a handset hears in
-/// the samples, as it comes, and write their text; it ends with `NoSync` where no message told the
-/// time. `survey` reads as `find` does, but measures how strong each of the 512 pilots (7.1.3.2.1)
-/// is in the first samples, and writes the first of their ranks, a line each. `make` reads a
-/// script, and writes the file of the cell that it names. `trial` reads nothing: it makes the link
-/// that its number tells, follows it with a handset, and writes one line that counts what was
-/// heard. `rate2` searches as `find` does and writes no pilot's line: from the mark on that a sync
-/// message sets it decodes each frame of one traffic channel as one of rate set 2 (TIA/EIA-95-B,
-/// 7.1.3.5), and writes its line; it ends with `NoSync` as `follow` does. `list` does so with
-/// frames of rate set 1, each chosen from the first k codewords of a rate, by right quality bits.
-/// `idle` hears, after the mark too, the slots of one paging channel that a handset of a key wakes
-/// for (TIA/EIA-95-B, 6.6.2.1.1.3), and writes the line of each and those of its messages.
+/// `find` reads a sample file, searches the first samples, as many as its span, for the phase of
+/// the pilot (TIA/EIA-95-B, 7.1.3.1.9), writes its line, and reads on to the end of the file.
+/// `follow` also follows the samples with a handset: the taps receive the pilot and each event as
+/// it occurs, and write their text. It ends with `NoSync` if no message contained the time.
+/// `survey` reads like `find`, but measures the strength of each of the 512 pilots (7.1.3.2.1) in
+/// the first samples, and writes the first of their ranks, a line each. `make` reads a script, and
+/// writes the file of the cell that it names. `trial` reads nothing: it makes the link of its
+/// number, follows it with a handset, and writes one line that counts what was received. `rate2`
+/// searches like `find`, but writes no line for the pilot. From the mark on, which a sync message
+/// sets, it decodes each frame of one traffic channel as one of rate set 2 (TIA/EIA-95-B, 7.1.3.5),
+/// and writes its line. It ends with `NoSync` as `follow` does. `list` does the same with frames of
+/// rate set 1, each chosen from the first k codewords of a rate by right quality bits. `idle`
+/// decodes, also after the mark, the slots of one paging channel in which a handset with a key
+/// wakes (TIA/EIA-95-B, 6.6.2.1.1.3), and writes the line of each slot and those of its messages.
 ///
 /// [`command_line::words_of`] lists the commands' options and their defaults.
 ///

@@ -85,7 +85,7 @@ pub fn run_tapped<R: AllocGlobal + Threads + Sync, G: Gate + Sync>(
     Ok((status, Vec::from_slice(alloc, sink.bytes())?))
 }
 
-/// The same with a tap of each form and an open gate.
+/// Runs a command line likewise, with a tap of each form and an open gate.
 pub fn run<R: AllocGlobal + Threads + Sync>(
     rt: &R,
     line: &str,

@@ -24,11 +24,11 @@ use short_code::Codes;
 use std::alloc::Global;
 use std::thread::Threads;
 
-/// How many of the first samples the pilot search uses.
+/// The number of first samples that the pilot search uses.
 const SPAN: usize = 2048;
 
-/// Gives a handset the next samples of a cell, as many as `samples` has room for, and counts what
-/// it tells.
+/// Passes the next samples of a cell, as many as `samples` has room for, to a handset, and counts
+/// its events.
 fn count_next(mobile: &mut Mobile, cell: &mut Cell, samples: &mut [Sample], counts: &mut Counts)
     requires left { cell.old.given + length samples.old ≤ cell.old.plan.link.samples }
     requires room { length samples.old ≤ has_room mobile.old }
@@ -46,7 +46,7 @@ fn count_next(mobile: &mut Mobile, cell: &mut Cell, samples: &mut [Sample], coun
     count_events(mobile, samples, counts);
 }
 
-/// Gives a handset all remaining samples of a cell through the buffer `piece`, and counts its
+/// Passes all remaining samples of a cell to a handset through the buffer `piece`, and counts its
 /// events.
 fn count_rest(mobile: &mut Mobile, cell: &mut Cell, piece: &mut [Sample], counts: &mut Counts)
     requires piece { 0 < length piece.old }
@@ -63,7 +63,7 @@ fn count_rest(mobile: &mut Mobile, cell: &mut Cell, piece: &mut [Sample], counts
     }
 }
 
-/// Follows all samples of a number's cell, by way of `span` and `piece`, and writes the line that
+/// Follows all samples of a number's cell, through `span` and `piece`, and returns the line that
 /// reports what was received.
 fn follow_cell<R: Threads + Sync, G: Gate + Sync>(
     rt: &R,
@@ -95,8 +95,8 @@ fn follow_cell<R: Threads + Sync, G: Gate + Sync>(
     Ok(counts.summary(number, header.count, best.phase.get()))
 }
 
-/// Makes a number's cell, follows it, and writes the line that reports what was received. All
-/// memory is taken before the first sample is followed.
+/// Makes a number's cell, follows it, and returns the line that reports what was received. All
+/// memory is allocated before the first sample is followed.
 fn followed<R: Threads + Sync, G: Gate + Sync>(
     rt: &R,
     alloc: Global,
@@ -121,8 +121,8 @@ fn followed<R: Threads + Sync, G: Gate + Sync>(
 /// Makes the link of a number, follows it with a handset, and writes one line with the counts of
 /// what was received.
 ///
-/// All memory is taken before the line is written.
-// No other command is to have its frame beneath its own.
+/// All memory is allocated before the line is written.
+// Not inlined, so that the other commands do not carry its stack frame.
 #[inline(never)]
 pub fn trial<R: Threads + Sync, K: Sink, G: Gate + Sync>(
     rt: &R,

@@ -1,5 +1,5 @@
-//! Runs of each command by two, five and 64 workers: that there are as many as asked, each with its
-//! own number, and that they run at once.
+//! Runs each command with two, five and 64 workers: there are as many as requested, each with its
+//! own number, and they run concurrently.
 
 use crate::Status;
 use crate::test_runs::{TRIAL_LINE, UNBROKEN, ZERO_LINE, ZERO_RANK, each_tap, run_tapped, zeros};
@@ -10,23 +10,23 @@ use std::test::Fail;
 /// A gate at which workers wait until all have arrived or a limit of turns is reached.
 #[derive(Drop)]
 struct Meeting {
-    /// The flags of the workers that are waited for.
+    /// The sum of the flags of the workers to wait for.
     all: u64,
-    /// The sum of the flags of the workers that arrived,
+    /// The sum of the flags of the workers that have arrived.
     arrived: AtomicU64,
-    /// of those that saw all the others,
+    /// The sum of the flags of those that have met all others.
     met: AtomicU64,
-    /// and of those that left.
+    /// The sum of the flags of those that have left.
     left: AtomicU64,
 }
 
-/// A bit for each worker.
+/// The bit of a worker.
 fn flag_of(worker: u8) -> u64 {
     1 << (worker % 64)
 }
 
 impl Meeting {
-    /// Before any has come.
+    /// Makes a gate at which no worker has arrived yet.
     fn of(all: u64) -> Meeting {
         Meeting {
             all,
@@ -36,7 +36,7 @@ impl Meeting {
         }
     }
 
-    /// Whether each worker has met all others and left, and no other worker came.
+    /// Whether each worker has met all others and left, and no other worker has arrived.
     fn is_over(&self) -> bool {
         self.arrived.load(Ordering::SeqCst) == self.all
             && self.met.load(Ordering::SeqCst) == self.all

@@ -1,4 +1,4 @@
--- What the definitions of this crate cite of the crates below, and of its own types.
+-- Names that the definitions of this crate use, from other crates and of its own types.
 pub use Rattle.chip_core.specs.Complex.{norm, origin, plus, times}
 pub use Rattle.chip_core.specs.declared.check_form.CheckForm.{CheckForm}
 pub use Rattle.chip_core.specs.declared.sample.Pair.{Pair}

@@ -13,12 +13,12 @@ use Rattle.quality_bits.specs.declared.rate.Rate.{Rate}
 use Rattle.cell_plan.specs.declared.plan.CellIdentity.{CellIdentity}
 use Rattle.cell_plan.specs.Sendings.{continued_symbols}
 
--- the bits of frame k of n bits each, if a cycle of bits repeats without end
+-- the bits of a frame, if frames have `size` bits each and a cycle of bits repeats without end
 unfoldable pub cycled : List Bool → ℕ → ℕ → List Bool
 cycled cycle size frame =
     map (λ i. get_or cycle ((size * frame + i) % length cycle) false) (places size)
 
--- a frame has two half-frames
+-- the number of bits in a frame, which has two half-frames
 abbrev pub paging_frame_size : Rate → ℕ
 paging_frame_size rate = 2 * (half_frame_body rate + 1)
 

@@ -12,11 +12,11 @@ abbrev pub sent_paging_rate : Option SyncPlan → Rate
 sent_paging_rate None = R9600
 sent_paging_rate (Some sync) = if sync.message.prat == 1 then R4800 else R9600
 
--- a page's capsule, and whether it follows the one before at once
+-- a page's capsule, and whether it follows the previous one immediately
 abbrev pub put_of : CheckForm → Page → Put
 put_of form page = record { follows = page.follows; capsule = capsule M30 form page.body }
 
--- what pages lay in half-frames of n body bits
+-- the pages laid in half-frames of `size` body bits
 abbrev pub laid_pages : ℕ → CheckForm → List Page → Laid
 laid_pages size form pages = laid_all size nothing_laid (map (put_of form) pages)
 
@@ -25,19 +25,19 @@ unfoldable pub page_cycle : Rate → CheckForm → List Page → List Bool
 page_cycle rate form pages =
     half_frames_of (half_frame_body rate) (laid_pages (half_frame_body rate) form pages)
 
--- ---- how many bits they have
+-- ---- the number of their bits
 
--- the body bits after a capsule of n bits that is laid after others
+-- the number of body bits after a capsule of `bits` bits is laid after `count` body bits
 abbrev pub laid_after : ℕ → ℕ → Bool → ℕ → ℕ
 laid_after size count follows bits =
     if follows then count + bits else count + fill size count + bits
 
--- the bits of half-frames up to the last of n body bits, including SCI bits
+-- the number of bits of half-frames up to the last of `count` body bits, including SCI bits
 abbrev pub half_frame_bits : ℕ → ℕ → ℕ
 half_frame_bits size count = count + (count + size - 1) / size
 
--- Pages after n body bits: each fills a capsule, and the half-frames have at most 8,192 bits up to
--- the end of the last capsule.
+-- Pages laid after `count` body bits: each fills a capsule, and the half-frames have at most 8,192
+-- bits up to the end of the last capsule.
 abbrev pub AreSendable : ℕ → ℕ → List Page → Type 0
 AreSendable size count [] = Unit {0}
 AreSendable size count (page ∷ pages) =

@@ -35,7 +35,7 @@ gain_sum plan =
 abbrev pub loudness : CellPlan → ℕ
 loudness plan = (unsigned_abs plan.link.factor.i + unsigned_abs plan.link.factor.q) * gain_sum plan
 
--- a sync channel sends what is a message, whatever stands for PILOT_PN, SYS_TIME and LC_STATE
+-- a sync channel sends a message, whatever its PILOT_PN, SYS_TIME and LC_STATE
 abbrev pub IsSyncPlan : Option SyncPlan → Type 0
 IsSyncPlan None = Unit {0}
 IsSyncPlan (Some sync) = (0 < sync.gain) × IsSyncMessage sync.message
@@ -48,7 +48,7 @@ pub record IsPagingPlan (rate : Rate) (p : PagingPlan) : Type 0 where
   pub some : 1 ≤ length p.pages
   pub pages : AreSendable (half_frame_body rate) 0 p.pages
 
--- no two paging channels have one number
+-- no two paging channels have the same number
 abbrev pub HaveOwnNumbers : List PagingPlan → Type 0
 HaveOwnNumbers [] = Unit {0}
 HaveOwnNumbers (p ∷ paging) =
@@ -64,7 +64,7 @@ pub record IsTrafficPlan (t : TrafficPlan) : Type 0 where
   pub some : 1 ≤ length t.frames
   pub sized : All IsTrafficFrame t.frames
 
--- no two traffic channels have one row
+-- no two traffic channels have the same row
 abbrev pub HaveOwnTrafficRows : List TrafficPlan → Type 0
 HaveOwnTrafficRows [] = Unit {0}
 HaveOwnTrafficRows (t ∷ traffic) =
@@ -74,8 +74,8 @@ HaveOwnTrafficRows (t ∷ traffic) =
 abbrev pub IsFreeOf : List TrafficPlan → ℕ → Type 0
 IsFreeOf traffic row = All (λ (t : TrafficPlan). t.row ≢ row) traffic
 
--- traffic channels that can be sent together with these paging channels: there are no more than
--- rows, and each has a row of its own
+-- traffic channels that can be sent together with these paging channels: there are at most 62, and
+-- each has a row of its own
 pub record AreLawfulBeside (paging : List PagingPlan) (traffic : List TrafficPlan) : Type 0 where
   pub few : length traffic ≤ 62
   pub are : All IsTrafficPlan traffic

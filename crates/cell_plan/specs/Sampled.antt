@@ -1,4 +1,4 @@
--- The samples of a cell as in a sample file.
+-- The samples of a cell as a sample file contains them.
 use Rattle.cell_plan.specs.Common.{Pair, CellPlan}
 use Rattle.std.specs.Prelude.{List, map}
 use Rattle.chip_core.specs.declared.sample.Sample.{Sample}

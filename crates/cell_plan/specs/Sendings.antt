@@ -11,13 +11,13 @@ use Rattle.sync_message.specs.SyncMessage.{sync_capsule}
 use Rattle.sync_message.specs.declared.fields.SyncFields.{SyncFields}
 use Rattle.cell_plan.specs.declared.plan.CellIdentity.{CellIdentity}
 
--- The message of a transmission tells the time and the state four superframes after its last one,
--- less the pilot's offset. How many superframes a transmission has doesn't depend on what is filled
--- in.
+-- The message of a transmission contains the time and the state four superframes after its last
+-- one, less the pilot's offset. The number of superframes in a transmission does not depend on the
+-- values filled in.
 abbrev pub superframes_a_sending : CellIdentity → SyncFields → ℕ
 superframes_a_sending cell m = superframes_of (sync_capsule cell.check30 m)
 
--- the superframes from local chip 64 pn on up to that time
+-- the number of superframes from local chip 64 pn up to that time
 abbrev pub told_superframes : CellIdentity → SyncFields → ℕ → ℕ
 told_superframes cell m sending = (sending + 1) * superframes_a_sending cell m + 4
 
@@ -41,8 +41,8 @@ sync_frame_bits cell m frame =
     let following = drop (31 * (frame % frames)) (padded_sending cell m (frame / frames)) in
     (frame % frames == 0) ∷ take 31 following
 
--- The eight bits before a frame of a channel whose encoder goes on from frame to frame, and starts
--- in state zero: the last ones of the frame before it.
+-- The eight bits before a frame of a channel whose encoder starts in state zero and continues from
+-- frame to frame: the last eight bits of the previous frame.
 unfoldable pub bits_before : (ℕ → List Bool) → ℕ → List Bool
 bits_before bits_of zero = replicate 8 false
 bits_before bits_of (suc k) = drop (length (bits_of k) - 8) (bits_of k)

@@ -1,4 +1,4 @@
--- The signal of a cell, chip by chip, and the samples that a handset receives of it
+-- The signal of a cell, chip by chip, and the samples that a handset receives from it
 -- (TIA/EIA-95-B, 7.1.3.1).
 use Rattle.cell_plan.specs.Common.{origin, plus, times, Pair, walsh, CellPlan, SyncPlan, PagingPlan}
 use Rattle.cell_plan.specs.Common.{paging_mask, traffic_mask, TrafficPlan}
@@ -14,7 +14,7 @@ use Rattle.cell_plan.specs.Sendings.{sync_symbols}
 use Rattle.cell_plan.specs.TrafficFrames.{traffic_frame_symbols, FrameCycle}
 
 -- A channel that is sent: its gain, its Walsh row, the local chip at which its first frame begins,
--- how long its frames and symbols are, and the symbols of each frame by the frame's number.
+-- the lengths of its frames and symbols, and the symbols of each frame by the frame's number.
 pub record Carrier : Type 0 where
   pub gain : ℕ
   pub row : ℕ
@@ -33,7 +33,7 @@ symbol_at first frame_chips symbol_chips symbols chip =
 abbrev pub symbol_of : Carrier → ℕ → Option Bool
 symbol_of c chip = symbol_at c.first c.form.frame_chips c.form.symbol_chips c.symbols chip
 
--- the gain with the symbol's sign, and 0 where there is no symbol
+-- the gain with the symbol's sign, or 0 if there is no symbol
 abbrev pub level_of : ℕ → Option Bool → ℤ
 level_of gain None = pos 0
 level_of gain (Some symbol) = pos gain *ℤ sign symbol
@@ -148,6 +148,6 @@ unfoldable pub sample_of : CellPlan → ℕ → Pair
 sample_of plan t =
     times plan.link.factor (sent_chip plan.cell.pn (carriers plan) (plan.link.start + t))
 
--- all of them
+-- all samples of the cell's file
 unfoldable pub samples_of : CellPlan → List Pair
 samples_of plan = map (sample_of plan) (places plan.link.samples)

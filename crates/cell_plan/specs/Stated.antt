@@ -1,4 +1,4 @@
--- The plan of a cell as stated, within its bounds, and the channels that a handset can receive of
+-- The plan of a cell as stated, within its bounds, and the channels that a handset can receive from
 -- it.
 use Rattle.cell_plan.specs.Common.{CheckForm, norm, IsState, IsSyncMessage, Rate, bits_left, M30}
 use Rattle.cell_plan.specs.Common.{capsules_in, half_frame_body, CellPlan, Page, PagingPlan, Width}
@@ -25,8 +25,8 @@ abbrev pub IsStatedSync : Option SyncPlan → Type 0
 IsStatedSync None = Unit {0}
 IsStatedSync (Some sync) = IsSyncMessage sync.message
 
--- Pages after n body bits: each is a message, and a page follows the one before at once only if 8
--- body bits of the half-frame are left.
+-- Pages laid after `count` body bits: each is a message, and a page follows the previous one
+-- immediately only if at least 8 body bits of the half-frame are left.
 abbrev pub AreHeard : ℕ → ℕ → List Page → Type 0
 AreHeard size count [] = Unit {0}
 AreHeard size count (page ∷ pages) =
@@ -37,7 +37,7 @@ AreHeard size count (page ∷ pages) =
 abbrev pub HasMessages : PagingPlan → Type 0
 HasMessages p = All (λ (page : Page). HasMessage page.body) p.pages
 
--- the half-frames of a channel's pages carry just their capsules, in order
+-- the half-frames of a channel's pages carry exactly their capsules, in order
 abbrev pub IsCarried : Rate → CheckForm → PagingPlan → Type 0
 IsCarried rate form p =
     capsules_in (half_frame_body rate) (page_cycle rate form p.pages)
@@ -70,7 +70,7 @@ pub record HasSaid (plan : CellPlan) : Type 0 where
   pub lawful : IsStatedPlan plan
   pub linked : 0 < norm plan.link.factor
 
--- a lawful cell, with a link, whose pages are messages that half-frames carry
+-- a lawful cell whose link is not 0 and whose pages are messages that half-frames carry
 pub record IsReceivable (width : Width) (plan : CellPlan) : Type 0 where
   pub lawful : IsLawfulPlan width plan
   pub link : 0 < norm plan.link.factor

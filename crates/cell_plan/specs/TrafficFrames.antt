@@ -29,7 +29,7 @@ abbrev pub rate_set : FrameRate → RateSet
 rate_set (SetOne rate) = One
 rate_set (SetTwo rate) = Two
 
--- how many information bits a frame of a rate has
+-- the number of information bits in a frame of a rate
 abbrev pub information_bits_of : FrameRate → ℕ
 information_bits_of (SetOne rate) = information_of rate
 information_bits_of (SetTwo rate) = second.information_of2 rate
@@ -46,8 +46,8 @@ placed_symbols (SetOne rate) information =
     sent data_shape (repeats_of rate) code
 placed_symbols (SetTwo rate) information = sent_frame2 rate information
 
--- the 384 symbols of a frame as they are sent, where these are those before scrambling: the power
--- control bits replace symbols after scrambling
+-- the 384 symbols of a frame as they are sent, made from those before scrambling; power control
+-- bits replace symbols after scrambling
 abbrev pub sent_with : ℕ → ℕ → List Bool → List Bool → List Bool
 sent_with state mask power_bits symbols =
     with_power_bits state mask power_bits (scrambled (scrambling state mask) symbols)
@@ -71,7 +71,7 @@ SetOneFrame = FrameAt Rate
 abbrev pub SetTwoFrame : Type 0
 SetTwoFrame = FrameAt Rate2
 
--- the same frame, where these are the set's rates among all
+-- the same frame with its rate as a `FrameRate`
 abbrev pub planned : {R : Type 0} → (R → FrameRate) → FrameAt R → TrafficFrame
 planned at f = record { rate = at f.rate; information = f.information; power_bits = f.power_bits }
 
@@ -97,7 +97,7 @@ frame_of_set {R} in_set f =
     record { rate = rate; information = f.information; power_bits = f.power_bits })
     (in_set f.rate)
 
--- frames as those of a set, where all of them are
+-- frames as those of a set, if all of them are
 abbrev pub all_of_set : {R : Type 0} → (FrameRate → Option R) → List TrafficFrame →
     Option (List (FrameAt R))
 all_of_set in_set [] = Some []
@@ -106,7 +106,7 @@ all_of_set {R} in_set (f ∷ frames) =
     option_map (λ (rest : List (FrameAt R)). first ∷ rest) (all_of_set in_set frames))
     (frame_of_set in_set f)
 
--- the frames of a channel of the set, and none of another channel
+-- the frames of a channel of the set; none if the channel is of another set
 abbrev pub frames_of_set : {R : Type 0} → (FrameRate → Option R) → List TrafficFrame →
     List (FrameAt R)
 frames_of_set {R} in_set frames =
@@ -131,7 +131,7 @@ pub record FrameCycle : Type 0 where
 abbrev pub frames_in_turn : {F : Type 0} → List F → ℕ → List F
 frames_in_turn frames k = take 1 (drop (k % length frames) frames)
 
--- that of a channel of rate set 1
+-- the same for a channel of rate set 1
 abbrev pub cycled_frame : FrameCycle → ℕ → List SetOneFrame
 cycled_frame c k = frames_in_turn (set_one c.frames) k
 

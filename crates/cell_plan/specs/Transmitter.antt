@@ -4,7 +4,7 @@ use Rattle.cell_plan.specs.Common.{CellIdentity, CellPlan, SyncPlan}
 use Rattle.std.specs.Prelude.{ℕ, ◌+◌, ◌-◌, ◌*◌, ◌<◌, ◌≤◌, ◌%◌, ℤ, unsigned_abs, Option, None, Some}
 use Rattle.cdma_io.specs.declared.header.Header.{Header}
 
--- a cell: the width of its samples, its plan, and how many samples it has given
+-- a cell: the width of its samples, its plan, and the number of samples it has returned
 pub record CellState : Type 0 where
   pub width : Width
   pub plan : CellPlan
@@ -30,7 +30,7 @@ pub record Sent : Type 0 where
   pub cell : CellIdentity
   pub message : SyncFields
 
--- a cell that can send a message: what each transmission fills in fits its field
+-- a cell that can send a message: the values that each transmission fills in fit their fields
 pub record IsSendable (cell : CellIdentity) (m : SyncFields) : Type 0 where
   pub pn : cell.pn < 512
   pub time : cell.time ≤ 34359738368
@@ -41,7 +41,7 @@ pub record IsSendable (cell : CellIdentity) (m : SyncFields) : Type 0 where
 abbrev pub phase_at : CellPlan → ℕ → ℕ
 phase_at plan chip = (chip + 32768 - 64 * plan.cell.pn) % 32768
 
--- two signs, and the point that they name
+-- two signs, and the point that they define
 abbrev pub IsPoint : ℤ × ℤ → Type 0
 IsPoint signs = (unsigned_abs signs.0 ≤ 1) × (unsigned_abs signs.1 ≤ 1)
 

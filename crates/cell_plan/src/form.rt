@@ -4,13 +4,13 @@ use chip_core::air::{
     DATA_FRAME_CHIPS, DATA_SYMBOL_CHIPS, SYNC_FRAME_CHIPS, SYNC_SYMBOL_CHIPS, WALSH_CHIPS,
 };
 
-/// How long the frames and the symbols of a channel are as it is sent, in chips: a frame is a
-/// number of symbols, and a symbol a number of periods of the channel's row (TIA/EIA-95-B, 7.1.3).
+/// The lengths in chips of a channel's frames and symbols, as they are sent. A frame is a number of
+/// symbols, and a symbol a number of periods of the channel's row (TIA/EIA-95-B, 7.1.3).
 #[derive(Clone, Copy, PartialEq, Eq, Debug)]
 pub struct ChannelForm {
-    /// The chips of a frame.
+    /// The number of chips in a frame.
     pub frame_chips: u64,
-    /// The chips of a symbol.
+    /// The number of chips in a symbol.
     pub symbol_chips: u64,
 }
 

@@ -1,6 +1,6 @@
-//! The plan of a cell, and what the cell sends by it: the cell and the link to it, its channels
-//! with their gains, messages, pages and frames, and the symbols, chips and samples that these
-//! make.
+//! The plan of a cell, and what the cell sends according to it: the cell and the link to it, its
+//! channels with their gains, messages, pages and frames, and the resulting symbols, chips and
+//! samples.
 //!
 //! TIA/EIA-95-B, 7.1.3.1: the forward channels of a cell, spread by their Walsh rows and by the
 //! pilot's codes.

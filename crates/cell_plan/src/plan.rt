@@ -8,9 +8,9 @@ use sync_message::SyncFields;
 /// A cell, the link to it, and the channels that it sends.
 #[derive(Drop)]
 pub struct CellPlan {
-    /// Which cell it is.
+    /// The identity of the cell.
     pub cell: CellIdentity,
-    /// The link to it, and how much of its signal is wanted.
+    /// The link to the cell, and the number of samples wanted.
     pub link: LinkPlan,
     /// The pilot channel.
     pub pilot: PilotPlan,
@@ -48,7 +48,7 @@ pub struct LinkPlan {
     pub factor: Pair,
     /// The local chip of the first sample.
     pub start: u64,
-    /// How many samples are wanted.
+    /// The number of samples wanted.
     pub samples: u64,
 }
 
@@ -64,7 +64,7 @@ pub struct PilotPlan {
 pub struct SyncPlan {
     /// The gain of the channel.
     pub gain: u16,
-    /// The message. Each transmission replaces PILOT_PN, SYS_TIME and LC_STATE by its own.
+    /// The message. Each transmission replaces PILOT_PN, SYS_TIME and LC_STATE with its own.
     pub message: SyncFields,
 }
 
@@ -72,7 +72,7 @@ pub struct SyncPlan {
 /// 7.7.2.1).
 #[derive(Clone, Copy, PartialEq, Eq, Debug)]
 pub struct Page {
-    /// Whether the capsule begins right after the one before it, and not with the next half-frame.
+    /// Whether the capsule begins right after the previous one, not with the next half-frame.
     pub follows: bool,
     /// The body.
     pub body: Bits,
@@ -95,12 +95,12 @@ pub struct PagingPlan {
 pub struct TrafficPlan {
     /// The channel's Walsh row: 1 to 63, and not 32.
     pub row: u8,
-    /// The handset's electronic serial number, which its mask is made of (7.1.3.1.6).
+    /// The handset's electronic serial number, from which its mask is made (7.1.3.1.6).
     pub esn: u32,
-    /// FRAME_OFFSET: by how many steps of 1.25 ms the frames begin later, 0 to 15 (7.1.3.5.1).
+    /// FRAME_OFFSET: the delay of the frames in steps of 1.25 ms, 0 to 15 (7.1.3.5.1).
     pub offset: u8,
     /// The gain of the channel.
     pub gain: u16,
-    /// The frames of a cycle, in order. A script's are all of one rate set.
+    /// The frames of a cycle, in order. In a script they are all of one rate set.
     pub frames: Series<TrafficFrame>,
 }

@@ -9,7 +9,7 @@ use chip_core::air::DATA_SYMBOLS;
 use long_code::State;
 use symbol_path::{ScramblingBits, scramble_bits};
 
-/// Symbols, each added modulo 2 to its chip.
+/// Returns the symbols, each added modulo 2 to its chip.
 fn mixed(symbols: &Bits, chips: &ScramblingBits) -> Bits
     requires { length symbols.now ≡ 384 }
     ensures value { result ≡ scrambled chips.now symbols.now }
@@ -22,8 +22,8 @@ fn mixed(symbols: &Bits, chips: &ScramblingBits) -> Bits
     out
 }
 
-/// The 384 symbols of a frame that begins at a state of the long code, scrambled under a mask of 42
-/// bits (TIA/EIA-95-B, 7.1.3.1.6).
+/// Returns the 384 symbols of a frame, scrambled by the long code from `state` on under a mask of
+/// 42 bits (TIA/EIA-95-B, 7.1.3.1.6).
 pub fn scrambled(state: &State, mask: u64, symbols: &Bits) -> Bits
     requires mask { mask < 2 ^ 42 }
     requires symbols { length symbols.now ≡ 384 }

@@ -1,4 +1,4 @@
-//! A list of plans of one kind.
+//! A list of a plan's parts of one kind.
 
 ghost use Rattle.std.specs.Prelude.{◌≡◌, ◌++◌, ◌∷◌, [], IfOk, OnOk, OnErr, MatchOption};
 
@@ -6,7 +6,7 @@ use chip_core::OutOfMemory;
 use std::alloc::Global;
 use std::marker::Model;
 
-/// Things that a plan has any number of, in order. Contracts see them as a list.
+/// An ordered list of any number of a plan's parts. Contracts see it as a list of its items.
 #[derive(Drop)]
 pub struct Series<T: Drop> {
     items: Vec<T>,
@@ -21,7 +21,7 @@ impl<T: Drop> Model for Series<T> {
 }
 
 impl<T: Drop> Series<T> {
-    /// None yet. Nothing is allocated.
+    /// Makes an empty series. Allocates nothing.
     pub fn new(alloc: Global) -> Series<T>
         ensures { result ≡ [] }
     {
@@ -30,7 +30,7 @@ impl<T: Drop> Series<T> {
         }
     }
 
-    /// Adds one at the end. If there is no memory, the series is as it was.
+    /// Appends `item`. If memory runs out, the series is unchanged.
     pub fn push(&mut self, item: T) -> Result<(), OutOfMemory>
         ensures ok { OnOk result (self.new ≡ self.old ++ item ∷ []) }
         ensures err { OnErr result (self.new ≡ self.old) }
@@ -39,7 +39,7 @@ impl<T: Drop> Series<T> {
         Ok(())
     }
 
-    /// Takes the last one away.
+    /// Removes the last item and returns it; `None` exactly if the series is empty.
     pub fn pop(&mut self) -> Option<T>
         ensures { MatchOption result ((self.old ≡ []) × (self.new ≡ []))
             (λ last. self.old ≡ self.new ++ last ∷ []) }
@@ -47,7 +47,7 @@ impl<T: Drop> Series<T> {
         self.items.pop()
     }
 
-    /// All of them.
+    /// Returns all items.
     pub fn as_slice(&self) -> &[T]
         ensures { result.now ≡ self.now }
     {
@@ -56,7 +56,7 @@ impl<T: Drop> Series<T> {
 }
 
 impl<T: Copy> Series<T> {
-    /// A series of copies of these. Only memory can be wanting.
+    /// Makes a series of copies of `items`. Fails only if memory runs out.
     pub fn copied(alloc: Global, items: &[T]) -> Result<Series<T>, OutOfMemory>
         ensures { IfOk result (λ all. all ≡ items.now) }
     {

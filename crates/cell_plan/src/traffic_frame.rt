@@ -7,7 +7,7 @@ use chip_core::{Bits, PowerBits};
 use long_code::State;
 use symbol_path::{Rate, Rate2, encode_frame_into, encode2_into, format_of, with_power_bits};
 
-/// A set of rates of traffic channels, of which all frames of a channel are.
+/// A set of rates of traffic channels. All frames of a channel have rates of one set.
 #[derive(Clone, Copy, PartialEq, Eq, Debug)]
 pub enum RateSet {
     /// Rate set 1 (TIA/EIA-95-B, 7.1.3.5).
@@ -28,7 +28,7 @@ pub enum FrameRate {
 impl FrameRate {
     ghost use Rattle.cell_plan.specs.TrafficFrames.{information_bits_of, placed_symbols, rate_set};
 
-    /// The rate set that it is of.
+    /// Returns the rate set that contains the rate.
     pub fn set(&self) -> RateSet
         ensures { result ≡ rate_set self.now }
     {
@@ -38,8 +38,8 @@ impl FrameRate {
         }
     }
 
-    /// Returns how many information bits a frame has: 172, 80, 40 or 16 in rate set 1, and 268,
-    /// 126, 56 or 22 in rate set 2, the reserved bit first.
+    /// Returns the number of information bits in a frame: 172, 80, 40 or 16 in rate set 1, and 268,
+    /// 126, 56 or 22 in rate set 2, including the reserved bit, which comes first.
     pub fn information_bits(&self) -> u16
         ensures { result ≡ information_bits_of self.now }
     {
@@ -49,8 +49,8 @@ impl FrameRate {
         }
     }
 
-    /// The 384 symbols of a frame with this information before they are scrambled: the code
-    /// symbols, repeated and interleaved, and in rate set 2 some of them dropped.
+    /// Returns the 384 symbols of a frame with this information before scrambling: the code
+    /// symbols, repeated and interleaved, in rate set 2 with some of them dropped.
     #[tactic(auto, unfolding(crate::specs::TrafficFrames::placed_symbols))]
     fn placed(&self, information: &Bits) -> Bits
         requires { length information.now ≡ information_bits_of self.now }
@@ -73,7 +73,7 @@ impl FrameRate {
 pub struct TrafficFrame {
     /// The rate at which it is sent.
     pub rate: FrameRate,
-    /// The information bits, as many as a frame of the rate has.
+    /// The information bits; the rate determines their number.
     pub information: Bits,
     /// The power control bit of each of its 16 groups of 24 symbols: 1 directs the handset to lower
     /// its power (7.1.3.1.7).
@@ -84,8 +84,8 @@ impl TrafficFrame {
     ghost use Rattle.cell_plan.specs.TrafficFrames.{traffic_symbols, IsTrafficFrame};
 
     /// Returns the 384 symbols of the frame, given the long-code state at its beginning and a mask
-    /// of 42 bits: those of its rate in the sent order, scrambled, some of them replaced by power
-    /// control bits.
+    /// of 42 bits: the symbols in the order in which they are sent, scrambled, with some of them
+    /// replaced by power control bits.
     #[tactic(auto, unfolding(crate::specs::TrafficFrames::traffic_symbols))]
     pub fn symbols(&self, state: &State, mask: u64) -> Bits
         requires frame { IsTrafficFrame self.now }

@@ -14,7 +14,7 @@ pub record BlockState : Type 0 where
   pub channels : List ChannelState
   pub factor : Pair
 
--- the factor times what the channels send at a local chip, before the codes' point is on it
+-- the factor times the channels' sum at a local chip, before it is multiplied by the codes' point
 abbrev pub chip_at : BlockState → ℕ → Pair
 chip_at b chip = scaled (amplitudes chip (map carrier_of b.channels)) b.factor
 
@@ -27,7 +27,7 @@ abbrev pub AreFirstLevels : ℕ → List Carrier → ℕ → List ℤ → Type 0
 AreFirstLevels first cs done levels = (n : ℕ) (none : Carrier) → n < done → (k : ℕ) → k < 64 →
     level (first + k) (get_or cs n none) ≡ get_or levels n (pos 0)
 
--- and of all of them
+-- the levels of all carriers over these chips
 abbrev pub AreLevels : ℕ → List Carrier → List ℤ → Type 0
 AreLevels first cs levels = AreFirstLevels first cs (length cs) levels
 
@@ -36,7 +36,7 @@ abbrev pub AreBlockSums : List Carrier → Pair → List ℤ → List Pair → T
 AreBlockSums cs factor levels sums = (first : ℕ) → first % 64 ≡ 0 → AreLevels first cs levels →
     (k : ℕ) → k < 64 → get_or sums k origin ≡ scaled (amplitudes (first + k) cs) factor
 
--- and as samples
+-- the same sums as samples
 abbrev pub no_sample : Sample
 no_sample = record { i = pos 0; q = pos 0 }
 
@@ -45,14 +45,14 @@ AreChips cs factor levels chips = (first : ℕ) → first % 64 ≡ 0 → AreLeve
     (k : ℕ) → k < 64 →
     of_sample (get_or chips k no_sample) ≡ scaled (amplitudes (first + k) cs) factor
 
--- no louder than a sample may be, whatever the codes' point
+-- small enough for a sample, whatever the codes' point
 abbrev pub IsQuiet : Pair → Type 0
 IsQuiet chip = unsigned_abs chip.i + unsigned_abs chip.q ≤ 32767
 
 abbrev pub AreQuiet : List Carrier → Pair → Type 0
 AreQuiet cs factor = (chip : ℕ) → IsQuiet (scaled (amplitudes chip cs) factor)
 
--- channels whose levels and chips of a block are kept
+-- channels, with the levels and chips that are kept of a block
 pub record IsKeptBlock (channels : List ChannelState) (factor : Pair) (levels : List ℤ)
     (chips : List Sample) : Type 0 where
   pub few : length channels ≤ 128
@@ -67,7 +67,7 @@ pub record IsTurned (chip : Pair) (signs : ℤ × ℤ) (sample : Sample) : Type 
   pub in_phase : unsigned_abs sample.i ≤ unsigned_abs chip.i + unsigned_abs chip.q
   pub quadrature : unsigned_abs sample.q ≤ unsigned_abs chip.i + unsigned_abs chip.q
 
--- the first of these chips, each times its point
+-- the first `done` of these chips, each times its point
 abbrev pub AreTurned : (ℕ → Pair) → List (ℤ × ℤ) → ℕ → List Sample → Type 0
 AreTurned chips signs done samples = (k : ℕ) → k < done →
     IsTurned (chips k) (get_or signs k (pos 0, pos 0)) (get_or samples k no_sample)

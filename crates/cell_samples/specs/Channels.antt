@@ -1,4 +1,4 @@
--- The channels of a transmitter, in its own form.
+-- The channels of a transmitter, as it represents them.
 use Rattle.std.specs.Prelude.{◌≡◌, ℕ, ◌<◌, ◌%◌, Bool, false, List, [], ◌∷◌, length}
 use Rattle.cell_plan.specs.declared.form.ChannelForm.{ChannelForm}
 use Rattle.cell_samples.specs.declared.symbol_source.SymbolSource.{SymbolSource}
@@ -27,7 +27,7 @@ pub record ChannelState : Type 0 where
   pub first : ℕ
   pub source : SymbolSource
 
--- what it sends
+-- the carrier that a channel sends
 abbrev pub carrier_of : ChannelState → Carrier
 carrier_of c = record {
   gain = c.gain;
@@ -37,7 +37,7 @@ carrier_of c = record {
   symbols = source_symbols c.source;
 }
 
--- A channel that keeps a frame's symbols. Its frames begin where periods of the Walsh rows do.
+-- A channel that keeps a frame's symbols. Its frames begin with periods of the Walsh rows.
 pub record IsOpen (c : ChannelState) (kept : ℕ) (symbols : List Bool) : Type 0 where
   pub low : c.row < 64
   pub whole : c.first % 64 ≡ 0

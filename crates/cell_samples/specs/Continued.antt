@@ -1,4 +1,4 @@
--- Channels whose encoder continues from frame to frame, in the transmitter's form.
+-- Channels whose encoder continues from frame to frame, as the transmitter represents them.
 use Rattle.std.specs.Prelude.{◌≡◌, ℕ, ◌/◌, Bool, List}
 use Rattle.chip_core.specs.Bits.{binary}
 use Rattle.cell_plan.specs.declared.form.ChannelForm.{ChannelForm}
@@ -11,7 +11,7 @@ use Rattle.cell_plan.specs.Sendings.{bits_before, sync_frame_bits, sync_symbols}
 use Rattle.cell_plan.specs.Signal.{paging_form, sync_form}
 use Rattle.symbol_path.specs.declared.kinds.Kind as kinds
 
--- the bits of each frame of a source, and how many they are
+-- the bits of each frame of a source, and their number
 abbrev pub frame_bits_of : FrameSource → ℕ → List Bool
 frame_bits_of (Sync sent) = sync_frame_bits sent.cell sent.message
 frame_bits_of (Paging cycle) = cycle_frame_bits cycle
@@ -33,7 +33,7 @@ abbrev pub repeats_in : FrameSource → ℕ
 repeats_in (Sync sent) = 2
 repeats_in (Paging cycle) = repeats_of cycle.rate
 
--- the symbols of a frame, scrambled where the channel is
+-- the symbols of a frame, scrambled if the channel is
 abbrev pub scrambled_by : FrameSource → ℕ → List Bool → List Bool
 scrambled_by (Sync sent) frame symbols = symbols
 scrambled_by (Paging cycle) frame symbols = scrambled (frame_scrambling cycle frame) symbols
@@ -43,7 +43,7 @@ abbrev pub continued_frames : FrameSource → ℕ → List Bool
 continued_frames (Sync sent) = sync_symbols sent.cell sent.message
 continued_frames (Paging cycle) = cycle_symbols cycle
 
--- how many symbols a frame has
+-- the number of symbols of a frame
 abbrev pub symbol_count : ChannelForm → ℕ
 symbol_count form = form.frame_chips / form.symbol_chips
 

@@ -16,10 +16,10 @@ use chip_core::{Pair, Sample};
 use std::marker::Model;
 use walsh::transform64;
 
-/// How many chips a block has: a period of the Walsh rows (TIA/EIA-95-B, 7.1.3.1.8).
+/// The number of chips of a block: a period of the Walsh rows (TIA/EIA-95-B, 7.1.3.1.8).
 pub const BLOCK: usize = WALSH_CHIPS as usize;
 
-/// For how many channels a block keeps levels.
+/// The number of channels for which a block keeps levels.
 const MOST_CHANNELS: usize = 128;
 
 /// The level of each channel of a cell over a block, and 0 after the last channel.
@@ -28,10 +28,10 @@ type Levels = [i64; MOST_CHANNELS];
 /// The sum of the channels' amplitudes at each chip of a block, times the link.
 type BlockSums = [Pair; BLOCK];
 
-/// The same as samples: each chip at the code point 1.
+/// The same sums as samples, each chip at the code point 1.
 type BlockChips = [Sample; BLOCK];
 
-/// The channels of a cell, with what they sent over the block that was asked for last.
+/// The channels of a cell, with their levels and chips over the block that was requested last.
 ///
 /// Contracts see the channels and the factor of the link.
 #[derive(Drop)]
@@ -65,7 +65,7 @@ fn keep_level(levels: &mut Levels, channel: usize, level: i64) -> bool
     is_same
 }
 
-/// Sets `levels` to those of the channels over the 64 chips from a local chip on, and returns
+/// Sets `levels` to those of the channels over the 64 chips from local chip `first` on, and returns
 /// whether they are unchanged.
 fn keep_levels(channels: &mut [CellChannel], first: u64, levels: &mut Levels) -> bool
     requires whole { first % 64 ≡ 0 }
@@ -85,7 +85,7 @@ fn keep_levels(channels: &mut [CellChannel], first: u64, levels: &mut Levels) ->
     is_same
 }
 
-/// A sum and a channel's level times the link's factor.
+/// Returns `sum` plus a channel's level times the link's factor.
 fn with_level(sum: Pair, level: i64, factor: Pair) -> Pair
     requires sum { IsWithin (2 ^ 39) sum }
     requires level { unsigned_abs level ≤ 65535 }
@@ -98,8 +98,8 @@ fn with_level(sum: Pair, level: i64, factor: Pair) -> Pair
     }
 }
 
-/// The sums of the channels' amplitudes over a block in which they have these levels, each times
-/// the link's factor.
+/// Returns the sums of the channels' amplitudes over a block in which they have these levels, each
+/// times the link's factor.
 ///
 /// Over a block each channel has one level, so the rows' transform of the levels gives the sums:
 /// the sign of row n at chip k is that of row k at chip n.
@@ -118,7 +118,7 @@ fn sums_of(channels: &[CellChannel], factor: Pair, levels: &Levels) -> BlockSums
     sums
 }
 
-/// Returns a sum that fits a sample as one.
+/// Returns the sample of a sum that fits in one.
 fn narrowed(sum: Pair) -> Sample
     requires { IsQuiet sum }
     ensures { of_sample result ≡ sum }
@@ -129,7 +129,7 @@ fn narrowed(sum: Pair) -> Sample
     }
 }
 
-/// Makes `chips` the sums of a block as samples.
+/// Sets `chips` to the sums of a block as samples.
 fn narrow(sums: &BlockSums, chips: &mut BlockChips)
     requires { (k : ℕ) → k < 64 → IsQuiet (get_or sums.now k origin) }
     ensures { (k : ℕ) → k < 64 →
@@ -140,8 +140,8 @@ fn narrow(sums: &BlockSums, chips: &mut BlockChips)
     }
 }
 
-/// Sets `levels` and `chips` to those of the block that begins with a local chip. If no channel's
-/// level changed, the chips are reused.
+/// Sets `levels` and `chips` to those of the block that begins with local chip `first`. If no
+/// channel's level changed, the chips are reused.
 fn renew(
     channels: &mut [CellChannel],
     factor: Pair,
@@ -166,7 +166,7 @@ fn renew(
     }
 }
 
-/// A part of a chip with the sign of a code's chip.
+/// Returns a part of a chip times the sign of a code's chip.
 fn with_sign(part: i16, sign: i8) -> i16
     requires part { unsigned_abs part ≤ 32767 }
     requires sign { unsigned_abs sign ≤ 1 }
@@ -177,7 +177,7 @@ fn with_sign(part: i16, sign: i8) -> i16
 }
 
 /// Returns a chip of a block times a point of the codes, given by its signs.
-// All is in 16 bits, so that lanes of them can be turned at once.
+// All arithmetic is in 16 bits, so that several lanes can be turned at once.
 fn turned(chip: Sample, signs: (i8, i8)) -> Sample
     requires small { unsigned_abs chip.i + unsigned_abs chip.q ≤ 32767 }
     requires point { IsPoint signs }
@@ -205,7 +205,7 @@ fn turn(chips: &[Sample], signs: &[(i8, i8)], samples: &mut [Sample])
 }
 
 impl Block {
-    /// The channels of a cell with this factor of its link, before they are asked for a block.
+    /// Makes the block of a cell's channels and its link's factor, before any chips are requested.
     pub fn new(channels: Vec<CellChannel>, factor: Pair) -> Block
         requires few { length channels.items ≤ 128 }
         requires factor { IsWithin 32768 factor }
@@ -220,8 +220,8 @@ impl Block {
         }
     }
 
-    /// Fills `samples` with the cell's signal from a local chip on, within its block: each chip
-    /// times its point of the codes, given by their signs.
+    /// Fills `samples` with the cell's signal from local chip `chip` on, within one block: each
+    /// chip times its point of the codes, whose signs are in `signs`.
     pub fn spread(&mut self, chip: u64, signs: &[(i8, i8)], samples: &mut [Sample])
         requires soon { chip < 2 ^ 34 }
         requires within { chip % 64 + length samples.old ≤ 64 }

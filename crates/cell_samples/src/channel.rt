@@ -1,4 +1,4 @@
-//! A channel that is sent, symbol by symbol.
+//! A transmitted channel, symbol by symbol.
 
 ghost use Rattle.std.specs.Prelude.{◌≡◌, ◌<◌, ◌≤◌, ◌+◌, ◌*◌, ◌%◌, ◌^◌, ℕ, get_or, false, pos, ◌*ℤ◌};
 ghost use Rattle.std.specs.Prelude.{unsigned_abs};
@@ -40,7 +40,7 @@ impl Model for CellChannel {
         c.kept c.symbols };
 }
 
-/// A gain with the sign of a symbol.
+/// Returns a gain with the sign of a symbol.
 fn signed(gain: u16, symbol: bool) -> i64
     ensures value { result ≡ pos gain *ℤ sign symbol }
     ensures bound { unsigned_abs result ≤ 65535 }
@@ -53,7 +53,7 @@ fn signed(gain: u16, symbol: bool) -> i64
 }
 
 impl CellChannel {
-    /// A channel whose first frame begins at a local chip.
+    /// Makes a channel whose first frame begins at local chip `first`.
     pub fn open(gain: u16, row: u8, first: u64, mut source: SymbolSource) -> CellChannel
         requires row { row < 64 }
         requires whole { first % 64 ≡ 0 }
@@ -70,7 +70,7 @@ impl CellChannel {
         }
     }
 
-    /// The channel's Walsh row.
+    /// Returns the channel's Walsh row.
     pub fn row(&self) -> u8
         ensures value { result ≡ self.now.row }
         ensures below { result < 64 }
@@ -78,7 +78,7 @@ impl CellChannel {
         self.row
     }
 
-    /// A symbol of a frame that begins within the first 2^34 chips.
+    /// Returns a symbol of a frame that begins within the first 2^34 chips.
     fn symbol(&mut self, frame: u64, place: u16) -> bool
         requires frame { frame * (form_of self.old.source).frame_chips < 2 ^ 34 }
         requires place { place < symbol_count (form_of self.old.source) }
@@ -92,8 +92,8 @@ impl CellChannel {
         self.symbols.get(place)
     }
 
-    /// The level over the 64 chips from a local chip on: the gain with the sign of the symbol, and
-    /// 0 before the first frame.
+    /// Returns the level over the 64 chips from local chip `chip` on: the gain with the sign of the
+    /// symbol, and 0 before the first frame.
     pub fn level(&mut self, chip: u64) -> i64
         requires whole { chip % 64 ≡ 0 }
         requires chip { chip < 2 ^ 34 }

@@ -18,7 +18,7 @@ use symbol_path::place_into;
 #[derive(Drop)]
 pub struct ContinuedEncoder {
     source: FrameSource,
-    // The frame after the one that was coded last, and the encoder's state before it.
+    // The frame after the one that was encoded last, and the encoder's state before it.
     next: u64,
     state: u8,
 }
@@ -35,8 +35,8 @@ impl Model for ContinuedEncoder {
     ghost invariant = { λ e. IsBefore e.source e.next e.state };
 }
 
-/// The encoder's state before a frame: the last eight bits of the frame before it, and zeros before
-/// the first.
+/// Returns the encoder's state before a frame: the last eight bits of the frame before it, and
+/// zeros before the first.
 fn state_before(source: &mut FrameSource, frame: u64) -> u8
     requires { frame ≤ 2 ^ 20 }
     ensures value { binary 8 result ≡ bits_before (frame_bits_of source.old) frame }
@@ -50,7 +50,7 @@ fn state_before(source: &mut FrameSource, frame: u64) -> u8
 }
 
 impl ContinuedEncoder {
-    /// An encoder before its first frame.
+    /// Makes an encoder before its first frame.
     pub fn new(source: FrameSource) -> ContinuedEncoder
         ensures { result ≡ source }
     {
@@ -69,7 +69,7 @@ impl ContinuedEncoder {
     }
 
     /// Returns the encoder's state before a frame; it is kept from the previous frame if that was
-    /// coded last.
+    /// encoded last.
     fn state_at(&mut self, frame: u64) -> u8
         requires { frame < 2 ^ 20 }
         ensures value { binary 8 result ≡ bits_before (frame_bits_of self.old) frame }
@@ -81,7 +81,7 @@ impl ContinuedEncoder {
         state_before(&mut self.source, frame)
     }
 
-    /// The code symbols of a frame, two a bit.
+    /// Returns the code symbols of a frame, two per bit.
     fn code(&mut self, frame: u64) -> Bits
         requires { frame < 2 ^ 20 }
         ensures value { result ≡ continued_symbols (frame_bits_of self.old) frame }

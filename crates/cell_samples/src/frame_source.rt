@@ -1,4 +1,4 @@
-//! Where the bits of a continued channel's frames come from.
+//! The source of the bits of a continued channel's frames.
 
 ghost use Rattle.std.specs.Prelude.{◌≡◌, ◌*◌, ◌<◌, ◌^◌, length};
 ghost use Rattle.symbol_path.specs.SentOrder.{shape_of, size};
@@ -21,7 +21,7 @@ pub enum FrameSource {
 }
 
 impl FrameSource {
-    /// The bits of a frame.
+    /// Returns the bits of a frame.
     pub fn frame_bits(&mut self, frame: u64) -> Bits
         requires { frame < 2 ^ 20 }
         ensures value { result ≡ frame_bits_of self.old frame }
@@ -44,7 +44,7 @@ impl FrameSource {
         }
     }
 
-    /// The interleaver of its frames (7.1.3.1.5).
+    /// Returns the interleaver of the channel's frames (7.1.3.1.5).
     pub fn kind(&self) -> Kind
         ensures { result ≡ symbol_kind_of self.now }
     {
@@ -54,7 +54,7 @@ impl FrameSource {
         }
     }
 
-    /// How often each code symbol is sent (7.1.3.1.4).
+    /// Returns how often each code symbol is sent (7.1.3.1.4).
     pub fn repeats(&self) -> u8
         ensures { result ≡ repeats_in self.now }
     {

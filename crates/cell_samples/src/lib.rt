@@ -1,8 +1,8 @@
-//! The samples of a cell, by its plan: the bits and symbols of its channels' frames, the channels'
-//! levels block by block, and the samples that a handset receives of their sum.
+//! The samples of a cell, made from its plan: the bits and symbols of its channels' frames, the
+//! channels' levels block by block, and the samples of their sum, as a handset receives them.
 //!
-//! TIA/EIA-95-B, 7.1.3.1.8 and 7.1.3.1.9: each channel is spread by its Walsh row, and the sum of
-//! them by the pilot's codes.
+//! TIA/EIA-95-B, 7.1.3.1.8 and 7.1.3.1.9: each channel is spread by its Walsh row, and their sum by
+//! the pilot's codes.
 #![tactic(auto)]
 
 mod block;

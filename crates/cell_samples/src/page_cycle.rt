@@ -18,8 +18,8 @@ use quality_bits::{Kind, capsule_of};
 use std::marker::Model;
 use symbol_path::Rate;
 
-/// The half-frames of a cycle of pages, which a cell sends again and again. Contracts see the cell,
-/// the long code's mask, the rate, and the bits of the cycle.
+/// The half-frames of a cycle of pages, which a cell sends repeatedly. Contracts see the cell, the
+/// long code's mask, the rate, and the bits of the cycle.
 ///
 /// TIA/EIA-95-B, 7.7.2.1: a frame of 20 ms has two half-frames.
 #[derive(Drop)]
@@ -41,7 +41,7 @@ impl Model for PageCycle {
         IsCycle (record { cell = c.cell; mask = c.mask; rate = c.rate; bits = c.bits }) };
 }
 
-/// Pads with zeros to whole half-frames of `half_frame` body bits.
+/// Pads with zeros to whole half-frames of `half_frame` bits, their SCI bits included.
 fn fill_up(half_frame: u16, bits: &mut HalfBits)
     requires some { 1 ≤ half_frame }
     requires few { half_frame ≤ 96 }
@@ -54,7 +54,7 @@ fn fill_up(half_frame: u16, bits: &mut HalfBits)
     }
 }
 
-/// Lays pages in half-frames, the last of which ends with the last page.
+/// Lays pages into half-frames, the last of which ends with the last page.
 fn laid(rate: Rate, form: CheckForm, pages: &[Page]) -> HalfBits
     requires rate { IsPagingRate rate }
     requires pages { AreSendable (half_frame_body rate) 0 pages.now }
@@ -73,7 +73,7 @@ fn laid(rate: Rate, form: CheckForm, pages: &[Page]) -> HalfBits
 }
 
 impl PageCycle {
-    /// The half-frames of pages, which a cell sends at a rate under a mask of the long code.
+    /// Makes the half-frames of pages that a cell sends at a rate under a mask of the long code.
     pub fn new(cell: &CellIdentity, mask: u64, rate: Rate, pages: &[Page]) -> PageCycle
         requires lc { IsState cell.now.lc }
         requires mask { mask < 2 ^ 42 }
@@ -97,14 +97,14 @@ impl PageCycle {
         }
     }
 
-    /// The rate at which it is sent.
+    /// Returns the rate at which the cycle is sent.
     pub fn rate(&self) -> Rate
         ensures { result ≡ self.now.rate }
     {
         self.rate
     }
 
-    /// The bit at a place, counted on and on through the cycle.
+    /// Returns the bit at a place, which is counted through all repetitions of the cycle.
     fn bit(&self, place: u64) -> bool
         ensures { result ≡ get_or self.now.bits (place % length self.now.bits) false }
     {
@@ -112,7 +112,7 @@ impl PageCycle {
         self.bits.get((place % count) as u16)
     }
 
-    /// The bits of a frame: those after the ones of the frames before it.
+    /// Returns the bits of a frame, which follow those of the frames before it.
     pub fn frame_bits(&self, frame: u64) -> Bits
         requires { frame < 2 ^ 20 }
         ensures value { result ≡ cycle_frame_bits self.now frame }
@@ -126,8 +126,8 @@ impl PageCycle {
         bits
     }
 
-    /// The 384 symbols of a frame, scrambled by the long code from the frame's first chip on
-    /// (7.1.3.1.6).
+    /// Returns the 384 symbols of a frame, scrambled by the long code from the frame's first chip
+    /// on (7.1.3.1.6).
     pub fn scrambled(&self, frame: u64, symbols: &Bits) -> Bits
         requires frame { frame < 2 ^ 20 }
         requires symbols { length symbols.now ≡ 384 }

@@ -30,16 +30,16 @@ use std::alloc::Global;
 use std::marker::Model;
 use symbol_path::Rate;
 
-/// For how many channels there is room at first: the pilot, the sync channel, and seven paging
-/// channels.
+/// The number of channels for which there is room at first: the pilot, the sync channel, and seven
+/// paging channels.
 const FIRST_ROOM: usize = 9;
 
 /// A cell that returns its samples in order, as a handset receives them over the cell's link.
 ///
 /// Contracts see the width of the samples, the plan, and how many samples it has returned.
 ///
-/// TIA/EIA-95-B, 7.1.3.1.8 and 7.1.3.1.9: each channel is spread by its Walsh row, and the sum of
-/// them by the pilot's codes.
+/// TIA/EIA-95-B, 7.1.3.1.8 and 7.1.3.1.9: each channel is spread by its Walsh row, and their sum by
+/// the pilot's codes.
 #[derive(Drop)]
 pub struct CellSamples {
     width: Width,
@@ -61,7 +61,7 @@ impl Model for CellSamples {
     ghost invariant = { λ c. IsRunning c.width c.plan c.block c.given };
 }
 
-/// The version of a file of this width.
+/// Returns the version of a file whose samples have this width.
 fn version_for(width: Width) -> u16
     ensures { result ≡ version_of width }
 {
@@ -71,8 +71,8 @@ fn version_for(width: Width) -> u16
     }
 }
 
-/// The phase of the codes at a local chip: they lie 64 chips later for each step of the pilot's
-/// offset (TIA/EIA-95-B, 7.1.3.2.1).
+/// Returns the phase of the codes at a local chip. The codes begin 64 chips later for each step of
+/// the pilot's offset (TIA/EIA-95-B, 7.1.3.2.1).
 fn phase_for(plan: &CellPlan, chip: u64) -> u16
     requires pilot { plan.now.cell.pn < 512 }
     requires chip { chip < 2 ^ 34 }
@@ -93,7 +93,7 @@ fn paging_rate(sync: Option<SyncPlan>) -> Rate
     }
 }
 
-/// A paging channel of a cell, whose frames begin with local chip 0 (TIA/EIA-95-B, 7.1.3.4).
+/// Makes a paging channel, whose frames begin with local chip 0 (TIA/EIA-95-B, 7.1.3.4).
 fn paging_channel(plan: &CellPlan, paging: &PagingPlan) -> CellChannel
     requires pn { plan.now.cell.pn < 512 }
     requires lc { IsState plan.now.cell.lc }
@@ -112,7 +112,7 @@ fn paging_channel(plan: &CellPlan, paging: &PagingPlan) -> CellChannel
     )
 }
 
-/// Channels, and after them the paging channels of a cell.
+/// Returns these channels followed by the paging channels of a cell.
 fn with_paging(
     mut channels: Vec<CellChannel>,
     plan: &CellPlan,
@@ -130,7 +130,7 @@ fn with_paging(
     Ok(channels)
 }
 
-/// A traffic channel of a cell, whose frames begin later by its FRAME_OFFSET (TIA/EIA-95-B,
+/// Makes a traffic channel of a cell, whose frames begin later by its FRAME_OFFSET (TIA/EIA-95-B,
 /// 7.1.3.5).
 fn traffic_channel(
     alloc: Global,
@@ -149,7 +149,7 @@ fn traffic_channel(
     Ok(CellChannel::open(traffic.gain, traffic.row, first, source))
 }
 
-/// Channels, and after them the traffic channels of a cell.
+/// Returns these channels followed by the traffic channels of a cell.
 fn with_traffic(
     alloc: Global,
     mut channels: Vec<CellChannel>,
@@ -193,10 +193,9 @@ fn channels_for(alloc: Global, plan: &CellPlan) -> Result<Vec<CellChannel>, OutO
 }
 
 impl CellSamples {
-    /// The cell of a plan, before its first sample.
+    /// Makes the cell of a plan, before its first sample.
     ///
-    /// It allocates the table of the codes and the channels, and that is all that can fail. Nothing
-    /// is allocated later.
+    /// Only allocating the codes' table and the channels can fail. Nothing is allocated later.
     pub fn of_plan(alloc: Global, width: Width, plan: CellPlan) -> Result<CellSamples, OutOfMemory>
         requires { IsLawfulPlan width plan }
         ensures { IfOk result (λ cell. cell ≡ record { width = width; plan = plan; given = 0 }) }
@@ -213,8 +212,8 @@ impl CellSamples {
         })
     }
 
-    /// The header of the cell's file: version 1 for samples of 16 bits and 2 for those of 8, the
-    /// forms of the checks, and the number of all samples.
+    /// Returns the header of the cell's file: version 1 for samples of 16 bits, 2 for those of 8,
+    /// the forms of the checks, and the total number of samples.
     pub fn header(&self) -> Header
         ensures value { result ≡ header_of self.now.width self.now.plan }
         ensures lawful { IsLawfulHeader result }
@@ -234,7 +233,7 @@ impl CellSamples {
         self.plan.link.samples - self.given
     }
 
-    /// Returns how many samples the block of the next one has from that one on.
+    /// Returns the number of samples from the next one to the end of its block.
     fn left_in_block(&self) -> usize
         ensures { (self.now.plan.link.start + self.now.given) % 64 + result ≡ 64 }
     {
@@ -260,7 +259,7 @@ impl CellSamples {
 
     /// Fills `out` with the next samples of the cell, in order.
     ///
-    /// Whatever the cut, the pieces together are the samples of the definition.
+    /// However the samples are divided into pieces, the pieces together are the defined samples.
     pub fn fill(&mut self, out: &mut [Sample])
         requires { self.old.given + length out.old ≤ self.old.plan.link.samples }
         ensures samples { map of_sample out.new ≡

@@ -14,8 +14,8 @@ use long_code::State;
 use std::marker::Model;
 use sync_message::{SyncFields, SyncMessage};
 
-/// The transmissions of a cell's message, of which one is kept as its capsule. Contracts see the
-/// cell and the message.
+/// The transmissions of a cell's message, with the capsule of one of them in memory. Contracts see
+/// the cell and the message.
 ///
 /// TIA/EIA-95-B, 7.7.1.2: a superframe of 80 ms has three frames, and a message takes as many
 /// superframes as it needs.
@@ -73,7 +73,7 @@ fn message_for(
     }
 }
 
-/// The capsule of a message that has a spelling.
+/// Returns the capsule of a message that has a spelling.
 fn capsule_for(cell: &CellIdentity, message: SyncFields) -> Bits
     requires { IsSyncMessage message }
     ensures { result ≡ sync_capsule cell.now.check30 message }
@@ -81,15 +81,15 @@ fn capsule_for(cell: &CellIdentity, message: SyncFields) -> Bits
     SyncMessage::new(message).unwrap().encode(cell.check30)
 }
 
-/// A bit of a list, and 0 after its end.
+/// Returns bit `i` of a list, and 0 after its end.
 fn bit_or_zero(bits: &Bits, i: u16) -> bool
     ensures { result ≡ get_or bits.now i false }
 {
     i < bits.len() && bits.get(i)
 }
 
-/// The bits of a frame of a transmission: the SOM bit, 1 in the first frame, and 31 bits of the
-/// capsule, with zeros after it.
+/// Returns the bits of a frame of a transmission: the SOM bit, 1 in the first frame, and 31 bits of
+/// the capsule, with zeros after its end.
 fn piece_of(capsule: &Bits, place: u16) -> Bits
     requires { 31 * place ≤ length capsule.now + 62 }
     ensures value { result ≡
@@ -106,7 +106,7 @@ fn piece_of(capsule: &Bits, place: u16) -> Bits
 }
 
 impl Sendings {
-    /// The transmissions of a message, with the first one kept.
+    /// Makes the transmissions of a message, with the capsule of the first one in memory.
     pub fn new(cell: &CellIdentity, message: &SyncFields) -> Sendings
         requires { IsSendable cell.now message.now }
         ensures { result ≡ record { cell = cell.now; message = message.now } }
@@ -122,7 +122,7 @@ impl Sendings {
         }
     }
 
-    /// The capsule of a transmission.
+    /// Returns the capsule of a transmission.
     fn capsule_of(&mut self, sending: u64) -> Bits
         requires { sending < 2 ^ 20 }
         ensures value { result ≡ sync_capsule self.old.cell.check30
@@ -137,7 +137,7 @@ impl Sendings {
         self.capsule
     }
 
-    /// The 32 bits of a frame.
+    /// Returns the 32 bits of a frame.
     pub fn frame_bits(&mut self, frame: u64) -> Bits
         requires { frame < 2 ^ 20 }
         ensures value { result ≡ sync_frame_bits self.old.cell self.old.message frame }

@@ -1,4 +1,4 @@
-//! Where the symbols of a channel's frames come from.
+//! The source of the symbols of a channel's frames.
 
 ghost use Rattle.std.specs.Prelude.{◌≡◌, ◌<◌, ◌*◌, ◌^◌, false, [], ◌∷◌, length};
 ghost use Rattle.cell_samples.specs.Continued.{symbol_count};
@@ -9,7 +9,7 @@ use crate::traffic_cycle::TrafficCycle;
 use cell_plan::{ChannelForm, PAGING_FORM, PILOT_FORM};
 use chip_core::Bits;
 
-/// Where the symbols of a channel's frames come from.
+/// The source of the symbols of a channel's frames.
 #[derive(Drop)]
 pub enum SymbolSource {
     /// The pilot: each symbol is 0 (TIA/EIA-95-B, 7.1.3.2).
@@ -20,7 +20,7 @@ pub enum SymbolSource {
     Traffic(TrafficCycle),
 }
 
-/// The one symbol of each frame of the pilot.
+/// Returns the only symbol of a frame of the pilot.
 fn pilot_symbols() -> Bits
     ensures { result ≡ false ∷ [] }
 {
@@ -41,7 +41,7 @@ impl SymbolSource {
         }
     }
 
-    /// The symbols of a frame that begins within the first 2^34 chips.
+    /// Returns the symbols of a frame that begins within the first 2^34 chips.
     pub fn symbols(&mut self, frame: u64) -> Bits
         requires { frame * (form_of self.old).frame_chips < 2 ^ 34 }
         ensures value { result ≡ source_symbols self.old frame }

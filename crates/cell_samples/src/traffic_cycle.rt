@@ -12,8 +12,8 @@ use chip_core::air::{DATA_FRAME_CHIPS, FRAME_OFFSET_CHIPS};
 use long_code::State;
 use std::marker::Model;
 
-/// The frames of a traffic channel, which a cell sends again and again. Contracts see the cell, the
-/// long code's mask, FRAME_OFFSET, and the frames.
+/// The frames of a traffic channel, which a cell sends repeatedly. Contracts see the cell, the long
+/// code's mask, FRAME_OFFSET, and the frames.
 ///
 /// TIA/EIA-95-B, 7.1.3.5: each frame is encoded by itself, so a frame's symbols don't depend on the
 /// frames before it. Nothing is allocated while symbols are made.
@@ -37,7 +37,8 @@ impl Model for TrafficCycle {
         (record { cell = c.cell; mask = c.mask; offset = c.offset; frames = c.frames }) };
 }
 
-/// The 384 symbols of the frame that is in turn, which begins at a state of the long code.
+/// Returns the 384 symbols of the frame sent as frame `frame`, at whose start the long code is in
+/// `state`.
 fn symbols_in_turn(frames: &[TrafficFrame], frame: u64, state: &State, mask: u64) -> Bits
     requires mask { mask < 2 ^ 42 }
     requires some { 1 ≤ length frames.now }
@@ -51,7 +52,7 @@ fn symbols_in_turn(frames: &[TrafficFrame], frame: u64, state: &State, mask: u64
 }
 
 impl TrafficCycle {
-    /// The frames that a cell sends under a mask of the long code, with a FRAME_OFFSET.
+    /// Makes the cycle of the frames that a cell sends under a long-code mask, with a FRAME_OFFSET.
     pub fn new(
         cell: &CellIdentity,
         mask: u64,
@@ -78,7 +79,7 @@ impl TrafficCycle {
         }
     }
 
-    /// The local chip at which a frame begins.
+    /// Returns the local chip at which a frame begins.
     pub fn first_chip(&self, frame: u64) -> u64
         requires { frame < 2 ^ 20 }
         ensures { result ≡ 24576 * frame + 1536 * self.now.offset }
@@ -86,7 +87,7 @@ impl TrafficCycle {
         DATA_FRAME_CHIPS * frame + FRAME_OFFSET_CHIPS * u64::from(self.offset)
     }
 
-    /// The long code's state at a frame's first chip.
+    /// Returns the long code's state at a frame's first chip.
     fn state_at(&self, frame: u64) -> State
         requires { frame < 2 ^ 20 }
         ensures { result ≡ sent_frame_state self.now frame }
@@ -96,7 +97,7 @@ impl TrafficCycle {
         state
     }
 
-    /// The 384 symbols of a frame as they are sent.
+    /// Returns the 384 symbols of a frame as they are sent.
     #[tactic(auto, unfolding(cell_plan::specs::TrafficFrames::traffic_frame_symbols))]
     pub fn symbols(&self, frame: u64) -> Bits
         requires { frame < 2 ^ 20 }

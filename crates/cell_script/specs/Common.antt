@@ -1,4 +1,4 @@
--- What the definitions of this crate cite of the crates below, and of its own types.
+-- Names that the definitions of this crate use, from other crates and of its own types.
 pub use Rattle.cell_plan.specs.Plan.{IsLawfulPlan, loudness, most_part, sync_gain}
 pub use Rattle.cell_plan.specs.Stated.{IsStatedCell, IsStatedLink}
 pub use Rattle.cell_plan.specs.TrafficFrames.{IsTrafficFrame, information_bits_of, rate_set}

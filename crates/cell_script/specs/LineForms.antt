@@ -1,5 +1,5 @@
--- Lines that state their fields in order: one table of keys and forms of values serves to read and
--- to write a line.
+-- Lines that state their fields in order: one table of keys and value forms defines how a line is
+-- read and how it is written.
 use Rattle.cell_script.specs.Common.{FieldForm}
 use Rattle.std.specs.Prelude.{ℕ, ℤ, ◌≡◌, ◌≤◌, ◌<◌, ◌^◌, Bool, true, if◌then◌else◌, List, [], ◌∷◌}
 use Rattle.std.specs.Prelude.{◌++◌, length, decimal, FitsSigned, Option, None, Some}
@@ -66,12 +66,13 @@ valued key form = record { key = key; form = form }
 abbrev pub formed : List ℕ → FieldForm → StatementRow
 formed key form = valued key (Tabled form)
 
--- a value of each field
+-- one value for each field
 abbrev pub Values : List StatementRow → Type 0
 Values [] = Unit {0}
 Values (row ∷ rows) = ValueOf row.form × Values rows
 
--- the values of fields with which a text begins, the text after them, and the text of such values
+-- the values of the fields at the beginning of a text, the text after them, and the text of fields
+-- with such values
 abbrev pub fields_in : (rows : List StatementRow) → List ℕ → Option (Values rows)
 fields_in [] text = Some tt
 fields_in (row ∷ rows) text = do
@@ -95,8 +96,8 @@ AreIn (row ∷ rows) values = IsIn row.form values.0 × AreIn rows values.1
 
 -- ---- lines
 
--- what a line states: its fields, which values they may have together, what these state, and the
--- values that state it
+-- the form of a line: its fields, which values are lawful together, the content that values state,
+-- and the values that state a content
 pub record LineForm (X : Type 0) : Type 0 where
   pub rows : List StatementRow
   pub lawful : Values rows → Bool
@@ -106,7 +107,7 @@ pub record LineForm (X : Type 0) : Type 0 where
 abbrev pub lawful_line : {X : Type 0} (form : LineForm X) → Values form.rows → Option X
 lawful_line form values = if form.lawful values then Some (form.line values) else None
 
--- what a line of this form says, nothing after its last field, and how it is written
+-- the content of a line of this form, with nothing after its last field, and the text of a content
 abbrev pub read_as : {X : Type 0} → LineForm X → List ℕ → Option X
 read_as form text = do
   values ← fields_in form.rows text
@@ -116,7 +117,7 @@ read_as form text = do
 abbrev pub written_as : {X : Type 0} → LineForm X → X → List ℕ
 written_as form line = fields_text form.rows (form.said line)
 
--- a line of this form can say so
+-- a line of this form can state this content
 pub record IsSaid {X : Type 0} (form : LineForm X) (line : X) : Type 0 where
   pub ranged : AreIn form.rows (form.said line)
   pub lawful : form.lawful (form.said line) ≡ true

@@ -1,4 +1,4 @@
--- Numeric fields, several of which follow one another in a line.
+-- Numeric fields that follow one another in a line.
 use Rattle.std.specs.Prelude.{ℕ, List, [], ◌∷◌, length, map, get_or, ◌<◌, ◌≤◌, ◌^◌, ◌-◌, ◌++◌, ◌+◌}
 use Rattle.std.specs.Prelude.{codes, Option, Some}
 use Rattle.sync_message.specs.Rows.{sync_names, sync_widths}
@@ -13,7 +13,7 @@ pub record NumberRow : Type 0 where
 abbrev pub number_row : List ℕ → ℕ → NumberRow
 number_row key most = record { key = key; most = most }
 
--- what stands before the value of a field of this name
+-- the text before the value of a field with this name
 abbrev pub key_of : List ℕ → List ℕ
 key_of name = codes " " ++ name ++ codes "="
 
@@ -25,12 +25,12 @@ ranged name width = number_row (key_of name) (2 ^ width - 1)
 abbrev pub sync_row : ℕ → NumberRow
 sync_row i = ranged (get_or sync_names i []) (get_or sync_widths i 0)
 
--- four of its fields that stand side by side, from one on
+-- four adjacent fields of that table, from field `first` on
 abbrev pub rows_from : ℕ → List NumberRow
 rows_from first = map sync_row (first ∷ (first + 1) ∷ (first + 2) ∷ (first + 3) ∷ [])
 
--- the fields that a `sync` line always has, by their places in the message's table: of the
--- protocol and the network, and of local time and the paging channel
+-- the fields that a `sync` line always has, by their places in the message's table: those on the
+-- protocol and the network, and those on local time and the paging channel
 abbrev pub network_rows : List NumberRow
 network_rows = rows_from 0
 
@@ -49,7 +49,7 @@ unfoldable pub past_numbers : List NumberRow → List ℕ → List ℕ
 past_numbers [] text = text
 past_numbers (f ∷ fields) text = past_numbers fields (past f.key text)
 
--- numbers of which none is above the greatest of its field
+-- numbers, each at most the greatest of its field
 abbrev pub mosts : List NumberRow → List ℕ
 mosts fields = map (λ (f : NumberRow). f.most) fields
 

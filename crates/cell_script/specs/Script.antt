@@ -16,26 +16,24 @@ abbrev pub onto_first : ℕ → List (List ℕ) → List (List ℕ)
 onto_first byte [] = (byte ∷ []) ∷ []
 onto_first byte (line ∷ lines) = (byte ∷ line) ∷ lines
 
--- the lines of a script, each with its LF; what stands after the last LF is a last line without
--- one
+-- the lines of a script, each with its LF; text after the last LF is a last line without LF
 unfoldable pub lines : List ℕ → List (List ℕ)
 lines [] = []
 lines (byte ∷ bytes) =
     if byte == 10 then (byte ∷ []) ∷ lines bytes else onto_first byte (lines bytes)
 
--- whether a line ends with LF, and has no other
+-- whether a line ends with LF and contains no other LF
 unfoldable pub is_line : List ℕ → Bool
 is_line [] = false
 is_line (byte ∷ bytes) = if byte == 10 then length bytes == 0 else is_line bytes
 
--- the draft after a line; None where the line can't stand next, as one without LF
+-- the draft after a line; None if the line has no LF or cannot come next
 unfoldable pub draft_after : Draft → List ℕ → Option Draft
 draft_after draft line =
     if is_line line then with_line draft (take (length line - 1) line) else None
 
--- The plan that lines state, added to a draft. Otherwise a number, if the first line has number n:
--- that of the first line that can't stand where it stands, or that of the line after the last where
--- one is missing.
+-- The plan that lines state, added to a draft. Otherwise, if the first line is line n, the number
+-- of the first line that is misplaced, or of the line after the last if one is missing there.
 unfoldable pub stated : Draft → ℕ → List (List ℕ) → Result CellPlan ℕ
 stated draft n [] = ok_or (plan_at draft) n
 stated draft n (line ∷ lines) =
@@ -46,7 +44,7 @@ stated_plan script = stated empty_draft 1 (lines script)
 
 -- ---- faults of a plan
 
--- what the line of a channel says for all kinds of channels: the Walsh row, and the gain
+-- what the lines of all kinds of channels state: the Walsh row and the gain
 pub record ChannelLine : Type 0 where
   pub row : ℕ
   pub gain : ℕ
@@ -68,7 +66,7 @@ abbrev pub is_used : ℕ → List ChannelLine → Bool
 is_used row [] = false
 is_used row (l ∷ ls) = if l.row == row then true else is_used row ls
 
--- the first row that one of the channels before has
+-- the row of the first channel that has the row of an earlier one, or of one of `before`
 abbrev pub repeated_after : List ChannelLine → List ChannelLine → Option ℕ
 repeated_after before [] = None
 repeated_after before (l ∷ ls) =
@@ -78,7 +76,7 @@ repeated_after before (l ∷ ls) =
 abbrev pub first_channels : List ChannelLine
 first_channels = channel 0 1 ∷ channel 32 1 ∷ []
 
--- the first row that the pilot, the sync channel, or one of the channels before has
+-- the row of the first channel that has the row of the pilot, the sync channel or an earlier one
 abbrev pub repeated : List ChannelLine → Option ℕ
 repeated ls = repeated_after first_channels ls
 
@@ -107,7 +105,7 @@ abbrev pub long_fault : Width → ℕ → Option ScriptFault
 long_fault width samples =
     if nat_lt (most_samples width) samples then Some (TooLong samples) else None
 
--- the first fault: of the Walsh rows, of the gains, of the loudness, and of the length
+-- the first fault, in the order Walsh rows, gains, loudness, length
 abbrev pub plan_fault : Width → CellPlan → Option ScriptFault
 plan_fault width plan =
     option_or (walsh_fault (repeated (channel_lines plan)))

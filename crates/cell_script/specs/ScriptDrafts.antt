@@ -1,4 +1,4 @@
--- The plan that the statements of a script make, one after another.
+-- The plan that the statements of a script build up, one after another.
 use Rattle.cell_script.specs.Common.{Plain, CellPlan, Page, PagingPlan, TrafficPlan, TrafficLine}
 use Rattle.cell_script.specs.Common.{TrafficFrame, Statement}
 use Rattle.std.specs.Prelude.{ℕ, if◌then◌else◌, List, [], ◌∷◌, ◌++◌, pos, option_map, Option, None}
@@ -10,7 +10,7 @@ use Rattle.cell_script.specs.ScriptLines.{statement_in}
 use Rattle.cell_script.specs.ScriptStages.{is_complete, next_stage}
 use Rattle.cell_script.specs.declared.statements.Statement.TheVariants as statements
 
--- what stands for the parts of a plan that weren't stated yet
+-- the defaults of the parts of a plan that are not stated yet
 abbrev pub empty_plan : CellPlan
 empty_plan = record {
   cell = record { pn = 0; time = 0; lc = 1; check30 = Plain; check16 = Plain };
@@ -25,13 +25,13 @@ empty_plan = record {
 abbrev pub opened_paging : PagingLine → PagingPlan
 opened_paging line = record { number = line.number; gain = line.gain; pages = [] }
 
--- what becomes of a list whose last entry changes
+-- a list with its last entry changed
 abbrev pub on_last : {A : Type 0} → (A → A) → List A → List A
 on_last change [] = []
 on_last change (x ∷ []) = change x ∷ []
 on_last change (x ∷ (y ∷ xs)) = x ∷ on_last change (y ∷ xs)
 
--- one page more for the last of the channels
+-- a channel with another page, and channels with another page in the last
 abbrev pub one_page_more : Page → PagingPlan → PagingPlan
 one_page_more page p = record p { pages = p.pages ++ page ∷ [] }
 
@@ -48,14 +48,14 @@ opened_traffic line = record {
   frames = [];
 }
 
--- one frame more for the last of the traffic channels
+-- a traffic channel with another frame, and channels with another frame in the last
 abbrev pub one_frame_more : TrafficFrame → TrafficPlan → TrafficPlan
 one_frame_more frame t = record t { frames = t.frames ++ frame ∷ [] }
 
 abbrev pub with_frame : List TrafficPlan → TrafficFrame → List TrafficPlan
 with_frame traffic frame = on_last (one_frame_more frame) traffic
 
--- what a statement makes of a plan
+-- the plan after a statement
 abbrev pub with_statement : CellPlan → Statement → CellPlan
 with_statement plan (statements.Cell cell) = record plan { cell = cell }
 with_statement plan (statements.Link link) = record plan { link = link }
@@ -69,7 +69,7 @@ with_statement plan (statements.Traffic line) =
 with_statement plan (statements.Frame frame) =
     record plan { traffic = with_frame plan.traffic frame }
 
--- what the lines of a script have stated, and what may stand next
+-- what the lines of a script have stated so far, and what may come next
 pub record Draft : Type 0 where
   pub stage : Stage
   pub plan : CellPlan
@@ -80,7 +80,7 @@ empty_draft = record { stage = Cell; plan = empty_plan }
 abbrev pub draft_at : CellPlan → Stage → Draft
 draft_at plan stage = record { stage = stage; plan = plan }
 
--- the draft after a statement; None where it can't stand next
+-- the draft after a statement; None if the statement cannot come next
 unfoldable pub with_next : Draft → Statement → Option Draft
 with_next draft statement =
     option_map (draft_at (with_statement draft.plan statement)) (next_stage draft.stage statement)
@@ -89,6 +89,6 @@ with_next draft statement =
 unfoldable pub with_line : Draft → List ℕ → Option Draft
 with_line draft text = option_and_then (with_next draft) (statement_in text)
 
--- the plan, where no line is missing
+-- the plan, if no line is missing
 abbrev pub plan_at : Draft → Option CellPlan
 plan_at draft = if is_complete draft.stage then Some draft.plan else None

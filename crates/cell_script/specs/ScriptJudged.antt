@@ -14,7 +14,7 @@ abbrev pub gains_of : List ChannelLine → ℕ
 gains_of [] = 0
 gains_of (l ∷ ls) = l.gain + gains_of ls
 
--- the rows of these lines, of the pilot, and of the sync channel
+-- what is known of the channels with these lines, and of the rows of the pilot and the sync channel
 pub record HasSeen (rows : ChannelRows) (ls : List ChannelLine) : Type 0 where
   pub long : length rows.used ≡ 64
   pub used : (k : ℕ) → k < 64 → get_or rows.used k false ≡ is_used k (first_channels ++ ls)
@@ -29,8 +29,8 @@ pub record HasJudged (judge : Judge) (plan : CellPlan) : Type 0 where
   pub sync : judge.sync ≡ plan.sync
   pub channels : HasSeen judge.channels (channel_lines plan)
 
--- a statement whose channel stands after those of a plan: no paging channel stands after a
--- traffic channel
+-- a statement whose channel comes after those of a plan: no paging channel comes after a traffic
+-- channel
 abbrev pub IsInOrder : CellPlan → Statement → Type 0
 IsInOrder plan (statements.Cell cell) = Unit {0}
 IsInOrder plan (statements.Link link) = Unit {0}
@@ -41,7 +41,7 @@ IsInOrder plan (statements.Page page) = Unit {0}
 IsInOrder plan (statements.Traffic line) = Unit {0}
 IsInOrder plan (statements.Frame frame) = Unit {0}
 
--- a judge that read a whole script
+-- a judge that has read a whole script
 pub record IsJudged (script : List ℕ) (judge : Judge) : Type 0 where
   pub plan : CellPlan
   pub stated : stated_plan script ≡ Ok plan

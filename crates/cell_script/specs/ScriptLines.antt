@@ -20,7 +20,7 @@ use Rattle.cell_script.specs.declared.tables.FieldForm.TheVariants as forms
 
 -- ---- statements
 
--- the form of checks: complemented where the bit is 1
+-- the form of checks: complemented if the bit is 1
 abbrev pub check_form : ℕ → CheckForm
 check_form bit = if bit == 1 then Complemented else Plain
 
@@ -59,7 +59,7 @@ cell_statement = record {
 unfoldable pub cell_in : List ℕ → Option CellIdentity
 cell_in = read_as cell_statement
 
--- `link re=A im=B start=S samples=N`: A and B aren't both 0, and neither is N
+-- `link re=A im=B start=S samples=N`: A and B are not both 0, and N is not 0
 abbrev pub is_link : ℤ → ℤ → ℕ → Bool
 is_link re im samples = nat_lt 0 (unsigned_abs re + unsigned_abs im) && nat_lt 0 samples
 
@@ -97,7 +97,7 @@ pilot_in = read_as pilot_statement
 
 -- `sync gain=G prev=.. min=.. sid=.. nid=.. lp=.. ltm=.. daylt=.. prat=.. [freq=..] rest=BITS`
 
--- the frequency may be left out
+-- the frequency is optional
 abbrev pub freq_number : NumberRow
 freq_number = ranged freq_row.name freq_row.width
 
@@ -110,7 +110,7 @@ freq_in text =
 unfoldable pub past_freq : List ℕ → List ℕ
 past_freq text = if begins_with text freq_number.key then past freq_number.key text else text
 
--- the message has 3 bits of rest without a frequency, and 0 to 976 in steps of 8 with one
+-- without a frequency, the message has 3 bits of rest; with one, 0 to 976 in steps of 8
 abbrev pub has_lawful_rest : Option ℕ → List Bool → Bool
 has_lawful_rest None rest = length rest == 3
 has_lawful_rest (Some freq) rest = if length rest % 8 == 0 then nat_le (length rest) 976 else false
@@ -121,7 +121,7 @@ lawful_message message = if has_lawful_rest message.freq message.rest then Some 
 abbrev pub gain_row : StatementRow
 gain_row = formed (codes "sync gain=") (forms.UpTo 65535)
 
--- what they say; its message has zeros for PILOT_PN, SYS_TIME and LC_STATE
+-- the message's fields, with zeros for PILOT_PN, SYS_TIME and LC_STATE
 abbrev pub sync_fields : List ℕ → List ℕ → Option ℕ → List Bool → SyncFields
 sync_fields network local freq rest = record {
   prev = get_or network 0 0;
@@ -139,7 +139,7 @@ sync_fields network local freq rest = record {
   rest = rest;
 }
 
--- what the line says by its gain, its numbers and the text after them
+-- the content of the line, from its gain, its numbers and the text after them
 unfoldable pub sync_after : ℕ → List ℕ → List ℕ → List ℕ → Option SyncPlan
 sync_after gain network local text0 =
     let text1 = past_freq text0 in
@@ -177,7 +177,7 @@ paging_in = read_as paging_statement
 
 -- `page half BITS` or `page next BITS`: the bits are the body of a paging message
 
--- what stands before the bits
+-- the text before the bits
 abbrev pub page_key : Bool → List ℕ
 page_key follows = if follows then codes "page next " else codes "page half "
 
@@ -209,10 +209,10 @@ traffic_statement = record {
 unfoldable pub traffic_in : List ℕ → Option TrafficLine
 traffic_in = read_as traffic_statement
 
--- `frame RATE BITS COMMANDS`, and `frame2 RATE BITS COMMANDS` at a rate of rate set 2: as many bits
--- as a frame of the rate has
+-- `frame RATE BITS COMMANDS`, or `frame2 RATE BITS COMMANDS` for a rate of rate set 2: BITS has the
+-- rate's number of information bits
 
--- what stands before the bits
+-- the text before the bits
 abbrev pub frame_key : FrameRate → List ℕ
 frame_key (SetOne R9600) = codes "frame 9600 "
 frame_key (SetOne R4800) = codes "frame 4800 "
@@ -237,7 +237,7 @@ frame_rates =
 abbrev pub frame_rate : List ℕ → Option FrameRate
 frame_rate = rate_by frame_rates
 
--- a frame has as many information bits as its rate
+-- a frame has the number of information bits of its rate
 abbrev pub frame_statement : FrameRate → LineForm TrafficFrame
 frame_statement rate = record {
   rows = valued (frame_key rate) BitList ∷ valued (codes " ") SixteenDigits ∷ [];

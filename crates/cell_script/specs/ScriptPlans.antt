@@ -1,4 +1,4 @@
--- The content of a statement, within its bounds.
+-- The bounds of the content of a statement.
 use Rattle.cell_script.specs.Common.{IsStatedCell, IsStatedLink, IsTrafficFrame, Statement}
 use Rattle.std.specs.Prelude.{◌≤◌, ◌<◌}
 use Rattle.chip_core.specs.Complex.{norm}
@@ -8,7 +8,7 @@ use Rattle.quality_bits.specs.Capsules.{FillsCapsule}
 use Rattle.quality_bits.specs.declared.kind.Kind.TheVariants.{M30}
 use Rattle.cell_script.specs.declared.statements.Statement.TheVariants as statements
 
--- a channel's Walsh row is one
+-- the row of a channel is a Walsh row
 abbrev pub HasRow : Statement → Type 0
 HasRow (statements.Cell cell) = Unit {0}
 HasRow (statements.Link link) = Unit {0}
@@ -19,7 +19,7 @@ HasRow (statements.Page page) = Unit {0}
 HasRow (statements.Traffic line) = line.row < 64
 HasRow (statements.Frame frame) = Unit {0}
 
--- what a statement says is within its bounds
+-- the content of a statement is within its bounds
 abbrev pub IsLawfulStatement : Statement → Type 0
 IsLawfulStatement (statements.Cell cell) = IsStatedCell cell
 IsLawfulStatement (statements.Link link) = IsStatedLink link × (0 < norm link.factor)

@@ -4,7 +4,7 @@ use Rattle.std.specs.Prelude.{ℕ, nat_lt, if◌then◌else◌, List, length, ta
 use Rattle.cell_script.specs.ScriptLines.{statement_in}
 use Rattle.line_text.specs.StatedValues.{length_before}
 
--- what the first line of a text states; None where it has no LF
+-- what the first line of a text states; None if it has no LF
 unfoldable pub first_stated : List ℕ → Option Statement
 first_stated text =
     if nat_lt (length_before 10 text) (length text)

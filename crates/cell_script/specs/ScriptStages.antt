@@ -15,18 +15,18 @@ use Rattle.cell_script.specs.declared.statements.Statement.TheVariants as statem
 
 -- ---- pages (TIA/EIA-95-B, 7.7.2.1)
 
--- the body bits of a cycle after one more page, whose capsule has 8 bits of length and a check of
--- 30 bits
+-- the number of body bits of a cycle after another page, whose capsule has 8 bits of length and a
+-- check of 30 bits
 abbrev pub count_after : Rate → ℕ → Page → ℕ
 count_after rate count page =
     laid_after (half_frame_body rate) count page.follows (38 + length page.body)
 
--- A capsule follows another one at once where 8 body bits of the half-frame are left.
+-- A capsule may follow another one at once if at least 8 body bits of the half-frame are left.
 abbrev pub may_follow : Rate → ℕ → Bool → Bool
 may_follow rate count follows =
     if follows then nat_le 8 (bits_left (half_frame_body rate) count) else true
 
--- whether a cycle of n body bits isn't too long
+-- whether a cycle of `count` body bits is not too long
 abbrev pub is_cycle : Rate → ℕ → Bool
 is_cycle rate count = nat_le (half_frame_bits (half_frame_body rate) count) 8192
 
@@ -49,7 +49,7 @@ abbrev pub after_pilot : Stage → Option Stage
 after_pilot Pilot = Some Sync
 after_pilot _ = None
 
--- traffic channels, and before them paging channels of 9600 or 4800 bits per second, as PRAT says
+-- traffic channels, preceded by paging channels if PRAT is 0 or 1: 9600 or 4800 bits per second
 -- (7.7.1.3)
 abbrev pub stage_after_sync : SyncPlan → Stage
 stage_after_sync sync =
@@ -88,7 +88,7 @@ after_frame FirstFrame rate = Some (Frames (rate_set rate))
 after_frame (Frames set) rate = frames_stage set rate
 after_frame _ rate = None
 
--- what may stand after a statement; None where it can't stand
+-- what may come after a statement; None if the statement is misplaced
 abbrev pub next_stage : Stage → Statement → Option Stage
 next_stage stage (statements.Cell cell) = after_cell stage
 next_stage stage (statements.Link link) = after_link stage

@@ -29,13 +29,13 @@ script link =
     "link " ++ link ++ 10 ∷ codes "pilot gain=100" ++ 10
     ∷ codes "sync gain=30 prev=3 min=1 sid=1 nid=2 lp=13 ltm=0 daylt=0 prat=0 rest=3:00" ++ 10 ∷ []
 
--- one with a paging channel
+-- such a script with a paging channel
 paging_script : List ℕ → List ℕ
 paging_script link =
     script link ++ codes "paging channel=1 gain=60" ++ 10 ∷ codes "page half 34:04ff8046c0" ++ 10
     ∷ []
 
--- one with a traffic channel of rate set 2, and these lines after its frame
+-- a script with a traffic channel of rate set 2, and these lines after its frame
 traffic_script : List ℕ → List ℕ
 traffic_script following =
     script (codes "re=0 im=-3 start=0 samples=1228800")
@@ -52,7 +52,7 @@ plan paging = record {
   traffic = [];
 }
 
--- type 4, and then 26 bits
+-- message type 4, then 26 bits
 page : Page
 page = record { follows = false; body = binary 34 (0x04ff8046c0 / 64) }
 
@@ -76,7 +76,7 @@ empty : plan_named Sixteen [] ≡ Err (Line 1)
 unfolding plan_named stated_plan stated lines
 empty = refl
 
--- scripts with these links: the last three have a line that isn't one
+-- scripts with these links: the last three have an invalid `link` line
 by_link : map (λ link. plan_named Sixteen (script link))
     (codes "re=0 im=-3 start=0 samples=1228800"
     ∷ codes "re=32767 im=-3 start=0 samples=1228800"
@@ -105,7 +105,7 @@ unfolding paging_script script plan paging_plan page plan_named stated_plan stat
     is_body admits page_stage bits_left fill
 paged = refl
 
--- a frame of rate set 2 alone, and with one of rate set 1 after it
+-- only a frame of rate set 2, and that frame with one of rate set 1 after it
 of_rate_set_two : map (λ following. plan_named Sixteen (traffic_script following))
     ([] ∷ (codes "frame 1200 16:ffff 0101010101010101" ++ 10 ∷ []) ∷ [])
     ≡ Ok (record (plan []) { traffic = traffic_plan ∷ [] }) ∷ Err (Line 7) ∷ []

@@ -17,21 +17,21 @@ use Rattle.cell_script.specs.declared.tables.FieldForm.TheVariants as forms
 
 -- ---- fields
 
--- the text of a value that has no sign, by the form of its field
+-- the text of an unsigned value in the form of its field
 abbrev pub value_text : FieldForm → ℕ → List ℕ
 value_text (forms.UpTo most) n = decimal n
 value_text forms.Signed n = decimal n
 value_text forms.State n = state_digits n
 value_text forms.SerialNumber n = serial_digits n
 
--- a value that is no serial number, or one of 32 bits
+-- a value that is not a serial number, or a serial number of 32 bits
 abbrev pub HasDigits : FieldForm → ℕ → Type 0
 HasDigits (forms.UpTo most) n = Unit {0}
 HasDigits forms.Signed n = Unit {0}
 HasDigits forms.State n = Unit {0}
 HasDigits forms.SerialNumber n = n < 2 ^ 32
 
--- fields of a message, whose values are numbers: each key, and after it its value
+-- numeric fields of a message: each key, followed by its value
 abbrev pub numbers_text : List NumberRow → List ℕ → List ℕ
 numbers_text [] numbers = []
 numbers_text (f ∷ fields) [] = []
@@ -129,7 +129,7 @@ abbrev pub sync_statements : Option SyncPlan → List Statement
 sync_statements None = []
 sync_statements (Some sync) = statements.Sync sync ∷ []
 
--- the statements of the channels but the pilot
+-- the statements of the channels other than the pilot
 abbrev pub channel_statements : CellPlan → List Statement
 channel_statements plan =
     sync_statements plan.sync

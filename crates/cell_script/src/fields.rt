@@ -33,7 +33,7 @@ impl<'a> Model for Fields<'a> {
 }
 
 impl<'a> Fields<'a> {
-    /// The fields of this text.
+    /// Makes a reader of the fields of this text.
     pub(crate) fn new(text: &'a [u8]) -> Fields<'a>
         ensures { result ≡ text.now }
     {
@@ -47,7 +47,7 @@ impl<'a> Fields<'a> {
         self.text.is_empty()
     }
 
-    /// The text of the value after this key.
+    /// Reads this key and returns the text of the value after it.
     #[tactic(auto, unfolding(crate::specs::ScriptFields::past))]
     fn value(&mut self, key: &[u8]) -> Option<&'a [u8]>
         ensures value { MatchOption result (begins_with self.old key.now ≡ false)
@@ -59,7 +59,7 @@ impl<'a> Fields<'a> {
         Some(self.value_from(text))
     }
 
-    /// The value with which a text begins, from which the fields go on.
+    /// Returns the value at the beginning of `text`; the remaining text begins after it.
     fn value_from(&mut self, text: &'a [u8]) -> &'a [u8]
         ensures value { result.now ≡ take (length_before 32 text.now) text.now }
         ensures rest { self.new ≡ drop (length_before 32 text.now) text.now }
@@ -69,7 +69,7 @@ impl<'a> Fields<'a> {
         &text[..end]
     }
 
-    /// Whether the next field is this one of a message.
+    /// Whether the next field is this field of a message.
     pub(crate) fn begin_with(&self, row: FieldRow) -> bool
         ensures { result ≡ begins_with self.now (key_of row.entry.0.now) }
     {
@@ -89,7 +89,7 @@ impl<'a> Fields<'a> {
         number_up_to(self.value_from(text), (1 << row.1) - 1)
     }
 
-    /// The number of the field at this place of the sync message's table.
+    /// Reads the number of the field at this place of the sync message's table.
     pub(crate) fn sync_number(&mut self, place: usize) -> Option<u64>
         requires { place < 11 }
         ensures value { result ≡ script_field (sync_row place).key
@@ -120,7 +120,7 @@ impl<'a> Fields<'a> {
         signed_of(row.form, self.value(row.key)?)
     }
 
-    /// A list of bits.
+    /// Reads a list of bits.
     #[tactic(auto, unfolding(crate::specs::ScriptFields::script_field))]
     pub(crate) fn bits(&mut self, key: &[u8]) -> Option<Bits>
         ensures value { result ≡ script_field key.now bits_in_text self.old }
@@ -129,7 +129,7 @@ impl<'a> Fields<'a> {
         bits_in(self.value(key)?)
     }
 
-    /// The power control bits of a frame.
+    /// Reads the power control bits of a frame.
     #[tactic(auto, unfolding(crate::specs::ScriptFields::script_field))]
     pub(crate) fn power_bits(&mut self, key: &[u8]) -> Option<PowerBits>
         ensures value { result ≡ script_field key.now power_bits_in self.old }
@@ -172,7 +172,7 @@ fn after_name<'a>(text: &'a [u8], name: &str) -> Option<&'a [u8]>
     text.strip_prefix(b"=")
 }
 
-/// The value that a text spells in a form that has no sign; `None` in one that has.
+/// Returns the value that a text spells in an unsigned form; `None` for a signed form.
 fn unsigned_of(form: FieldForm, text: &[u8]) -> Option<u64>
     ensures value { result ≡ unsigned_of form text.now }
     ensures range { IfSome result (IsOfForm form) }
@@ -185,7 +185,7 @@ fn unsigned_of(form: FieldForm, text: &[u8]) -> Option<u64>
     }
 }
 
-/// The value that a text spells in a form that has a sign; `None` in one that has none.
+/// Returns the value that a text spells in a signed form; `None` for an unsigned form.
 fn signed_of(form: FieldForm, text: &[u8]) -> Option<i64>
     ensures value { result ≡ signed_of form text.now }
     ensures range { IfSome result (λ n. unsigned_abs n ≤ 32768) }

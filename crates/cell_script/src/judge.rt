@@ -1,5 +1,5 @@
-//! What is known of the plan of a script while its lines are read: in memory of a fixed size, what
-//! its faults need.
+//! What is known of a script's plan while its lines are read: what its faults depend on, in memory
+//! of a fixed size.
 
 ghost use Rattle.cell_script.specs.Common.{CellPlan as ThePlan, most_part, sync_gain, IsStatedLink};
 ghost use Rattle.std.specs.Prelude.{◌≡◌, ◌≢◌, ◌<◌, ◌≤◌, ◌+◌, ◌∷◌, ◌++◌, ◌^◌, [], List, Some, None};
@@ -20,8 +20,8 @@ use cell_plan::{LinkPlan, PilotPlan, SyncPlan};
 use chip_core::Pair;
 use chip_core::air::{PILOT_ROW, SYNC_ROW};
 
-/// What is known of the plan that the statements so far make. A part that is not stated yet is that
-/// of the smallest cell: a link of 1, one sample, a pilot of gain 1.
+/// What is known of the plan after the statements so far. Parts that are not stated yet have
+/// defaults: a link of 1, one sample, a pilot of gain 1.
 #[derive(Clone, Copy)]
 pub(crate) struct Judge {
     link: LinkPlan,
@@ -33,9 +33,9 @@ pub(crate) struct Judge {
 /// The Walsh rows and the gains of the paging and traffic channels so far.
 #[derive(Clone, Copy)]
 pub(crate) struct ChannelRows {
-    // Whether a channel has the row, the pilot and the sync channel among them.
+    // Whether a channel, the pilot and the sync channel included, has the row.
     used: [bool; 64],
-    // The row of the first channel whose row one before it has.
+    // The row of the first channel that has the row of an earlier one.
     repeated: Option<u8>,
     // The row of the first channel whose gain is 0.
     silent: Option<u8>,
@@ -43,8 +43,8 @@ pub(crate) struct ChannelRows {
     gains: u64,
 }
 
-/// The first row of which something is so: the one found before, otherwise this one if it is such a
-/// row.
+/// Returns the first row that satisfies a condition: the one found before, otherwise `row` if it
+/// satisfies the condition.
 fn first_row(before: Option<u8>, is: bool, row: u8) -> Option<u8>
     ensures { result ≡ option_or before (if is then Some row else None) }
 {
@@ -56,7 +56,7 @@ fn first_row(before: Option<u8>, is: bool, row: u8) -> Option<u8>
 }
 
 impl ChannelRows {
-    /// The pilot's row and the sync channel's alone.
+    /// Returns only the rows of the pilot and the sync channel.
     fn none() -> ChannelRows
         ensures seen { HasSeen result [] }
         ensures gains { result.gains ≡ 0 }
@@ -74,7 +74,7 @@ impl ChannelRows {
         }
     }
 
-    /// These channels and one more.
+    /// Returns these channels and another one.
     fn with(mut self, row: u8, gain: u16) -> ChannelRows
         requires row { row < 64 }
         requires room { self.gains < 2 ^ 40 }
@@ -92,7 +92,7 @@ impl ChannelRows {
 }
 
 impl Judge {
-    /// Before the first statement.
+    /// Returns what is known before the first statement.
     pub(crate) fn new() -> Judge
         ensures judged { HasJudged result empty_plan }
         ensures gains { result.channels.gains ≡ 0 }
@@ -109,7 +109,7 @@ impl Judge {
         }
     }
 
-    /// After one more statement.
+    /// Returns what is known after another statement.
     pub(crate) fn with(self, statement: &Statement) -> Judge
         requires row { HasRow statement.now }
         requires room { self.channels.gains < 2 ^ 40 }
@@ -144,7 +144,7 @@ impl Judge {
         }
     }
 
-    /// The first fault of the plan.
+    /// Returns the first fault of the plan.
     pub(crate) fn fault(&self, width: Width) -> Option<ScriptFault>
         requires link { IsStatedLink self.now.link }
         requires few { self.now.channels.gains < 2 ^ 40 }
@@ -183,8 +183,8 @@ impl Judge {
         }
     }
 
-    /// A bound on the parts of the samples: the sum of the absolute values of the link's parts,
-    /// times the sum of the gains.
+    /// Returns a bound on the parts of the samples: the sum of the absolute values of the link's
+    /// parts, times the sum of the gains.
     fn loudness(&self) -> u64
         requires link { IsStatedLink self.now.link }
         requires few { self.now.channels.gains < 2 ^ 40 }
@@ -197,7 +197,7 @@ impl Judge {
     }
 }
 
-/// The gain of the sync channel, if there is one.
+/// Returns the gain of the sync channel, or 0 if the plan has none.
 fn sync_gain(sync: Option<SyncPlan>) -> u16
     ensures { result ≡ sync_gain sync }
 {

@@ -49,8 +49,8 @@ pub fn plan_of(alloc: Global, script: &[u8], width: Width) -> Result<CellPlan, S
     }
 }
 
-/// Returns what the checks need of the plan that a script states, or the number of the first line
-/// that is misplaced or missing.
+/// Returns what the checks need to know of the plan that a script states, or the number of the
+/// first line that is misplaced or missing.
 fn judged(script: &[u8]) -> Result<Judge, u32>
     requires { length script.now ≤ 1048576 }
     ensures judged { IfOk result (IsJudged script.now) }

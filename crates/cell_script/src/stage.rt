@@ -13,14 +13,15 @@ use symbol_path::Rate;
 /// The largest number of bits of a cycle up to the end of its last capsule, including SCI bits.
 const MOST_CYCLE_BITS: u32 = 8192;
 
-/// How many bits a capsule has besides its body: its length and its check (TIA/EIA-95-B, 7.7.2).
+/// The number of bits that a capsule has besides its body: those of its length and its check
+/// (TIA/EIA-95-B, 7.7.2).
 const CAPSULE_BITS: u32 = 38;
 
 /// How many body bits of a half-frame must be left for a capsule to follow another at once
 /// (TIA/EIA-95-B, 7.7.2.1).
 const LEAST_LEFT: u32 = 8;
 
-/// Which statement may come next.
+/// The kind of statement that may come next.
 #[derive(Clone, Copy)]
 pub enum Stage {
     /// `cell`, the first one.
@@ -29,24 +30,24 @@ pub enum Stage {
     Link,
     /// `pilot`.
     Pilot,
-    /// `sync`, or none.
+    /// `sync`, or the end of the script.
     Sync,
-    /// `paging`, `traffic`, or none. Paging channels have this rate.
+    /// `paging`, `traffic`, or the end. Paging channels have this rate.
     Paging(Rate),
     /// `page`, the first one of a channel with this rate.
     FirstPage(Rate),
-    /// `page`, `paging`, `traffic`, or none.
+    /// `page`, `paging`, `traffic`, or the end.
     Pages {
         /// The rate of paging channels.
         rate: Rate,
-        /// How many body bits the pages of the channel fill so far.
+        /// The number of body bits that the pages of the channel fill so far.
         count: u16,
     },
-    /// `traffic`, or none.
+    /// `traffic`, or the end.
     Traffic,
     /// `frame` or `frame2`, the first one of a channel.
     FirstFrame,
-    /// `frame` or `frame2` by this rate set, `traffic`, or none.
+    /// `frame` for rate set 1 or `frame2` for rate set 2, `traffic`, or the end.
     Frames(RateSet),
 }
 
@@ -128,8 +129,8 @@ fn stage_after_page(rate: Rate, count: u16, page: &Page) -> Option<Stage>
     })
 }
 
-/// Returns the stage after a `sync` line: traffic channels, preceded by paging channels if its
-/// message gives them 9600 or 4800 bits per second (TIA/EIA-95-B, 7.7.1.3).
+/// Returns the stage after a `sync` line: traffic channels, preceded by paging channels if the rate
+/// in its message is 9600 or 4800 bits per second (TIA/EIA-95-B, 7.7.1.3).
 fn stage_after_sync(sync: &SyncPlan) -> Stage
     ensures { result ≡ stage_after_sync sync.now }
 {

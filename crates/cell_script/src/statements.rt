@@ -28,7 +28,7 @@ use paging_message::PagingMessage;
 use symbol_path::{Rate, Rate2};
 use sync_message::{FREQ_FIELD, SyncFields, SyncMessage};
 
-/// The rates of frames, which their lines begin with.
+/// The rates that a `frame` or `frame2` line can begin with.
 const FRAME_RATES: [FrameRate; 8] = [
     FrameRate::SetOne(Rate::R9600),
     FrameRate::SetOne(Rate::R4800),
@@ -43,9 +43,9 @@ const FRAME_RATES: [FrameRate; 8] = [
 /// The content of a line of a script.
 #[derive(Clone, Copy)]
 pub enum Statement {
-    /// Which cell it is.
+    /// The identity of the cell.
     Cell(CellIdentity),
-    /// The link to it.
+    /// The link to the cell.
     Link(LinkPlan),
     /// Its pilot channel.
     Pilot(PilotPlan),
@@ -83,7 +83,7 @@ pub struct TrafficLine {
     pub gain: u16,
 }
 
-/// Returns the statement on a line, given without its LF and independent of the lines before it.
+/// Returns the statement on the line `text`, without its LF; the lines before it do not matter.
 #[tactic(auto, unfolding(crate::specs::ScriptLines::statement_in))]
 pub fn statement_in(text: &[u8]) -> Option<Statement>
     ensures value { result ≡ statement_in text.now }
@@ -176,7 +176,7 @@ fn link_in(text: &[u8]) -> Option<LinkPlan>
     })
 }
 
-/// Whether there is a link: its factor isn't 0, and neither is its number of samples.
+/// Whether these are the numbers of a link: neither the factor nor the number of samples is 0.
 fn is_link(re: i64, im: i64, samples: u64) -> bool
     requires in_phase { unsigned_abs re ≤ 32768 }
     requires quadrature { unsigned_abs im ≤ 32768 }
@@ -211,7 +211,7 @@ fn sync_in(text: &[u8]) -> Option<SyncPlan>
 /// Four numbers of a `sync` line that are adjacent in the message's table, in its order.
 type TableNumbers = [u64; 4];
 
-/// Returns four numbers of a `sync` line, from this place of the message's table.
+/// Returns four numbers of a `sync` line: fields `first` to `first + 3` of the message's table.
 #[tactic(auto, unfolding(crate::specs::Rows::numbers_in, crate::specs::Rows::past_numbers))]
 fn numbers_from(fields: &mut Fields<'_>, first: usize) -> Option<TableNumbers>
     requires { first ≤ 7 }
@@ -324,7 +324,7 @@ fn page_in(text: &[u8]) -> Option<Page>
     page_with(begins_with(text, b"page next "), Fields::new(text))
 }
 
-/// Reads a `page` line whose capsule follows the previous one at once, or does not.
+/// Reads a `page` line; `follows` says whether its capsule follows the previous one at once.
 fn page_with(follows: bool, mut fields: Fields<'_>) -> Option<Page>
     ensures { result ≡ read_as (page_statement follows) fields.entry }
 {
@@ -379,14 +379,14 @@ fn frame_in(text: &[u8]) -> Option<TrafficFrame>
     frame_with(frame_rate(text)?, Fields::new(text))
 }
 
-/// The rate that a `frame` or `frame2` line begins with.
+/// Returns the rate that a `frame` or `frame2` line begins with.
 fn frame_rate(text: &[u8]) -> Option<FrameRate>
     ensures { result ≡ frame_rate text.now }
 {
     first_rate(&FRAME_RATES, text)
 }
 
-/// Returns the first of some rates whose lines begin like this one.
+/// Returns the first of `rates` whose key the line `text` begins with.
 fn first_rate(rates: &[FrameRate], text: &[u8]) -> Option<FrameRate>
     ensures { result ≡ rate_by rates.now text.now }
 {

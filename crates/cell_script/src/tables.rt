@@ -1,9 +1,9 @@
-//! The fields of statements, used by both the reader and its definition.
+//! The fields of statements, used by both the reader and the writer.
 
 /// The notation and the range of a field's value.
 #[derive(Clone, Copy)]
 pub enum FieldForm {
-    /// A number of at most this.
+    /// A number without a sign, at most this.
     UpTo(u64),
     /// A number with a sign, from -32,768 to 32,767.
     Signed,
@@ -18,7 +18,7 @@ pub enum FieldForm {
 pub struct StatementField {
     /// The text before the value: ` name=`, preceded by the statement's word for the first field.
     pub key: &'static [u8],
-    /// How the value is written.
+    /// The form of the value.
     pub form: FieldForm,
 }
 
@@ -65,7 +65,7 @@ pub const TRAFFIC_FIELDS: [StatementField; 4] = statement_fields![
     (b" gain=", FieldForm::UpTo(65_535)),
 ];
 
-/// The gain of a `sync` line, with which it begins.
+/// The gain field, with which a `sync` line begins.
 pub const SYNC_GAIN: StatementField = StatementField {
     key: b"sync gain=",
     form: FieldForm::UpTo(65_535),

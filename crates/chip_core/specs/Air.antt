@@ -2,16 +2,15 @@
 -- share.
 use Rattle.std.specs.Prelude.{ℕ, ◌≤◌}
 
--- how many chips a superframe of 80 ms has (TIA/EIA-95-B, 7.7.1.2)
+-- the number of chips in a superframe of 80 ms (TIA/EIA-95-B, 7.7.1.2)
 abbrev pub superframe_chips : ℕ
 superframe_chips = 98304
 
--- how many chips a frame of 20 ms has, on a paging or traffic channel (7.1.3.4, 7.1.3.5)
+-- the number of chips in a 20 ms frame of a paging or traffic channel (7.1.3.4, 7.1.3.5)
 abbrev pub data_frame_chips : ℕ
 data_frame_chips = 24576
 
--- how many chips the frames of a traffic channel begin later for each step of its FRAME_OFFSET
--- (7.1.3.5.1)
+-- the delay of a traffic channel's frames for each step of its FRAME_OFFSET, in chips (7.1.3.5.1)
 abbrev pub frame_offset_chips : ℕ
 frame_offset_chips = 1536
 
@@ -19,6 +18,6 @@ frame_offset_chips = 1536
 abbrev pub half_window_chips : ℕ
 half_window_chips = 226
 
--- how many codewords a list may have
+-- the lawful numbers of codewords in a list
 abbrev pub IsListLength : ℕ → Type 0
 IsListLength k = (1 ≤ k) × (k ≤ 16)

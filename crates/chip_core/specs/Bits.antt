@@ -11,7 +11,7 @@ digit b = cond b 1 0
 abbrev pub xor : Bool → Bool → Bool
 xor a b = cond a (not b) b
 
--- the sum modulo 2 of all
+-- the sum modulo 2 of all bits
 abbrev pub parity : List Bool → Bool
 parity [] = false
 parity (b ∷ bs) = xor b (parity bs)
@@ -36,7 +36,7 @@ unfoldable pub binary : ℕ → ℕ → List Bool
 binary zero n = []
 binary (suc width) n = binary width (n / 2) ++ (n % 2 == 1) ∷ []
 
--- place by place, as long as the shorter list
+-- `f` applied place by place, as long as the shorter list
 abbrev pub zip_with : {A B C : Type 0} → (A → B → C) → List A → List B → List C
 zip_with f [] ys = []
 zip_with f (x ∷ xs) [] = []

@@ -2,7 +2,7 @@
 use Rattle.std.specs.Prelude.{ℕ, ◌+◌, ◌-◌, ◌*◌, if◌then◌else◌, List, [], ◌∷◌, Option, None, Some}
 use Rattle.std.specs.Char.{is_ascii_digit}
 
--- digits after a number: only digits, with any leading zeros
+-- a number with these digits appended, any leading zeros included, if all bytes are digits
 unfoldable pub digits_from : ℕ → List ℕ → Option ℕ
 digits_from number [] = Some number
 digits_from number (digit ∷ digits) =

@@ -53,7 +53,7 @@ low_first_below (b ∷ bits) =
     let below : digit b + 2 * low_first bits < 2 ^ (suc (length bits)) =
     omega (arith, digit_le b, low_first_below bits) in below
 
--- bit i of word k, where zeros stand after the bits
+-- bit i of word k, with zeros after the bits
 word_again : (words : List ℕ) (count k i : ℕ) → IsPacked words count → i < 64 →
     get_or (take 64 (drop (64 * k) (unpacked words count))) i false ≡ bit_of (get_or words k 0) i
 word_again words count k i h lt =

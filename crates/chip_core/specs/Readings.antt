@@ -11,7 +11,7 @@ abbrev pub values_at : List ℕ → List Bool → List ℕ
 values_at [] bits = []
 values_at (width ∷ widths) bits = number_at 0 width bits ∷ values_at widths (drop width bits)
 
--- the number at a place of each of the first n records, all of the same number of bits
+-- the number at a place of each of the first n records, all of `size` bits
 abbrev pub column_at : ℕ → ℕ → ℕ → ℕ → List Bool → List ℕ
 column_at size place width zero bits = []
 column_at size place width (suc n) bits =

@@ -7,6 +7,6 @@ pub struct Traffic {
     pub esn: u32,
     /// The channel's Walsh row, 1 to 63.
     pub row: u8,
-    /// By how much its frames begin later than the system's, in units of 1.25 ms: 0 to 15.
+    /// The delay of its frames from the system's, in units of 1.25 ms: 0 to 15.
     pub offset: u8,
 }

@@ -5,7 +5,7 @@
 /// Two flags in a sample file give the form of its 30-bit and 16-bit checks.
 #[derive(Clone, Copy, PartialEq, Eq, Debug)]
 pub enum CheckForm {
-    /// The remainder as it stands.
+    /// The remainder as computed.
     Plain,
     /// Every bit of the remainder inverted.
     Complemented,

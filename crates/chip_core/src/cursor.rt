@@ -53,9 +53,9 @@ impl<'a> BitReader<'a> {
         self.bits.part(self.place, self.left())
     }
 
-    /// The number that the next `width` bits spell, 1 to 64 of them.
+    /// Takes the next `width` bits, 1 to 64 of them, and returns the number that they spell.
     ///
-    /// `Short` exactly if fewer bits are left; the reader is unchanged then.
+    /// Returns `Short`, with the reader unchanged, exactly if fewer bits are left.
     pub fn take(&mut self, width: u8) -> Result<u64, Short>
         requires { (1 ≤ width) × (width ≤ 64) }
         ensures enough { IsOk result ↔ (width ≤ length self.old) }

@@ -4,8 +4,8 @@ ghost use Rattle.std.specs.Prelude.{◌≡◌, ◌≤◌, ◌<◌, ◌+◌, ◌*
 ghost use Rattle.std.specs.Char.{is_ascii_digit};
 ghost use Rattle.chip_core.specs.Decimals.{digits_from};
 
-/// The number that at most 20 decimal digits spell, leading zeros among them; `None` exactly if a
-/// byte of the text is not a digit. A text of no bytes spells 0.
+/// Returns the number that at most 20 decimal digits spell, including leading zeros, or `None`
+/// exactly if a byte of the text is not a digit. An empty text spells 0.
 pub fn digits_in(text: &[u8]) -> Option<u128>
     requires { length text.now ≤ 20 }
     ensures { result ≡ digits_from 0 text.now }
@@ -20,7 +20,7 @@ pub fn digits_in(text: &[u8]) -> Option<u128>
     Some(number)
 }
 
-/// A number with one more digit after it.
+/// Returns a number with another digit appended.
 fn with_digit(number: u128, digit: u8) -> u128
     requires number { number < 10 ^ 20 }
     requires digit { is_ascii_digit digit ≡ true }

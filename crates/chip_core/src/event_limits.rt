@@ -1,5 +1,5 @@
-//! How many events are reported.
+//! Limits on the events that are reported.
 
-/// How many events of each form are reported: pilots with their sets, messages, frames, and raw
-/// messages, in this order.
+/// The greatest number of events reported of each form: pilots with their sets, messages, frames,
+/// and raw messages, in this order.
 pub type EventLimits = [u32; 4];

@@ -1,6 +1,6 @@
 //! Fields of messages.
 
-/// A field of a message: a number, and in how many bits it is sent, the highest first.
+/// A field of a message: a number, and the number of bits that it is sent in, the highest first.
 ///
 /// TIA/EIA-95-B, 7.7: a message is a list of fields of fixed widths.
 #[derive(Clone, Copy, PartialEq, Eq, Debug)]

@@ -1,5 +1,5 @@
-//! Terms of every layer of the forward link: samples, code phases, bits, and the numbers of the air
-//! interface.
+//! The basic types of every layer of the forward link: samples, code phases, bits, and the numbers
+//! of the air interface.
 #![tactic(auto)]
 
 pub mod air;

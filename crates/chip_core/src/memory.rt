@@ -5,7 +5,7 @@ use thiserror::Error;
 
 /// The allocator is out of memory.
 ///
-/// An ordinary answer of every call that takes an allocator: what was lent is then unchanged.
+/// An ordinary result of every call with an allocator; all that it borrowed is then unchanged.
 #[derive(Clone, Copy, PartialEq, Eq, Debug, Error)]
 #[error("out of memory")]
 pub struct OutOfMemory;

@@ -9,7 +9,7 @@ use std::marker::Model;
 /// A list of at most 128 numbers: channels, pilots, or the other lists that a message of 148 octets
 /// has room for.
 ///
-/// The records of paging and traffic messages are such lists, side by side. A copy is 516 bytes.
+/// The records of paging and traffic messages are parallel lists of this type. A copy is 516 bytes.
 /// Contracts see the list.
 #[derive(Clone, Copy, PartialEq, Eq, Debug)]
 pub struct Numbers {
@@ -35,7 +35,7 @@ impl Model for Numbers {
 }
 
 impl Numbers {
-    /// The list of no numbers.
+    /// An empty list.
     pub fn empty() -> Numbers
         ensures { result ≡ [] }
     {
@@ -68,7 +68,7 @@ impl Numbers {
         self.places[i as usize]
     }
 
-    /// Adds a number at the end; `Full` exactly if the list has 128, and it is unchanged then.
+    /// Adds a number at the end. Returns `Full`, with the list unchanged, exactly if it holds 128.
     pub fn push(&mut self, n: u32) -> Result<(), Full>
         ensures room { IsOk result ↔ (length self.old < 128) }
         ensures ok { OnOk result (self.new ≡ self.old ++ n ∷ []) }

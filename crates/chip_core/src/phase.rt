@@ -24,7 +24,7 @@ impl Model for Phase {
 }
 
 impl Phase {
-    /// The phase of this number; `None` exactly if `n` is above 32,767.
+    /// Returns the phase with the number `n`, or `None` exactly if it is above 32,767.
     pub fn new(n: u16) -> Option<Phase>
         ensures { SomeIff result (n < 32768) n }
     {

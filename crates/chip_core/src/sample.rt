@@ -11,7 +11,7 @@ pub struct Sample {
     pub q: i16,
 }
 
-/// A complex number with whole parts, as a sum of samples is.
+/// A complex number with integer parts, such as a sum of samples.
 #[derive(Clone, Copy, PartialEq, Eq, Debug)]
 pub struct Pair {
     /// The real part: the in-phase branch.

@@ -1,6 +1,6 @@
-//! How wide the parts of samples are.
+//! The width of the parts of samples.
 
-/// How wide each part of a file's samples is.
+/// The width of each part of a file's samples.
 #[derive(Clone, Copy, PartialEq, Eq, Debug)]
 pub enum Width {
     /// 16 bits, in a file of version 1.

@@ -1,4 +1,4 @@
--- What the definitions of this crate cite of what lies below, and of its own types.
+-- Names from other crates that the definitions of this crate use.
 pub use Rattle.cell_plan.specs.PageCycles.{cycled, paging_frame_size}
 pub use Rattle.cell_plan.specs.Pages.{AreSendable, sent_paging_rate}
 unfoldable pub use Rattle.cell_plan.specs.Pages.{page_cycle}

@@ -1,4 +1,4 @@
--- The whole transmissions of a sync channel: those of which a file holds all chips.
+-- The whole transmissions of a sync channel: those whose chips all lie in a file.
 use Rattle.clean_frames.specs.Common.{superframe_chips, places, sync_capsule, SyncFields, phase_at}
 use Rattle.clean_frames.specs.Common.{superframes_a_sending, CellPlan, SyncPlan, told_superframes}
 use Rattle.std.specs.Prelude.{ℕ, ◌+◌, ◌-◌, ◌*◌, ◌/◌, ◌%◌, ◌&&◌, Bool, if◌then◌else◌, nat_le, List}
@@ -6,11 +6,11 @@ use Rattle.std.specs.Prelude.{[], ◌∷◌, length, filter, Option, None, Some}
 
 -- ---- frames
 
--- A frame is known at the end of the next one, or where that isn't in the file, at its own.
+-- A frame is known at the end of the next one, or at its own end if the next is not in the file.
 abbrev pub heard_after : ℕ → ℕ → ℕ → ℕ
 heard_after frame count ends = if nat_le (ends + frame) count then ends + frame else ends
 
--- which of the cell's sync frames is the first one that begins in the file
+-- the number of the cell's first sync frame that begins in the file
 abbrev pub first_sync_frame : CellPlan → ℕ
 first_sync_frame plan =
     (plan.link.start + (32768 - phase_at plan plan.link.start) % 32768 - 64 * plan.cell.pn) / 32768
@@ -27,7 +27,7 @@ abbrev pub sending_ends : CellPlan → SyncFields → ℕ → ℕ
 sending_ends plan m sending =
     sending_begins plan m sending + 32768 * ((length (sync_capsule plan.cell.check30 m) + 30) / 31)
 
--- whether all of it lies in the file
+-- whether the whole transmission lies in the file
 abbrev pub is_whole : CellPlan → SyncFields → ℕ → Bool
 is_whole plan m sending =
     nat_le plan.link.start (sending_begins plan m sending) &&
@@ -37,15 +37,14 @@ abbrev pub whole_sendings : CellPlan → SyncFields → List ℕ
 whole_sendings plan m =
     filter (is_whole plan m) (places ((plan.link.start + plan.link.samples) / superframe_chips + 1))
 
--- ---- the mark that the first of them tells
+-- ---- the mark that the first of them sets
 
--- the superframes from local chip 0 up to the mark, which the first of the whole transmissions
--- tells
+-- the number of superframes from local chip 0 to the mark, which the first whole transmission sets
 abbrev pub told_by_first : CellPlan → SyncFields → List ℕ → Option ℕ
 told_by_first plan m [] = None
 told_by_first plan m (sending ∷ sendings) = Some (told_superframes plan.cell m sending)
 
--- the superframes up to the mark, where the cell sends a sync channel
+-- the number of superframes up to the mark, if the cell sends a sync channel
 abbrev pub told_with_sync : CellPlan → Option SyncPlan → Option ℕ
 told_with_sync plan None = None
 told_with_sync plan (Some sync) = told_by_first plan sync.message (whole_sendings plan sync.message)

@@ -1,5 +1,5 @@
--- What comes back of a file of any origin, channel by channel and frame by frame: of each channel
--- whose soft values have the signs that a cell sends, just what the cell sends.
+-- What comes back in a file of any origin, channel by channel and frame by frame: exactly what a
+-- cell sends, on each channel whose soft values have the signs of what is sent.
 use Rattle.clean_link.specs.Common.{is_received, received_frames, told_with_sync, superframe_chips}
 use Rattle.clean_link.specs.Common.{CellPlan, PagingPlan, TrafficPlan, Event, IsReceivable, Sample}
 use Rattle.clean_link.specs.Common.{Traffic, Tuning, Width, events, mark}
@@ -25,13 +25,13 @@ pub record AreEventsBySigns (plan : CellPlan) (p : TrafficPlan) (samples : List 
   pub are : (frame : ℕ) → is_received plan p (superframe_chips * superframes) frame ≡ true →
       TrafficFrameHasSigns plan p samples frame → IsEventOf plan p frame (event frame)
 
--- and none if no mark is set
+-- these events, or none if no mark is set
 abbrev pub AreFramesBySigns : CellPlan → TrafficPlan → List Sample → Option ℕ → List Event → Type 0
 AreFramesBySigns plan p samples None frames = frames ≡ []
 AreFramesBySigns plan p samples (Some superframes) frames =
     AreEventsBySigns plan p samples superframes frames
 
--- What a handset hears after a mark that is the cell's:
+-- What a handset receives after a mark that is the cell's:
 -- - on the sync channel only the whole transmissions, if each of its frames has the sent signs;
 -- - on the followed paging channel only the whole pages from the mark on, if the cell sends the
 --   channel and each of its frames from the mark on has the sent signs;
@@ -53,7 +53,7 @@ pub record HearsBySigns (width : Width) (plan : CellPlan) (samples : List Sample
 -- ---- the laws
 
 -- If each frame of the sync channel has the sent signs, the mark is the cell's, and it is the one
--- that the first whole transmission tells.
+-- that the first whole transmission sets.
 abbrev pub SyncTellsTheMark : Type 0
 SyncTellsTheMark = (width : Width) (plan : CellPlan) (samples : List Sample) →
     HasSyncSigns width plan samples → MarksAreAt plan samples (told_with_sync plan plan.sync)
@@ -67,9 +67,9 @@ ChannelsComeBackBySigns = (width : Width) (plan : CellPlan) (samples : List Samp
     All IsNotDirected (events t samples) →
     HearsBySigns width plan samples at t.paging t.traffic (events t samples)
 
--- If no traffic channel is followed, and each frame of the sync channel, and from the mark on of
--- the followed paging channel, has the sent signs, all that is heard is the pilot, the whole
--- transmissions and the whole pages, in the order in which they are known.
+-- If no traffic channel is followed, and each frame of the sync channel, and each of the followed
+-- paging channel from the mark on, has the sent signs, exactly the pilot, the whole transmissions
+-- and the whole pages are received, in the order in which they are known.
 abbrev pub AllComesBackBySigns : Type 0
 AllComesBackBySigns = (width : Width) (plan : CellPlan) (samples : List Sample) (t : Tuning)
     (q : PagingPlan) → HasSyncSigns width plan samples → IsOnPath plan t → t.traffic ≡ None →

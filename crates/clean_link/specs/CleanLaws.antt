@@ -1,6 +1,6 @@
--- What a file of any origin gives back, by the signs of its soft values, of a frame's own bits on
--- any channel, and then of the sync channel and of paging channels, the latter after the cell's
--- mark; what the soft values of a clean link are; and that bounded noise keeps their signs.
+-- What comes back in a file of any origin, by the signs of its soft values: a frame's own bits on
+-- any channel, then the sync channel, and paging channels after the cell's mark. Also the soft
+-- values of a clean link, and that bounded noise keeps their signs.
 use Rattle.clean_link.specs.Common.{places, signed, Width, made_samples, sync_frame_bits, CellPlan}
 use Rattle.clean_link.specs.Common.{sync_symbols, SyncPlan, mark, frame_own_bits, frame_softs, Mark}
 use Rattle.clean_link.specs.Common.{is_in_file, span_first, span_frames, sync_events_at, Tuning}
@@ -20,8 +20,8 @@ use Rattle.clean_link.specs.HeardPages.{pages_within}
 
 -- ---- any channel
 
--- If each frame of a stream that hears a channel and reads its bits has the sent signs, the own
--- bits of each are the ones that the channel sends in it.
+-- If a stream hears a channel and reads its bits, and each frame has the sent signs, the own bits
+-- of each frame are those that the channel sends in it.
 abbrev pub ChannelFramesComeBack : Type 0
 ChannelFramesComeBack = (plan : CellPlan) (c : Carrier) (s : Stream) (bits_of : ℕ → List Bool)
     (base k : ℕ) (samples : List Sample) →
@@ -58,7 +58,7 @@ FramesComeBack = (width : Width) (plan : CellPlan) (samples : List Sample) (sync
     frame_own_bits t.count samples (sync_stream t) k ≡
     sync_frame_bits plan.cell sync.message (first_sync_frame plan + k)
 
--- And the codeword that was sent in the frame's span, with the bits before it, is the only one of
+-- The codeword that was sent in the frame's span, with the bits before it, is the only one with the
 -- greatest score.
 abbrev pub SentCodewordsAreTheOnlyBest : Type 0
 SentCodewordsAreTheOnlyBest = (width : Width) (plan : CellPlan) (samples : List Sample)
@@ -76,32 +76,32 @@ FramesAreZeros = (width : Width) (plan : CellPlan) (samples : List Sample) (t : 
     is_in_file t.count (sync_stream t) k ≡ true →
     frame_own_bits t.count samples (sync_stream t) k ≡ replicate 32 false
 
--- on the sync channel a handset hears the whole transmissions, each with its message, in order, and
--- nothing else
+-- on the sync channel a handset receives exactly the whole transmissions, each with its message, in
+-- order
 abbrev pub WholeSendingsComeBack : Type 0
 WholeSendingsComeBack = (width : Width) (plan : CellPlan) (samples : List Sample) (t : Tuning) →
     HasSyncSigns width plan samples → IsOnPath plan t →
     flat_map (sync_events_at t samples) (places (plan.link.samples + 1)) ≡ sync_sent plan
 
--- the mark, within any of the samples, has the cell's time and long code
+-- the mark of the first n samples, for any n, has the cell's time and long-code state
 abbrev pub MarksAreTrue : Type 0
 MarksAreTrue = (width : Width) (plan : CellPlan) (samples : List Sample) (t : Tuning) (n : ℕ)
     (m : Mark) → HasSyncSigns width plan samples → IsOnPath plan t → mark t samples n ≡ Some m →
     (superframes : ℕ) × IsTrueMark plan m superframes
 
--- there is one in the file just where a transmission is whole
+-- the file sets a mark exactly if a transmission is whole
 abbrev pub IsMarkedWhereHeard : Type 0
 IsMarkedWhereHeard = (width : Width) (plan : CellPlan) (samples : List Sample) (t : Tuning) →
     HasSyncSigns width plan samples → IsOnPath plan t →
     is_some (mark t samples plan.link.samples) ≡ nat_lt 0 (length (sync_sent plan))
 
--- it has the sync message's PRAT
+-- the mark has the sync message's PRAT
 abbrev pub MarksTellTheRate : Type 0
 MarksTellTheRate = (width : Width) (plan : CellPlan) (samples : List Sample) (sync : SyncPlan)
     (t : Tuning) (n : ℕ) (m : Mark) → HasSyncSigns width plan samples → plan.sync ≡ Some sync →
     IsOnPath plan t → mark t samples n ≡ Some m → m.prat ≡ sync.message.prat
 
--- and without a sync channel there is none
+-- without a sync channel there is no mark
 abbrev pub UnmarkedWithoutSync : Type 0
 UnmarkedWithoutSync = (width : Width) (plan : CellPlan) (samples : List Sample) (t : Tuning)
     (n : ℕ) → HasSyncSigns width plan samples → plan.sync ≡ None → IsOnPath plan t →
@@ -109,9 +109,9 @@ UnmarkedWithoutSync = (width : Width) (plan : CellPlan) (samples : List Sample) 
 
 -- ---- samples from which sync frames come back
 
--- The cell can be received. As a handset with one finger on its path reads the samples, the bits
--- of each sync frame in the file are those that the cell's sync channel sends in it, and zeros
--- where the cell sends none.
+-- The cell can be received. From these samples, a handset with one finger on its path reads the
+-- bits that the cell's sync channel sends in each sync frame in the file, or zeros if the cell
+-- sends none.
 pub record ShowsSync (width : Width) (plan : CellPlan) (samples : List Sample) : Type 0 where
   pub receivable : IsReceivable width plan
   pub back : (sync : SyncPlan) (t : Tuning) (k : ℕ) → plan.sync ≡ Some sync → IsOnPath plan t →
@@ -140,13 +140,13 @@ pub record HearsSentSync (width : Width) (plan : CellPlan) (sync : SyncPlan) (e 
   pub near : IsNear e samples (made_samples plan)
   pub bears : Bears plan sync.gain e
 
--- So does each frame of the sync channel,
+-- In such a file each frame of the sync channel has the sent signs.
 abbrev pub NearSyncHasSigns : Type 0
 NearSyncHasSigns = (width : Width) (plan : CellPlan) (sync : SyncPlan) (e : ℕ)
     (samples : List Sample) → HearsSentSync width plan sync e samples →
     HasSyncSigns width plan samples
 
--- and each of a clean link, in which the sync channel's row is silent if the cell sends none.
+-- So does each frame on a clean link; without a sync channel, that channel's row is silent.
 abbrev pub CleanSyncHasSigns : Type 0
 CleanSyncHasSigns = (width : Width) (plan : CellPlan) → IsReceivable width plan →
     HasSyncSigns width plan (made_samples plan)
@@ -158,9 +158,9 @@ abbrev pub ordered_symbols : Cycle → ℕ → List Bool
 ordered_symbols c frame =
     sent data_shape (repeats_of c.rate) (continued_symbols (cycle_frame_bits c) frame)
 
--- Frame k after a true mark is the frame that the channel sends k frames after the mark's
--- superframe, of which each has four. On a clean link its soft values are one positive number times
--- the signs of the symbols before scrambling.
+-- Frame k after a true mark is the one that the channel sends k frames after the start of the
+-- mark's superframe; each superframe has four. On a clean link its soft values are one positive
+-- number times the signs of the symbols before scrambling.
 abbrev pub PagingHaveSentSigns : Type 0
 PagingHaveSentSigns = (width : Width) (plan : CellPlan) (sync : SyncPlan) (p : PagingPlan)
     (t : Tuning) (m : Mark) (superframes k : ℕ) →
@@ -172,8 +172,8 @@ PagingHaveSentSigns = (width : Width) (plan : CellPlan) (sync : SyncPlan) (p : P
     signed (soft_strength plan Data p.gain)
     (ordered_symbols (cycle_of plan p) (4 * superframes + k)))
 
--- Something holds of frame k of a paging channel after the cell's mark, if each frame from the mark
--- on has the sent signs.
+-- P holds for frame k of a paging channel after the cell's mark, if each frame from the mark on has
+-- the sent signs.
 abbrev pub HoldsOfPaging : (CellPlan → PagingPlan → Tuning → Mark → ℕ → ℕ → List Sample →
     Type 0) → Type 0
 HoldsOfPaging P = (plan : CellPlan) (p : PagingPlan) (t : Tuning) (m : Mark) (superframes k : ℕ)
@@ -187,7 +187,7 @@ PagingFramesComeBack = HoldsOfPaging (λ plan p t m superframes k samples.
     frame_own_bits t.count samples (paging_stream t p.number m) k ≡
     cycle_frame_bits (cycle_of plan p) (4 * superframes + k))
 
--- And the codeword that was sent in the frame's span, with the bits before it, is the only one of
+-- The codeword that was sent in the frame's span, with the bits before it, is the only one with the
 -- greatest score.
 abbrev pub PagingCodewordsAreTheOnlyBest : Type 0
 PagingCodewordsAreTheOnlyBest = HoldsOfPaging (λ plan p t m superframes k samples.
@@ -196,7 +196,7 @@ PagingCodewordsAreTheOnlyBest = HoldsOfPaging (λ plan p t m superframes k sampl
     (4 * superframes + span_first t.count (paging_stream t p.number m) k)
     (span_frames t.count (paging_stream t p.number m) k)))
 
--- So a handset hears of the channel the whole pages, in order, and nothing else.
+-- So a handset receives exactly the whole pages of the channel, in order.
 abbrev pub SignedPagesComeBack : Type 0
 SignedPagesComeBack = (width : Width) (plan : CellPlan) (p : PagingPlan) (t : Tuning) (m : Mark)
     (superframes : ℕ) (samples : List Sample) → IsReceivable width plan → Contains plan.paging p →
@@ -205,10 +205,10 @@ SignedPagesComeBack = (width : Width) (plan : CellPlan) (p : PagingPlan) (t : Tu
     pages_within t p.number (Some m) samples plan.link.samples ≡
     pages_of_channel plan p (plan.link.start + m.sample)
 
--- ---- channels that are not
+-- ---- channels that are not sent
 
--- on the row of a channel that the cell doesn't send the soft values are all 0, where no traffic
--- channel has it
+-- the soft values on the row of a channel that the cell doesn't send are all 0, if no traffic
+-- channel has the row
 abbrev pub SilentPagingIsZero : Type 0
 SilentPagingIsZero = (width : Width) (plan : CellPlan) (t : Tuning) (m : Mark)
     (superframes channel k : ℕ) →

@@ -1,5 +1,5 @@
 -- A clean link: a file that holds what one cell sends over one path, without noise, and what a
--- handset has to hear in it.
+-- handset has to receive in it.
 use Rattle.clean_link.specs.Common.{superframe_chips, after, sync_capsule, SyncFields, IsFreeOf}
 use Rattle.clean_link.specs.Common.{message_of, phase_at, CellPlan, SyncPlan, TrafficBody, Tuning}
 use Rattle.clean_link.specs.Common.{Event, Sync, Mark, Traffic, heard_after, sending_ends}
@@ -12,20 +12,20 @@ use Rattle.traffic_message.specs.declared.body.TrafficBody.TheVariants as bodies
 -- ---- handoff
 
 -- a message of a traffic channel that isn't an Extended Handoff Direction Message, or is one that
--- is kept as it is (TIA/EIA-95-B, 7.7.3.3)
+-- is kept as bits (TIA/EIA-95-B, 7.7.3.3)
 abbrev pub IsNoDirection : TrafficBody → Type 0
 IsNoDirection (bodies.Handoff f) = ⊥
 IsNoDirection body = Unit {0}
 
--- an event that isn't such a direction
+-- an event that isn't a handoff direction
 abbrev pub IsNotDirected : Event → Type 0
 IsNotDirected (OnTraffic n capsule message) = IsNoDirection message.body
 IsNotDirected event = Unit {0}
 
 -- ---- the link
 
--- a handset with one finger, which lies on the cell's path, where the search found this energy,
--- that follows a paging channel, and a traffic channel or none
+-- a handset with one finger, on the cell's path, where the search found this energy; it follows a
+-- paging channel, and a traffic channel or none
 abbrev pub tuning_to : CellPlan → ℕ → ℕ → Option Traffic → Tuning
 tuning_to plan energy paging traffic = record {
   count = plan.link.samples;
@@ -46,7 +46,7 @@ pub record IsOnPath (plan : CellPlan) (t : Tuning) : Type 0 where
   pub phase : t.phase ≡ phase_at plan plan.link.start
   pub alone : t.deltas ≡ pos 0 ∷ []
 
--- one that follows one of the paging channels, whose row is no traffic channel's
+-- such a handset that follows a paging channel whose row no traffic channel has
 pub record IsTunedToPlan (plan : CellPlan) (t : Tuning) : Type 0 where
   pub path : IsOnPath plan t
   pub first_channel : 1 ≤ t.paging
@@ -55,7 +55,7 @@ pub record IsTunedToPlan (plan : CellPlan) (t : Tuning) : Type 0 where
 
 -- ---- whole transmissions
 
--- the event for a transmission, when the handset knows the last of its frames
+-- the event for a transmission, when the handset knows its last frame
 abbrev pub sending_event : CellPlan → SyncFields → ℕ → Event
 sending_event plan m sending =
     Sync

@@ -1,4 +1,4 @@
--- What the definitions of this crate cite of what lies below, and of its own types.
+-- Names from other crates that the definitions of this crate use.
 unfoldable pub use Rattle.cell_plan.specs.Common.{spelling, sync_body, sync_capsule}
 pub use Rattle.cell_plan.specs.PageCycles.{Cycle, cycle_frame_bits}
 pub use Rattle.cell_plan.specs.Plan.{IsFreeOf}

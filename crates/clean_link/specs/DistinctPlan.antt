@@ -14,11 +14,11 @@ use Rattle.clean_link.specs.SentEvents.{signaling_sent, IsFollowed}
 
 -- ---- the cell
 
--- a sync message of 25 octets, whose first transmission tells the time of superframe 7
+-- a sync message of 25 octets, whose first transmission has the time of superframe 7
 abbrev pub told_message : SyncFields
 told_message = some_message 1
 
--- information bits of each rate; those at 9,600 bits a second are primary traffic alone
+-- information bits of each rate; those at 9,600 bits a second are only primary traffic
 abbrev pub distinct_bits_of : Rate → List Bool
 distinct_bits_of R9600 =
     binary 64 0x66ead69800f6c1c5 ++ binary 64 0xa65d1b54066a284c ++ binary 44 0x6547829256
@@ -34,7 +34,7 @@ bits_of2 R7200 = binary 64 0x6ab5c5ac7d237d8d ++ binary 62 0x1221de457012e2f5
 bits_of2 R3600 = binary 56 0x7f7f6ad5e9ac66
 bits_of2 R1800 = binary 22 0xa13a0
 
--- frames of them that tell a handset to lower its power
+-- frames with these bits that order a handset to lower its power
 abbrev pub frame_at : Rate → SetOneFrame
 frame_at rate = distinct_frame_with rate (distinct_bits_of rate)
 
@@ -67,20 +67,20 @@ distinct_plan = record {
   traffic = first_channel ∷ second_channel ∷ [];
 }
 
--- a handset that is assigned one of them
+-- the assignment of a handset to the channel on this row
 abbrev pub on_row : ℕ → Traffic
 on_row row = record { esn = 0x9f1c0a37; row = row; offset = 0 }
 
 -- ---- the laws
 
--- The cell is lawful, and its first whole transmission tells the mark of superframe 7.
+-- The cell is lawful, and its first whole transmission sets the mark at superframe 7.
 abbrev pub HasMark : Type 0
 HasMark = IsReceivable Sixteen distinct_plan
     × (told_with_sync distinct_plan distinct_plan.sync ≡ Some 7)
 
--- A handset that follows the first channel follows one of the cell's, each of whose frames from the
--- mark on that lies in the file is distinct: there is one of each rate of rate set 1. None of them
--- has signaling, so no message directs a handoff.
+-- A handset that follows the first channel follows one of the cell's, whose frames from the mark on
+-- that lie in the file are all distinct: there is one of each rate of rate set 1. None of them has
+-- signaling, so no message directs a handoff.
 pub record HasSetOne : Type 0 where
   pub followed : IsFollowed distinct_plan (on_row 8) first_channel
   pub rates : flat_map
@@ -90,7 +90,7 @@ pub record HasSetOne : Type 0 where
       ≡ R9600 ∷ R4800 ∷ R2400 ∷ R1200 ∷ []
   pub silent : signaling_sent distinct_plan (Some (on_row 8)) ≡ []
 
--- And so it is of the second channel and rate set 2.
+-- The same for the second channel and rate set 2.
 pub record HasSetTwo : Type 0 where
   pub sent : Contains distinct_plan.traffic second_channel
   pub assigned : IsAssigned second_channel (on_row 9)

@@ -1,5 +1,5 @@
--- What a handset hears of a clean link's cell, and of one whose link has bounded noise, channel by
--- channel and frame by frame.
+-- What a handset receives from the cell of a clean link, and over a link with bounded noise,
+-- channel by channel and frame by frame.
 use Rattle.clean_link.specs.Common.{superframe_chips, Width, Decoded, IsFreeOf, made_samples, Event}
 use Rattle.clean_link.specs.Common.{frames_of, cycled_frame, CellPlan, PagingPlan, TrafficPlan}
 use Rattle.clean_link.specs.Common.{SetOneFrame, events, frame_event, Tuning, Frame, Paging, Sync}
@@ -34,9 +34,9 @@ is_message event = false
 
 -- ---- a traffic channel's frames
 
--- The event of frame `frame` of a channel, which is this one: it has the frame's end and the power
--- control bits that were sent, and where the frame is distinct, its rate and its information bits,
--- as a good frame.
+-- The event of frame `frame` of a channel, which is f: it has the frame's end and the power control
+-- bits that were sent. If the frame is distinct, it also has its rate and its information bits, as
+-- a good frame.
 pub record IsSentFrame (plan : CellPlan) (p : TrafficPlan) (frame : ℕ) (f : SetOneFrame)
     (event : Event) : Type 0 where
   pub decoded : Decoded
@@ -44,13 +44,13 @@ pub record IsSentFrame (plan : CellPlan) (p : TrafficPlan) (frame : ℕ) (f : Se
   pub back : IsDistinctFrame (replaced_of plan p frame) f →
       event ≡ sent_frame_event (frame_ends plan p frame) f
 
--- the one that is sent at a number has this event
+-- the frame that is sent at a number has this event
 abbrev pub IsEventOf : CellPlan → TrafficPlan → ℕ → Event → Type 0
 IsEventOf plan p frame event = (f : SetOneFrame)
     × (cycled_frame (frames_of plan p) frame ≡ f ∷ []) × IsSentFrame plan p frame f event
 
--- One event for each frame of a channel that begins at the mark, which is `superframes` superframes
--- after local chip 0, or later, and that lies in the file, in order.
+-- One event, in order, for each frame of a channel that begins at the mark or later and lies in the
+-- file. The mark is `superframes` superframes after local chip 0.
 pub record AreEventsOf (plan : CellPlan) (p : TrafficPlan) (superframes : ℕ)
     (frames : List Event) : Type 0 where
   pub event : ℕ → Event
@@ -58,15 +58,15 @@ pub record AreEventsOf (plan : CellPlan) (p : TrafficPlan) (superframes : ℕ)
   pub are : (frame : ℕ) → is_received plan p (superframe_chips * superframes) frame ≡ true →
       IsEventOf plan p frame (event frame)
 
--- and none where no mark is set
+-- these events, or none if no mark is set
 abbrev pub AreFramesAfter : CellPlan → TrafficPlan → Option ℕ → List Event → Type 0
 AreFramesAfter plan p None frames = frames ≡ []
 AreFramesAfter plan p (Some superframes) frames = AreEventsOf plan p superframes frames
 
 -- ---- its messages
 
--- Where each of these frames is distinct, just the messages that the signaling in them spells, as
--- they are sent, and none where no mark is set.
+-- If each of these frames is distinct, exactly the messages that the signaling in them spells, as
+-- they are sent; none if no mark is set.
 abbrev pub AreMessagesAfter : CellPlan → TrafficPlan → Option ℕ → List Event → Type 0
 AreMessagesAfter plan p None messages = messages ≡ []
 AreMessagesAfter plan p (Some superframes) messages =
@@ -75,8 +75,7 @@ AreMessagesAfter plan p (Some superframes) messages =
 
 -- ---- all channels
 
--- a handset that may follow a channel follows this one of the cell's, whose frames are of rate set
--- 1
+-- the handset follows this one of the cell's traffic channels, whose frames are of rate set 1
 pub record FollowsOne (plan : CellPlan) (followed : Option Traffic) (p : TrafficPlan) : Type 0 where
   pub traffic : Traffic
   pub follows : followed ≡ Some traffic
@@ -84,11 +83,11 @@ pub record FollowsOne (plan : CellPlan) (followed : Option Traffic) (p : Traffic
   pub assigned : IsAssigned p traffic
   pub one : SendsSetOne p
 
--- What a handset hears of a cell that follows a paging channel, and a traffic channel or none: of
--- the sync channel just the whole transmissions; where the cell sends the paging channel, or no
--- traffic channel has its row, just the channel's whole pages; and where the cell sends the traffic
--- channel, with frames of rate set 1, one event for each of them from the mark on, and the messages
--- in them.
+-- What a handset receives if it follows a paging channel, and a traffic channel or none:
+-- - on the sync channel exactly the whole transmissions;
+-- - on the paging channel exactly the whole pages, if the cell sends it or its row is free;
+-- - on the traffic channel, if the cell sends it with frames of rate set 1, one event for each
+--   frame from the mark on, and the messages in these frames.
 pub record HearsEach (plan : CellPlan) (paging : ℕ) (followed : Option Traffic)
     (heard : List Event) : Type 0 where
   pub sync : filter is_sync heard ≡ sync_sent plan
@@ -100,7 +99,7 @@ pub record HearsEach (plan : CellPlan) (paging : ℕ) (followed : Option Traffic
   pub messages : (p : TrafficPlan) → FollowsOne plan followed p →
       AreMessagesAfter plan p (told_with_sync plan plan.sync) (filter is_message heard)
 
--- So it is of a handset with one finger on the cell's path, in a file of what the cell sends, where
+-- This holds for a handset with one finger on the cell's path, in a file of what the cell sends, if
 -- no handoff is directed.
 abbrev pub EachChannelComesBack : Type 0
 EachChannelComesBack = (width : Width) (plan : CellPlan) (t : Tuning) →
@@ -110,11 +109,10 @@ EachChannelComesBack = (width : Width) (plan : CellPlan) (t : Tuning) →
 
 -- ---- a link with bounded noise
 
--- What is heard of the sync channel is just the whole transmissions. What is heard of the followed
--- paging channel is just the whole pages, where the cell sends the channel and it bears the noise.
--- Where the cell sends the followed traffic channel with frames of rate set 1, and it bears the
--- noise, there is one event for each of its frames from the mark on, and the messages are those in
--- them.
+-- Exactly the whole transmissions are received on the sync channel. If the cell sends the followed
+-- paging channel, and it bears the noise, exactly its whole pages are received. If the cell sends
+-- the followed traffic channel with frames of rate set 1, and it bears the noise, there is one
+-- event for each of its frames from the mark on, and the messages are those in them.
 pub record HearsBearing (plan : CellPlan) (e paging : ℕ) (followed : Option Traffic)
     (heard : List Event) : Type 0 where
   pub sync : filter is_sync heard ≡ sync_sent plan

@@ -1,4 +1,4 @@
--- The pages that a handset hears of a paging channel on a clean link, each with the number of
+-- The pages that a handset receives on a paging channel of a clean link, each with the number of
 -- samples at which it is known.
 use Rattle.clean_link.specs.Common.{places, Sample, Width, sent_paging_rate, IsFreeOf, made_samples}
 use Rattle.clean_link.specs.Common.{IsStatedPaging, IsReceivable, CellPlan, SyncPlan, Tuning, Mark}
@@ -8,7 +8,7 @@ use Rattle.std.specs.List.{flat_map}
 use Rattle.clean_link.specs.CleanLink.{IsOnPath, IsTrueMark}
 use Rattle.clean_frames.specs.WholePages.{KnownPage, pages_sent}
 
--- the type of what an option may hold
+-- the type of the value that an option may hold
 abbrev pub type_within : {A : Type 0} → Option A → Type 0
 type_within {A} given = A
 
@@ -20,7 +20,7 @@ ReadPage = type_within (as_spelled_page [] None)
 abbrev pub known_page : ℕ → ReadPage → KnownPage
 known_page n page = record { at = n; capsule = page.capsule; message = page.message }
 
--- the pages of a channel, after a mark that may be set, that are known within the first n samples,
+-- the pages of a channel after the mark, if one is set, that are known within the first n samples,
 -- in order
 abbrev pub pages_within : Tuning → ℕ → Option Mark → List Sample → ℕ → List KnownPage
 pages_within t channel m samples n =
@@ -28,8 +28,8 @@ pages_within t channel m samples n =
 
 -- ---- the law
 
--- A handset hears the whole pages of a channel after its mark, each when it knows the frame of its
--- last bit, in order, and nothing else, where no traffic channel has the channel's row.
+-- If no traffic channel has a channel's row, a handset receives exactly the channel's whole pages
+-- after its mark, in order, each when it knows the frame of its last bit.
 abbrev pub PagesComeBack : Type 0
 PagesComeBack = (width : Width) (plan : CellPlan) (sync : SyncPlan) (t : Tuning) (channel : ℕ)
     (m : Mark) (superframes : ℕ) →

@@ -8,12 +8,12 @@ use Rattle.std.specs.Prelude.{None}
 use Rattle.clean_frames.specs.WholePages.{KnownPage, pages_sent, cycle_half_frames}
 use Rattle.clean_frames.specs.WholePages.{sendings_between, whole_page_sendings}
 
--- nine octets with a message type
+-- a page whose capsule has nine octets, with this message type
 page : Bool → ℕ → Page
 page follows kind = record { follows = follows; body = binary 8 kind ++ replicate 26 false }
 
--- so much of a cell with paging channel 1, whose cycle has three half-frames: a run of two pages
--- lies in the first two, and a third page in the last
+-- `samples` samples of a cell with paging channel 1, whose cycle has three half-frames: a run of
+-- two pages lies in the first two, and a third page in the last
 cell : ℕ → CellPlan
 cell samples = cell_with 0 samples Plain None (record {
   number = 1;
@@ -21,15 +21,15 @@ cell samples = cell_with 0 samples Plain None (record {
   pages = page false 20 ∷ page true 21 ∷ page false 22 ∷ [];
 } ∷ []) []
 
--- when the pages after superframe 8 are known, and their message types
+-- the numbers of samples at which the pages after superframe 8 are known, and their message types
 heard : ℕ → ℕ → List (ℕ × ℕ)
 heard samples channel =
     map (λ (known : KnownPage). (known.at, number_at 8 8 known.capsule))
     (pages_sent (cell samples) channel 786432)
 
 -- The mark lies after the first half-frame of a round, so that round's run isn't whole. The file
--- ends with three frames after the mark. With one sample less the last frame isn't whole. A mark
--- may lie after the file, and a channel that isn't sent has no pages.
+-- ends three frames after the mark; if it is one sample shorter, the last frame isn't whole. There
+-- are no pages if the mark lies after the file, or on a channel that isn't sent.
 three_frames : (heard 860160 1 ≡
     (835584, 22) ∷ (860160, 20) ∷ (860160, 21) ∷ (860160, 22) ∷ (860160, 20) ∷ [])
     × (heard 860159 1 ≡ (835584, 22) ∷ (835584, 20) ∷ (835584, 21) ∷ [])
@@ -40,7 +40,7 @@ three_frames = (refl, refl, refl, refl)
 
 -- ---- a cycle of pages
 
--- The second page follows the first, 48 and 56 bits in two half-frames, and the third begins a run
+-- The second page follows the first: 48 and 56 bits in two half-frames. The third page begins a run
 -- of its own in a third one.
 pages : List Page
 pages =
@@ -58,9 +58,9 @@ second = capsule M30 Plain (replicate 18 false)
 third : List Bool
 third = capsule M30 Plain (replicate 10 false)
 
--- From frame 1 on, half-frame 2: the third page ends there, and then the next round begins in
--- half-frame 3. In frame 2 alone the run that began in half-frame 3 isn't heard. A file ends with
--- frame 2, or one chip before its end.
+-- Frame 1 begins with half-frame 2: the third page ends there, and then the next round begins in
+-- half-frame 3. In frame 2 by itself, the run that began in half-frame 3 isn't received. The file
+-- ends with frame 2, or one chip before its end.
 three_half_frames : (cycle_half_frames R9600 Plain pages ≡ 3)
     × (sendings_between R9600 Plain pages 1 2 3
     ≡ (0, third) ∷ (0, first) ∷ (1, second) ∷ (1, third) ∷ [])

@@ -1,5 +1,5 @@
--- What a file of any origin gives back of a traffic channel of either rate set, whose frames are
--- received of the reference base station alone.
+-- What comes back of a traffic channel of either rate set in a file of any origin, if its frames
+-- are received only from the reference base station.
 use Rattle.clean_link.specs.Common.{codeword_symbols, traffic_channel, received_frames, SetTwoFrame}
 use Rattle.clean_link.specs.Common.{IsDistinctFrame, frame_codeword2, frame_codeword, IsSetTwoFrame}
 use Rattle.clean_link.specs.Common.{IsSetOneFrame, soft_strength, ShowPowerBits, cycled_frame, Data}
@@ -32,9 +32,9 @@ SetTwoSends = (plan : CellPlan) (p : TrafficPlan) (frame : ℕ) (f : SetTwoFrame
 
 -- ---- what is received
 
--- The frames that are received are, in order, one for each frame of the channel that begins at the
--- mark or after it and lies in the file: each superframe has four. So it is in any file that is as
--- long as the cell's, whatever its samples are.
+-- One frame is received, in order, for each frame of the channel that begins at the mark or after
+-- it and lies in the file: each superframe has four. This holds in any file that is as long as the
+-- cell's, whatever its samples are.
 abbrev pub EachFrameIsReceived : Type 0
 EachFrameIsReceived = (width : Width) (plan : CellPlan) (p : TrafficPlan) (t : Tuning)
     (traffic : Traffic) (m : Mark) (superframes : ℕ) (samples : List Sample) →
@@ -43,7 +43,7 @@ EachFrameIsReceived = (width : Width) (plan : CellPlan) (p : TrafficPlan) (t : T
     map (λ frame. soft_frame t (traffic_channel traffic) m samples (frame - 4 * superframes))
     (received_frames plan p (plan.link.start + m.sample))
 
--- Each of them shows what it sends, whatever that is.
+-- On a clean link each of them shows what it sends, whatever that is.
 abbrev pub FramesShowSymbols : Type 0
 FramesShowSymbols = (width : Width) (plan : CellPlan) (p : TrafficPlan) (t : Tuning)
     (traffic : Traffic) (m : Mark) (superframes frame : ℕ) (symbols power_bits : List Bool) →
@@ -72,8 +72,8 @@ SetTwoFramesComeBack = (plan : CellPlan) (p : TrafficPlan) (frame : ℕ) (f : Se
 
 -- ---- any frame
 
--- What is received of frame `frame` of a channel, where it sends these symbols and these power
--- control bits: it ends at its own end, its power control bits are the sent ones, and its
+-- The soft frame of frame `frame` of a channel, which sends these symbols and these power control
+-- bits: it ends at the frame's own end, its power control bits are the sent ones, and its
 -- descrambled soft values have the signs of the symbols at the places that those bits leave.
 abbrev pub IsReceivedBySigns : CellPlan → TrafficPlan → ℕ → List Bool → List Bool → SoftFrame →
     Type 0
@@ -95,8 +95,8 @@ SignedFramesAreReceived = (width : Width) (plan : CellPlan) (p : TrafficPlan) (t
     × HavePowerSigns (replaced_of plan p frame) power_bits
     (raw_at t (traffic_channel traffic) m samples (frame - 4 * superframes))
 
--- Of all codewords of every rate the one that a distinct frame of rate set 1 sends alone has the
--- greatest score,
+-- Only the codeword that a distinct frame of rate set 1 sends has the greatest score of all
+-- codewords of every rate.
 abbrev pub ReceivedAreTheOnlyBest : Type 0
 ReceivedAreTheOnlyBest = (plan : CellPlan) (p : TrafficPlan) (frame : ℕ) (f : SetOneFrame)
     (soft : SoftFrame) → IsSetOneFrame f →
@@ -107,7 +107,7 @@ ReceivedAreTheOnlyBest = (plan : CellPlan) (p : TrafficPlan) (frame : ℕ) (f : 
 
 -- ---- frames of rate set 2
 
--- and so has the one that a distinct frame of rate set 2 sends.
+-- The same holds for a distinct frame of rate set 2.
 abbrev pub SetTwoAreTheOnlyBest : Type 0
 SetTwoAreTheOnlyBest = (plan : CellPlan) (p : TrafficPlan) (frame : ℕ) (f : SetTwoFrame)
     (soft : SoftFrame) → IsSetTwoFrame f →
@@ -116,13 +116,13 @@ SetTwoAreTheOnlyBest = (plan : CellPlan) (p : TrafficPlan) (frame : ℕ) (f : Se
     IsOnlyBestFrame2 (replaced_of plan p frame) soft.descrambled f.rate
     (frame_codeword2 f.rate f.information)
 
--- What is decoded of a frame that comes back: its rate and its information bits, as a good frame,
--- with any score.
+-- The decoding of a frame that comes back: its rate and its information bits, as a good frame, with
+-- any score.
 pub record IsDecodedAs2 (f : SetTwoFrame) (decoded : Decoded2) : Type 0 where
   pub score : ℤ
   pub same : decoded ≡ good_frame2 f.rate f.information score
 
--- What is received of frame `frame`, which is this one: where it is distinct, it is decoded so.
+-- The soft frame of frame `frame`, which is f: if it is distinct, it is decoded so.
 pub record IsSentFrame2BySigns (plan : CellPlan) (p : TrafficPlan) (frame : ℕ)
     (f : SetTwoFrame) (soft : SoftFrame) : Type 0 where
   pub received : IsReceivedBySigns plan p frame (codeword_symbols2 f) f.power_bits soft
@@ -138,7 +138,7 @@ SignedSetTwoFramesComeBack = (plan : CellPlan) (p : TrafficPlan) (frame : ℕ) (
 
 -- ---- in a file
 
--- What holds of the frames that are received from the cell's mark on, in a file as long as the
+-- P holds for the frames that are received from the cell's mark on, in a file as long as the
 -- cell's.
 abbrev pub HoldsAfterMark : (CellPlan → TrafficPlan → Option ℕ → List Sample → List SoftFrame →
     Type 0) → Type 0
@@ -148,8 +148,8 @@ HoldsAfterMark P = (width : Width) (plan : CellPlan) (p : TrafficPlan) (t : Tuni
     Contains plan.traffic p → IsAssigned p traffic → MarkIsAt plan (Some m) at →
     P plan p at samples (soft_frames t (traffic_channel traffic) m samples)
 
--- They are only the channel's frames that begin there or later and lie in the file, in order, and
--- each with the sent signs shows what it sends.
+-- They are exactly the channel's frames that begin there or later and lie in the file, in order,
+-- and each one with the sent signs shows what it sends.
 abbrev pub FramesAfterMark : Type 0
 FramesAfterMark = HoldsAfterMark (λ plan p at samples frames.
     AreReceivedFrom plan p at
@@ -157,9 +157,8 @@ FramesAfterMark = HoldsAfterMark (λ plan p at samples frames.
     SendsSymbols plan p frame symbols power_bits →
     IsReceivedBySigns plan p frame symbols power_bits soft) frames)
 
--- If the channel's frames are of rate set 2, each with the sent signs is one that was sent, with
--- its power control bits, and if it is distinct, with its rate and its information bits, as a good
--- frame.
+-- If the channel's frames are of rate set 2, each one with the sent signs comes back with its power
+-- control bits and, if it is distinct, with its rate and its information bits, as a good frame.
 abbrev pub SetTwoAfterMark : Type 0
 SetTwoAfterMark = HoldsAfterMark (λ plan p at samples frames. SendsSetTwo p →
     AreReceivedFrom plan p at

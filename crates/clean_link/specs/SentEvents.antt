@@ -1,4 +1,4 @@
--- All that a handset hears of a clean link's cell, in the order in which it is known.
+-- Everything that a handset receives from a clean link's cell, in the order in which it is known.
 use Rattle.clean_link.specs.Common.{superframe_chips, places, Width, made_samples, phase_at, events}
 use Rattle.clean_link.specs.Common.{CellPlan, SyncPlan, TrafficPlan, at_of, Tuning, Event, Paging}
 use Rattle.clean_link.specs.Common.{Pilot, Traffic, IsReceivable, Sample, mark, frames_at, sets_at}
@@ -12,22 +12,22 @@ use Rattle.clean_link.specs.HeardFrames.{frames_sent, messages_sent}
 use Rattle.clean_link.specs.SentSigns.{FromMark, HasSyncSigns, TrafficFrameHasSigns}
 use Rattle.clean_frames.specs.WholePages.{KnownPage, pages_sent}
 
--- those of the paging channel that end when just n samples have been taken
+-- the events of the paging channel that end when exactly n samples have been taken
 unfoldable pub paging_events_at : Tuning → List Sample → ℕ → List Event
 paging_events_at t samples n =
     map (page_event n) (pages_if_marked t t.paging (mark t samples n) samples n)
 
--- those of the traffic channel's frames
+-- the events of the traffic channel's frames at n samples
 unfoldable pub frame_events_at : Tuning → List Sample → ℕ → List Event
 frame_events_at t samples n =
     if_followed (λ traffic m. frames_at t traffic m samples n) t.traffic (mark t samples n)
 
--- and of the messages that these frames complete
+-- the events of the messages that these frames complete
 unfoldable pub message_events_at : Tuning → List Sample → ℕ → List Event
 message_events_at t samples n =
     if_followed (λ traffic m. messages_at t traffic m samples n) t.traffic (mark t samples n)
 
--- and that of the pilot sets
+-- the event of the pilot sets at n samples
 unfoldable pub sets_events_at : Tuning → List Sample → ℕ → List Event
 sets_events_at t samples n =
     if_followed (λ traffic m. sets_at t traffic m samples n) t.traffic (mark t samples n)
@@ -44,7 +44,7 @@ pages_after_mark plan channel None = []
 pages_after_mark plan channel (Some superframes) =
     map known_event (pages_sent plan channel (superframe_chips * superframes))
 
--- with the values 2 and 3 of PRAT no paging channel is heard
+-- these events, or none if the cell sends no sync channel or its PRAT is 2 or 3
 abbrev pub pages_after : CellPlan → ℕ → Option ℕ → Option SyncPlan → List Event
 pages_after plan channel at None = []
 pages_after plan channel at (Some sync) =
@@ -73,8 +73,8 @@ unfoldable pub signaling_sent : CellPlan → Option Traffic → List Event
 signaling_sent plan followed =
     told_followed (messages_sent plan) followed (told_with_sync plan plan.sync)
 
--- A channel that a handset follows is one of the cell's, of rate set 1, and each of its frames from
--- the mark on that lies in the file is distinct.
+-- The followed channel is one of the cell's, of rate set 1, and each of its frames from the mark on
+-- that lies in the file is distinct.
 pub record IsFollowed (plan : CellPlan) (traffic : Traffic) (p : TrafficPlan) : Type 0 where
   pub sent : Contains plan.traffic p
   pub assigned : IsAssigned p traffic
@@ -82,15 +82,15 @@ pub record IsFollowed (plan : CellPlan) (traffic : Traffic) (p : TrafficPlan) : 
   pub distinct : (superframes : ℕ) → told_with_sync plan plan.sync ≡ Some superframes →
       AreDistinct plan p (superframe_chips * superframes)
 
--- a handset follows no traffic channel, or one of which that is so
+-- a handset follows no traffic channel, or one that satisfies `IsFollowed`
 abbrev pub FollowsSent : CellPlan → Option Traffic → Type 0
 FollowsSent plan None = Unit {0}
 FollowsSent plan (Some traffic) = (p : TrafficPlan) × IsFollowed plan traffic p
 
 -- ---- the pilot sets
 
--- Those of the pilot sets are those of the handset's definition, at each number of samples: the
--- strengths that it measures are as the cell's samples show them.
+-- The events of the pilot sets are those of the handset's definition, at each number of samples,
+-- with the strengths that it measures in the cell's samples.
 unfoldable pub sets_heard : CellPlan → ℕ → ℕ → Option Traffic → List Event
 sets_heard plan energy channel followed =
     flat_map (sets_events_at (tuning_to plan energy channel followed) (made_samples plan))
@@ -101,15 +101,15 @@ sets_heard plan energy channel followed =
 abbrev pub is_at : ℕ → Event → Bool
 is_at n event = at_of event == n
 
--- Events by the number of samples at which they are known, up to n samples; at one number those of
--- the first list come first.
+-- Events by the number of samples at which they are known, up to `count` samples. At the same
+-- number, those of the first list come first.
 abbrev pub by_places : ℕ → List Event → List Event → List Event
 by_places count one other =
     flat_map (λ n. filter (is_at n) one ++ filter (is_at n) other) (places (count + 1))
 
 -- The pilot at the cell's phase, where the search found this energy; then the whole transmissions,
--- the whole pages of a paging channel, the frames of the traffic channel that is followed with the
--- messages that they complete, and the events of its pilot sets.
+-- the whole pages of a paging channel, the frames of the followed traffic channel with the messages
+-- that they complete, and the events of its pilot sets.
 unfoldable pub sent_events : CellPlan → ℕ → ℕ → Option Traffic → List Event
 sent_events plan energy channel followed =
     let count = plan.link.samples in
@@ -121,22 +121,22 @@ sent_events plan energy channel followed =
 
 -- ---- the laws
 
--- A handset follows no traffic channel, or one each of whose frames from the mark on has the sent
--- signs.
+-- If a handset follows a traffic channel, each of that channel's frames from the mark on has the
+-- sent signs.
 abbrev pub FollowedHaveSigns : CellPlan → List Sample → Option Traffic → Type 0
 FollowedHaveSigns plan samples followed = (p : TrafficPlan) (traffic : Traffic) →
     followed ≡ Some traffic → Contains plan.traffic p → IsAssigned p traffic →
     FromMark (TrafficFrameHasSigns plan p samples) (told_with_sync plan plan.sync)
 
--- No event directs a handoff if no message that the followed channel is sent directs one, or no
--- channel is followed.
+-- No event directs a handoff if no message that is sent on the followed channel directs one, or if
+-- no channel is followed.
 abbrev pub NoEventIsDirected : Type 0
 NoEventIsDirected = (width : Width) (plan : CellPlan) (samples : List Sample) (t : Tuning) →
     HasSyncSigns width plan samples → IsOnPath plan t → FollowsSent plan t.traffic →
     FollowedHaveSigns plan samples t.traffic → All IsNotDirected (signaling_sent plan t.traffic) →
     All IsNotDirected (events t samples)
 
--- Where no handoff is directed, a handset hears just these, in this order.
+-- If no handoff is directed, a handset receives exactly these events, in this order.
 abbrev pub WholeMessagesComeBack : Type 0
 WholeMessagesComeBack = (width : Width) (plan : CellPlan) (t : Tuning) →
     IsReceivable width plan → IsTunedToPlan plan t → FollowsSent plan t.traffic →

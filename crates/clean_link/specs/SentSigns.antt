@@ -14,28 +14,28 @@ use Rattle.rake_finger.specs.declared.form.Form.TheVariants.{Sync}
 -- If frame `frame` of a channel lies in the file, its soft values have the signs of the symbols
 -- that the channel sends in it, and none is 0. They are the values that one finger on the cell's
 -- path finds on the channel's row, not descrambled. A traffic frame's symbols are those that are
--- sent, power control bits among them. Nothing else is asked of the samples, so they may contain
+-- sent, including power control bits. Nothing else is required of the samples, so they may contain
 -- any noise and any other channels, cells and paths.
 abbrev pub FrameHasSigns : CellPlan → Carrier → Form → List Sample → ℕ → Type 0
 FrameHasSigns plan c form samples frame = (u : ℕ) → IsFrameOf plan c form u frame →
     length (c.symbols frame) ≡ symbols form →
     HaveSigns (c.symbols frame) (softs samples (path_finger plan c.row ∷ []) form u)
 
--- each frame of the sync channel
+-- each frame of the sync channel has the sent signs
 abbrev pub SyncHasSigns : CellPlan → SyncPlan → List Sample → Type 0
 SyncHasSigns plan sync samples =
     (frame : ℕ) → FrameHasSigns plan (sync_carrier plan sync) Sync samples frame
 
--- a paging channel's frames have 24,576 chips from local chip 0 on, so four are a superframe
+-- a paging channel's frames have 24,576 chips from local chip 0 on, so four make a superframe
 abbrev pub PagingFrameHasSigns : CellPlan → PagingPlan → List Sample → ℕ → Type 0
 PagingFrameHasSigns plan p samples = FrameHasSigns plan (paging_carrier plan p) Data samples
 
--- and so are four of a traffic channel's
+-- so do four of a traffic channel's frames
 abbrev pub TrafficFrameHasSigns : CellPlan → TrafficPlan → List Sample → ℕ → Type 0
 TrafficFrameHasSigns plan p samples = FrameHasSigns plan (traffic_carrier plan p) Data samples
 
--- Something holds of each frame from a mark on, if one is set. Its place is counted in superframes
--- after local chip 0, of which each has four frames.
+-- A condition holds for each frame from the mark on, if one is set. The mark's place is counted in
+-- superframes after local chip 0; each of them has four frames.
 abbrev pub FromMark : (ℕ → Type 0) → Option ℕ → Type 0
 FromMark Is at = (superframes k : ℕ) → at ≡ Some superframes → Is (4 * superframes + k)
 
@@ -59,7 +59,7 @@ pub record IsCellMark (plan : CellPlan) (m : Mark) (superframes : ℕ) : Type 0 
   pub sends : plan.sync ≡ Some sync
   pub rate : m.prat ≡ sync.message.prat
 
--- A mark that may be set is the cell's, this many superframes after local chip 0.
+-- If a mark is set, it is the cell's, this many superframes after local chip 0.
 abbrev pub MarkIsAt : CellPlan → Option Mark → Option ℕ → Type 0
 MarkIsAt plan None at = at ≡ None
 MarkIsAt plan (Some m) at =

@@ -21,7 +21,7 @@ message = record {
 spelled : List Bool
 spelled = traffic_capsule Complemented message
 
--- a frame with 80 bits of primary traffic and 88 of signaling, of which the first tells whether a
+-- a frame with 80 bits of primary traffic and 88 of signaling, the first of which says whether a
 -- message begins there
 signaling : Bool → List Bool → SetOneFrame
 signaling starts part = record {
@@ -30,7 +30,7 @@ signaling starts part = record {
   power_bits = [];
 }
 
--- a frame without any
+-- a frame without signaling
 slow : SetOneFrame
 slow = record { rate = R1200; information = replicate 16 true; power_bits = [] }
 
@@ -42,13 +42,13 @@ frames =
     ∷ signaling false (drop 87 spelled ++ replicate 54 false)
     ∷ []
 
--- so much of a cell with this channel
+-- `samples` samples of a cell with this channel
 cell : ℕ → CellPlan
 cell samples = cell_of_frames 0 samples Complemented frames
 
--- After superframe 8 the message begins in frame 33 and ends in frame 35, at that frame's end. With
--- one sample less its last frame isn't in the file, and a mark may lie after the beginning of its
--- first frame.
+-- After superframe 8 the message begins in frame 33 and ends in frame 35, at that frame's end. It
+-- is lost if the file is one sample shorter, or if the mark lies after the beginning of its first
+-- frame.
 in_two_frames : (messages_sent (cell 887808) 9 786432 ≡ Traffic 887808 spelled message ∷ [])
     × (messages_sent (cell 887807) 9 786432 ≡ []) × (messages_sent (cell 887808) 9 814081 ≡ [])
 unfolding cell frames slow signaling spelled message messages_sent split split_9600 capsule_ending

@@ -1,5 +1,5 @@
--- What a file of any origin gives back of a traffic channel after a true mark, by the signs of its
--- soft values, and what those of a clean link are (TIA/EIA-95-B, 7.1.3.5).
+-- What comes back of a traffic channel after a true mark in a file of any origin, by the signs of
+-- its soft values, and the soft values on a clean link (TIA/EIA-95-B, 7.1.3.5).
 use Rattle.clean_link.specs.Common.{places, Sample, Width, kept_count, ShowSymbols, Data, frames_of}
 use Rattle.clean_link.specs.Common.{made_samples, cycled_frame, CellPlan, TrafficPlan, SetOneFrame}
 use Rattle.clean_link.specs.Common.{frames_at, legs_at, messages_at, frame_softs, power_bits_at}
@@ -27,9 +27,9 @@ pub record HearsSentTraffic (width : Width) (plan : CellPlan) (p : TrafficPlan) 
   pub tuned : IsOnPath plan t
   pub marked : IsTrueMark plan m superframes
 
--- Frame k after the mark is heard from the reference's pilot alone, lies in the file, and is this
--- one, which the channel sends k frames after the first that begins at the mark's superframe or
--- later: each superframe has four.
+-- Frame k after the mark is heard only from the reference's pilot, lies in the file, and is frame
+-- f. The channel sends it k frames after the first that begins at the mark's superframe or later;
+-- each superframe has four.
 pub record IsHeardAs (plan : CellPlan) (p : TrafficPlan) (t : Tuning) (traffic : Traffic)
     (m : Mark) (legs : ℕ → List Leg) (superframes k : ℕ) (f : SetOneFrame) : Type 0 where
   pub pilot : IsOnePilot traffic (legs k)
@@ -43,15 +43,15 @@ abbrev pub IsUndirected : Tuning → Traffic → Mark → List Sample → ℕ �
 IsUndirected t traffic m samples n =
     (i : ℕ) → i ≤ n → All IsNotDirected (messages_at t traffic m samples i)
 
--- Where that is so of any file, each frame is heard from the reference's pilot alone: a direction
--- never waits, and everything else that is received keeps the active set.
+-- If no message directs a handoff, in any file, each frame is heard only from the reference's
+-- pilot: a direction never waits, and everything else that is received keeps the active set.
 abbrev pub OnePilotIsHeard : Type 0
 OnePilotIsHeard = (t : Tuning) (traffic : Traffic) (m : Mark) (samples : List Sample) (n k : ℕ) →
     IsUndirected t traffic m samples n → IsOnePilot traffic (legs_at t traffic m samples n k)
 
 -- ---- soft values
 
--- Something holds of each frame of a clean link that is heard so.
+-- P holds for each frame of a clean link that is heard so.
 abbrev pub HoldsOfCleanFrames : (CellPlan → TrafficPlan → Tuning → Traffic → Mark →
     (ℕ → List Leg) → ℕ → SetOneFrame → Type 0) → Type 0
 HoldsOfCleanFrames P = (width : Width) (plan : CellPlan) (p : TrafficPlan) (t : Tuning)
@@ -61,7 +61,7 @@ HoldsOfCleanFrames P = (width : Width) (plan : CellPlan) (p : TrafficPlan) (t : 
 
 -- At the places that no power control bit replaces, the soft values of a frame, turned by its
 -- scrambling, are one positive number times the signs of its symbols before scrambling. At the
--- others, raw, they are that number times the signs of the power control bits.
+-- other places, the raw soft values are that number times the signs of the power control bits.
 abbrev pub TrafficHaveSentSigns : Type 0
 TrafficHaveSentSigns = HoldsOfCleanFrames (λ plan p t traffic m legs k f.
     (0 < soft_strength plan Data p.gain)
@@ -72,8 +72,8 @@ TrafficHaveSentSigns = HoldsOfCleanFrames (λ plan p t traffic m legs k f.
 
 -- ---- frames
 
--- Where no other codeword shares its symbols, it is decoded with its rate and its information bits,
--- and is good.
+-- If no other codeword shares its symbols, it is decoded as a good frame, with its rate and its
+-- information bits.
 abbrev pub TrafficFramesComeBack : Type 0
 TrafficFramesComeBack = HoldsOfCleanFrames (λ plan p t traffic m legs k f.
     IsDistinctFrame (replaced_in traffic m k) f →
@@ -91,9 +91,9 @@ SixteenPowerBitsAreSent =
 
 -- ---- in a file
 
--- Where no handoff is directed there is one event for each frame of the channel that begins at the
--- mark or after it and lies in the file, at the frame's own end, in order. It is the case of any
--- pilots in which the reference's is the only one. So it is in any file as long as the cell's.
+-- If no handoff is directed, there is one event, in order, for each frame of the channel that
+-- begins at the mark or after it and lies in the file, at the frame's own end. It is the event for
+-- any legs with only the reference's pilot. This holds in any file as long as the cell's.
 abbrev pub EachFrameIsHeard : Type 0
 EachFrameIsHeard = (width : Width) (plan : CellPlan) (p : TrafficPlan) (t : Tuning)
     (traffic : Traffic) (m : Mark) (superframes : ℕ) (legs : ℕ → List Leg)
@@ -106,7 +106,7 @@ EachFrameIsHeard = (width : Width) (plan : CellPlan) (p : TrafficPlan) (t : Tuni
     (frame - 4 * superframes))
     (received_frames plan p (plan.link.start + m.sample))
 
--- What holds of every channel with frames of rate set 1, if each frame from the mark on is distinct
+-- P holds for every channel with frames of rate set 1, if each frame from the mark on is distinct
 -- and has the sent signs.
 abbrev pub HoldsOfDistinct : (CellPlan → TrafficPlan → Tuning → Traffic → Mark → List Sample →
     Type 0) → Type 0
@@ -116,22 +116,22 @@ HoldsOfDistinct P = (width : Width) (plan : CellPlan) (p : TrafficPlan) (t : Tun
     ((k : ℕ) → TrafficFrameHasSigns plan p samples (4 * superframes + k)) → SendsSetOne p →
     AreDistinct plan p (plan.link.start + m.sample) → P plan p t traffic m samples
 
--- If no handoff is directed, they are the frames that were sent, and nothing else.
+-- If no handoff is directed, exactly the frames that were sent are received.
 abbrev pub SentFramesComeBack : Type 0
 SentFramesComeBack = HoldsOfDistinct (λ plan p t traffic m samples.
     IsUndirected t traffic m samples plan.link.samples →
     flat_map (frames_at t traffic m samples) (places (plan.link.samples + 1)) ≡
     frames_of_channel plan p (plan.link.start + m.sample))
 
--- So are the messages those that the signaling in these frames spells.
+-- The messages are then exactly those that the signaling in these frames spells.
 abbrev pub SentMessagesComeBack : Type 0
 SentMessagesComeBack = HoldsOfDistinct (λ plan p t traffic m samples.
     IsUndirected t traffic m samples plan.link.samples →
     flat_map (messages_at t traffic m samples) (places (plan.link.samples + 1)) ≡
     messages_of_channel plan p (plan.link.start + m.sample))
 
--- No handoff is directed, if none of the messages that the signaling in these frames spells, as
--- they are sent, directs one.
+-- No handoff is directed if none of the messages that the signaling in these frames spells, as they
+-- are sent, directs one.
 abbrev pub NoneIsDirected : Type 0
 NoneIsDirected = HoldsOfDistinct (λ plan p t traffic m samples.
     All IsNotDirected (messages_of_channel plan p (plan.link.start + m.sample)) →
@@ -145,9 +145,9 @@ pub record IsDecodedAs (f : SetOneFrame) (decoded : Decoded) : Type 0 where
   pub score : ℤ
   pub same : decoded ≡ record { rate = f.rate; good = true; bits = f.information; score = score }
 
--- There are as many samples as the cell's. Of each frame that is heard from the reference's pilot
--- alone the power control bits come back, and so do its rate and its information bits where it is
--- distinct.
+-- There are as many samples as the cell's. Each frame that is heard only from the reference's pilot
+-- comes back with its power control bits and, if it is distinct, with its rate and its information
+-- bits.
 pub record ShowsTraffic (plan : CellPlan) (p : TrafficPlan) (t : Tuning) (traffic : Traffic)
     (m : Mark) (superframes : ℕ) (samples : List Sample) : Type 0 where
   pub long : length samples ≡ plan.link.samples
@@ -166,8 +166,8 @@ pub record ShowsTraffic (plan : CellPlan) (p : TrafficPlan) (t : Tuning) (traffi
 abbrev pub kept_score : {R : Type 0} → List ℕ → List ℤ → FrameFormat R → Codeword → ℤ
 kept_score replaced softs format w = score_in (unreplaced replaced softs) format w
 
--- Of the rates of a set, which have these formats: a codeword of one, such that every other
--- codeword of any of them, its quality indicator right or not, has a lesser score.
+-- A codeword of one of a set's rates, which have these formats. Every other codeword of any of
+-- these rates, its quality indicator right or not, has a lesser score.
 pub record IsOnlyBestIn {R : Type 0} (format_of : R → FrameFormat R) (replaced : List ℕ)
     (softs : List ℤ) (rate : R) (best : Codeword) : Type 0 where
   pub allowed : IsAllowed Zero (bits_in (format_of rate)) best
@@ -183,8 +183,8 @@ IsOnlyBestFrame2 = IsOnlyBestIn second.format_of2
 
 -- ---- a frame with the sent signs
 
--- At each place of a frame that a power control bit replaces, the bit of the place's group of 24
--- and the soft value stand in a relation.
+-- At each place of a frame that a power control bit replaces, the soft value is related to the bit
+-- of the place's group of 24.
 abbrev pub ArePowered : (Bool → ℤ → Type 0) → List ℕ → List Bool → List ℤ → Type 0
 ArePowered Related replaced power_bits softs =
     (i : ℕ) → i < 384 → is_replaced replaced i ≡ true →
@@ -200,9 +200,9 @@ pub record NoisyFrame (replaced : List ℕ) (symbols : List Bool) (softs : List 
   pub long : length softs ≡ 384
   pub keeps : KeepSigns replaced symbols softs
 
--- ---- a frame that is heard from the reference's pilot alone
+-- ---- a frame that is heard only from the reference's pilot
 
--- Something holds of each such frame with the sent signs, whatever the other frames are.
+-- P holds for each such frame with the sent signs, whatever the other frames are.
 abbrev pub HoldsOfHeardFrames : (Tuning → Traffic → Mark → (ℕ → List Leg) → ℕ → SetOneFrame →
     List Sample → Type 0) → Type 0
 HoldsOfHeardFrames P = (width : Width) (plan : CellPlan) (p : TrafficPlan) (t : Tuning)
@@ -227,7 +227,7 @@ abbrev pub PowerBitsComeBack : Type 0
 PowerBitsComeBack = HoldsOfHeardFrames (λ t traffic m legs k f samples.
     power_bits_at t traffic m legs samples k ≡ sent_power_bits f)
 
--- Where no other codeword shares its symbols, its codeword alone has the greatest score of all
+-- If no other codeword shares its symbols, only its codeword has the greatest score of all
 -- codewords of every rate.
 abbrev pub HeardAreTheOnlyBest : Type 0
 HeardAreTheOnlyBest = HoldsOfHeardFrames (λ t traffic m legs k f samples.
@@ -236,7 +236,7 @@ HeardAreTheOnlyBest = HoldsOfHeardFrames (λ t traffic m legs k f samples.
     (frame_softs samples (stream_of t traffic m legs k) k) f.rate
     (frame_codeword f.rate f.information))
 
--- There it is decoded with its rate and its information bits, and is good.
+-- Such a frame is decoded as a good frame, with its rate and its information bits.
 abbrev pub SignedFramesAreDecoded : Type 0
 SignedFramesAreDecoded = HoldsOfHeardFrames (λ t traffic m legs k f samples.
     IsDistinctFrame (replaced_in traffic m k) f →

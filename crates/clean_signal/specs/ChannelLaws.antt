@@ -1,5 +1,5 @@
--- The soft values of any channel that is sent over a clean link, to any stream that hears it, and
--- the codewords that they show.
+-- The soft values that any stream receives from any channel sent over a clean link, and the
+-- codewords that they show.
 use Rattle.clean_signal.specs.Common.{frame_chips, softs, symbols, Form, sent, signed, Width}
 use Rattle.clean_signal.specs.Common.{made_samples, continued_symbols, Carrier, carriers, CellPlan}
 use Rattle.clean_signal.specs.Common.{frame_softs, is_in_file, span_first, span_frames, StreamOf}
@@ -20,7 +20,7 @@ ChannelsHaveSentSigns = (width : Width) (plan : CellPlan) (c : Carrier) (form : 
     softs (made_samples plan) (path_finger plan c.row ∷ []) form u ≡
     signed (soft_strength plan form c.gain) (c.symbols frame)
 
--- They are 0 on a row that no channel has,
+-- The soft values are 0 on a row that no channel has.
 abbrev pub SilentRowsAreZero : Type 0
 SilentRowsAreZero = (width : Width) (plan : CellPlan) (row : ℕ) (form : Form) (u : ℕ) →
     IsReceivable width plan → row < 64 → All (λ (c : Carrier). c.row ≢ row) (carriers plan) →
@@ -28,7 +28,7 @@ SilentRowsAreZero = (width : Width) (plan : CellPlan) (row : ℕ) (form : Form) 
     softs (made_samples plan) (path_finger plan row ∷ []) form u ≡
     replicate (symbols form) (pos 0)
 
--- and on the row of a channel before its first frame.
+-- They are 0 on the row of a channel before its first frame.
 abbrev pub EarlyFramesAreZero : Type 0
 EarlyFramesAreZero = (width : Width) (plan : CellPlan) (c : Carrier) (form : Form) (u : ℕ) →
     IsReceivable width plan → Contains (carriers plan) c → IsFrameAt plan form u →
@@ -47,12 +47,12 @@ StreamsShowSymbols = (width : Width) (plan : CellPlan) (c : Carrier) (s : Stream
     signed (soft_strength plan s.form c.gain)
     (sent s.channel.shape s.channel.repeats (continued_symbols bits_of (base + k)))
 
--- That number is above 0 where the channel's gain is.
+-- That number is above 0 if the channel's gain is.
 abbrev pub StrengthsArePositive : Type 0
 StrengthsArePositive = (width : Width) (plan : CellPlan) (form : Form) (gain : ℕ) →
     IsReceivable width plan → 0 < gain → 0 < soft_strength plan form gain
 
--- Of all codewords of a frame's span, with any start bits, the sent one alone has the greatest
+-- Among all codewords of a frame's span, with any start bits, only the sent one has the greatest
 -- score.
 abbrev pub ChannelCodewordsAreTheOnlyBest : Type 0
 ChannelCodewordsAreTheOnlyBest = (width : Width) (plan : CellPlan) (c : Carrier)

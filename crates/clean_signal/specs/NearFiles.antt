@@ -1,5 +1,5 @@
--- A file that holds what one cell sends over one path, with noise of a bounded size, and what such
--- noise is: another path, and rounding.
+-- A file that holds what one cell sends over one path, with noise of a bounded size, and two kinds
+-- of such noise: another path, and rounding.
 use Rattle.clean_signal.specs.Common.{Sample, Width, Header, best_phase, made_samples, IsReceivable}
 use Rattle.clean_signal.specs.Common.{phase_at, CellPlan, gain_sum, scaled, LinkPlan}
 use Rattle.std.specs.Prelude.{◌≡◌, ℕ, ◌+◌, List, take, ◌*◌, ◌<◌, ◌≤◌, map, pos, unsigned_abs, ℤ}
@@ -9,8 +9,8 @@ use Rattle.clean_signal.specs.BoundedNoise.{IsNear, with_added}
 
 -- A file holds what a lawful cell sends, with noise of at most e in I and in Q of each sample: its
 -- flags are the cell's, its samples are near to the cell's, the search finds the cell's path, and
--- there is one finger. The link's delay is in the chip at which the file starts, its rotation and
--- strength are in the factor.
+-- there is one finger. The chip at which the file starts represents the link's delay, the factor
+-- its rotation and strength.
 pub record IsNearFile (e : ℕ) (width : Width) (plan : CellPlan) (span fingers : ℕ)
     (header : Header) (samples : List Sample) : Type 0 where
   pub receivable : IsReceivable width plan
@@ -26,7 +26,7 @@ IsPlanFile = IsNearFile 0
 
 -- ---- laws
 
--- Samples that are near to others within 0 are the others.
+-- Samples that differ from others by at most 0 are equal to them.
 abbrev pub NearWithinNoneIsSame : Type 0
 NearWithinNoneIsSame = (xs ys : List Sample) →
     (IsNear 0 xs ys → xs ≡ ys) × (xs ≡ ys → IsNear 0 xs ys)
@@ -53,14 +53,14 @@ OtherPathsAreNoise = (plan : CellPlan) (link : LinkPlan) (e : ℕ) →
 
 -- ---- a louder link
 
--- the same cell over a link whose factor is n times this one's
+-- the same cell over a link whose factor is d times as large
 abbrev pub louder : ℕ → CellPlan → CellPlan
 louder d plan = over_link (record plan.link { factor = scaled (pos d) plan.link.factor }) plan
 
 abbrev pub louder_sample : ℕ → Sample → Sample
 louder_sample d x = record { i = pos d *ℤ x.i; q = pos d *ℤ x.q }
 
--- It has as many times the cell's samples.
+-- Its samples are d times the cell's.
 abbrev pub LouderLinksAreLouder : Type 0
 LouderLinksAreLouder = (d : ℕ) (plan : CellPlan) →
     made_samples (louder d plan) ≡ map (louder_sample d) (made_samples plan)
@@ -80,10 +80,10 @@ pub record IsRoundedSample (d : ℕ) (x rounded : Sample) : Type 0 where
 abbrev pub AreRounded : ℕ → List Sample → List Sample → Type 0
 AreRounded d xs rounded = AllZip (IsRoundedSample d) xs rounded
 
--- Where samples differ by at most e times d from those of a cell over a link d times as strong, and
+-- If samples differ by at most e times d from those of a cell over a link d times as strong, and
 -- are divided by d and rounded, they differ by at most e from the cell's. So a file of 16 bits that
--- is brought to 8, by 256 times less strength, bears as much noise as the cell in 8 bits does,
--- times 256.
+-- is divided by 256 to make a file of 8 bits bears 256 times the noise that the cell bears in 8
+-- bits.
 abbrev pub RoundingIsNoise : Type 0
 RoundingIsNoise = (d e : ℕ) (plan : CellPlan) (samples rounded : List Sample) →
     IsNear (e * d) samples (made_samples (louder d plan)) → AreRounded d samples rounded →

@@ -1,9 +1,9 @@
--- Cells of which values are worked out.
+-- Cells for worked values.
 use Rattle.clean_signal.specs.Common.{CheckForm, Plain, SetOne, CellPlan, PagingPlan, SyncPlan}
 use Rattle.clean_signal.specs.Common.{TrafficPlan, SetOneFrame, planned}
 use Rattle.std.specs.Prelude.{ℕ, ◌^◌, pos, negsuc, List, [], ◌∷◌, map, Option, None}
 
--- so much of a cell, from a local chip on, with these channels, and this form of checks of 16 bits
+-- a cell with these channels and this form of 16-bit checks, and samples from local chip `start` on
 abbrev pub cell_with : ℕ → ℕ → CheckForm → Option SyncPlan → List PagingPlan → List TrafficPlan →
     CellPlan
 cell_with start samples check16 sync paging traffic = record {
@@ -15,7 +15,7 @@ cell_with start samples check16 sync paging traffic = record {
   traffic = traffic;
 }
 
--- one with a traffic channel alone, on row 9, 3,072 chips after the system's frames
+-- a cell with only a traffic channel, on row 9, 3,072 chips after the system's frames
 abbrev pub cell_of_frames : ℕ → ℕ → CheckForm → List SetOneFrame → CellPlan
 cell_of_frames start samples check16 frames = cell_with start samples check16 None [] (record {
   row = 9;

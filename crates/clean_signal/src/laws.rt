@@ -21,7 +21,7 @@ ghost use Rattle.clean_signal.specs.NoisySearch.{LouderPilotsBearNoise, SearchBe
 /// pilot and of the channel, and V and C the chips of a window and of a symbol: 1,024 and 256 on
 /// the sync channel, 1,536 and 64 on the others. They are 0 on a row that no channel has, and
 /// before the channel's first frame. Descrambled by a stream's scrambling, they show the symbols
-/// before it.
+/// before scrambling.
 pub fn channels_have_the_sent_signs()
     ensures channel { ChannelsHaveSentSigns }
     ensures silent { SilentRowsAreZero }
@@ -38,12 +38,12 @@ pub fn channel_codewords_are_the_only_best()
 
 /// A channel bears noise of size e if sixteen inequalities of the gains, the link and e hold. Then
 /// no noise that changes each sample of a file by at most e in I and by at most e in Q turns the
-/// sign of one of the channel's symbols. The sixteen are the corners of what such noise makes of
-/// the levels of pilot and channel, so they hold everywhere between. Over a link along one axis, a
-/// channel that is no louder than the pilot bears exactly the noise below its own amplitude. A
-/// channel also bears any lesser noise, and a louder channel bears what a weaker one does: the
-/// margin of several channels, the largest noise that all of them bear, is that of the smallest
-/// gain. Noise of size 0 is borne by each channel with a gain of a cell that can be received.
+/// sign of one of the channel's symbols. The sixteen are the corners of the region to which such
+/// noise can move the levels of pilot and channel, so they hold everywhere inside it. Over a link
+/// along one axis, a channel that is no louder than the pilot bears exactly the noise below its own
+/// amplitude. A channel also bears any smaller noise, and a louder channel bears what a weaker one
+/// does. So the margin of several channels, the largest noise that all of them bear, is that of the
+/// smallest gain. Each channel of a receivable cell bears noise of size 0 if its gain is above 0.
 /// Another cell, or another path, is noise of the size of its loudness.
 ///
 /// In a file with noise that it bears, each soft value of the channel's frames has the sign of the
@@ -62,22 +62,23 @@ pub fn bounded_noise()
     ensures codewords { NoisyCodewordsAreTheOnlyBest }
 {}
 
-/// The margin of a channel cannot be greater. Noise of the size of the channel's own amplitude can
-/// take the channel away: the cell's samples without it differ from those with it by no more, and
-/// each soft value of its frames is 0 in them. So over a link along one axis, for a channel that is
-/// no louder than the pilot, the margin is exact. The channel bears noise of a size if, and only
-/// if, the soft values of a frame have the sent signs in every file with noise of that size.
+/// The margin of a channel is limited by its own amplitude. Noise of that size can remove the
+/// channel: the cell's samples without it differ from those with it by no more, and each soft value
+/// of its frames is 0 in them. So over a link along one axis, for a channel that is no louder than
+/// the pilot, the margin is exact. The channel bears noise of a size if, and only if, the soft
+/// values of a frame have the sent signs in every file with noise of that size.
 pub fn margins_are_exact()
     ensures taken { ChannelsAreTakenAway }
     ensures exact { MarginsAreExact }
 {}
 
-/// Samples that are near to others within 0 are the others, and noise upon noise is noise of the
-/// sum of both sizes. A second path to the cell is noise, as another cell is: it differs by at most
-/// the sum of its link's absolute parts, times the sum of the cell's gains. So is rounding. Over a
-/// link d times as strong the cell's samples are d times as large; samples that differ from those
-/// by at most e times d, divided by d and rounded, up, down or to the nearest, differ from the
-/// cell's by at most e. A file of 16 bits can be brought to 8 so.
+/// Samples that differ from others by at most 0 are equal to them, and noise upon noise is noise of
+/// the sum of both sizes. A second path to the cell is noise, like another cell: its size is at
+/// most the sum of its link's absolute parts, times the sum of the cell's gains. Rounding is noise
+/// too. Over a link d times as strong, the cell's samples are d times as large. If samples differ
+/// from those by at most e times d and are divided by d and rounded (up, down or to the nearest),
+/// they differ from the cell's by at most e. A file of 16 bits can be reduced to 8 bits in this
+/// way.
 pub fn rounding_is_noise()
     ensures none { NearWithinNoneIsSame }
     ensures sum { NoiseAddsUp }
@@ -86,8 +87,8 @@ pub fn rounding_is_noise()
     ensures rounded { RoundingIsNoise }
 {}
 
-/// A phase whose energy stands out from those of all other phases, in samples without noise, is the
-/// best phase of all samples that differ little from those. Noise of the size e changes the
+/// If a phase's energy stands out from those of all other phases in samples without noise, it is
+/// the best phase of all samples that differ little from those. Noise of the size e changes the
 /// absolute value of a phase's sum by at most 2 e for each sample, so the roots of two energies
 /// keep their order if they are more than 4 e apart for each sample. For what a cell sends, this
 /// can be computed from only the script, and it holds for each file with such noise.
@@ -98,8 +99,8 @@ pub fn the_search_bears_noise()
 {}
 
 /// If a cell's pilot is as loud as all of its other channels together, each sample that it sends is
-/// a number of at least 0 times the link and the code's chip. So no phase has more energy than the
-/// path's own, in any number of samples, and the search finds the path if that is phase 0. If the
+/// a nonnegative number times the link and the code's chip. So no phase has more energy than the
+/// path's own, in any number of samples, and the search finds the path if its phase is 0. If the
 /// pilot is louder than all of them, the search finds the path at any phase, from sixteen samples
 /// on: no other phase of the pilot's codes has the same sixteen chips, turned or not. It still
 /// finds the path through noise of less than about a 64th of the amplitude that the pilot has to

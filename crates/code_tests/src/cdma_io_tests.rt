@@ -1,4 +1,4 @@
-//! What no clause says: std's readers and writers, and that a call that failed isn't tried again.
+//! Tests of what no clause states: std's readers and writers, and that a failed call isn't retried.
 
 use cdma_io::{
     Failed, FileFault, MemorySink, MemorySource, ReaderSource, SampleReader, Sink, Source,
@@ -18,7 +18,7 @@ const FILE: [u8; 28] = [
 
 const NONE: Sample = Sample { i: 0, q: 0 };
 
-/// A source over these bytes, which gives 7 a call and fails at one call.
+/// Returns a source of these bytes, which returns at most 7 per call and fails at call `failing`.
 fn source_of(alloc: Global, bytes: &[u8], failing: u64) -> Result<MemorySource, AllocError> {
     let bytes = bytes.to_vec(alloc)?;
     let failing = [failing].to_vec(alloc)?;
@@ -100,7 +100,7 @@ fn writes_to_a_writer_of_std(rt: HostRuntime) -> Result<(), Fail> {
     Ok(())
 }
 
-/// A device that is broken: it neither gives nor takes a byte.
+/// A broken device, which neither returns nor accepts a byte.
 #[derive(Drop)]
 struct Broken;
 
@@ -138,7 +138,7 @@ fn answers_faults_of_a_writer_of_std(rt: HostRuntime) {
     assert_eq!(rt; sink.flush(), Err(Failed));
 }
 
-/// A device whose first call fails with this kind of fault, and no other.
+/// A device of which only the first call fails, with this kind of error.
 #[derive(Drop)]
 struct FailsOnce {
     kind: ErrorKind,
@@ -180,7 +180,7 @@ impl Write for FailsOnce {
     }
 }
 
-/// Faults of two kinds: a call that was interrupted is one that failed, too.
+/// Two kinds of error: an interrupted call is a failed call, too.
 const KINDS: [ErrorKind; 2] = [ErrorKind::Other, ErrorKind::Interrupted];
 
 #[test]
@@ -210,7 +210,7 @@ fn no_failed_flush_is_tried_again(rt: HostRuntime) {
     }
 }
 
-/// A device that tells whether it was flushed after the last byte that it took.
+/// A device that records whether it was flushed after the last byte that it accepted.
 #[derive(Drop)]
 struct Flushed<'a> {
     flushed: &'a mut bool,

@@ -1,7 +1,7 @@
-//! Tests of codes and files by what their crates make public, of what no clause says: reads and
-//! writes that fail, and the pilot's codes as a whole.
+//! Tests of codes and files through the public items of their crates. They cover what no clause
+//! states: reads and writes that fail, and the pilot's codes as a whole.
 //!
-//! They stand apart from the crates, so that each of those is proved once.
+//! The tests are in a crate of their own, so that each tested crate is proved only once.
 #![tactic(auto)]
 
 #[cfg(test)]

@@ -1,4 +1,4 @@
-//! The pilot's codes: how many ones they have, and how they end.
+//! Tests of the pilot's codes: how many ones they have, and how they end.
 
 use short_code::Codes;
 use std::test::Fail;

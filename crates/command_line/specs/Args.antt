@@ -38,14 +38,13 @@ Text = List ℕ
 
 -- ---- the table of options
 
--- an entry of it: an option's name, the form of its values, and the number that stands where it
--- isn't given, if one does
+-- an entry of the table: an option's name, the form of its values, and its default, if it has one
 pub record OptionEntry : Type 0 where
   pub name : Text
   pub form : ValueForm
   pub default : Option ℕ
 
--- an entry of the program's own table
+-- the entry of a rule in the program's own table
 abbrev pub entry_of : OptionRule → OptionEntry
 entry_of rule = record { name = rule.name.now; form = rule.form; default = rule.default }
 
@@ -61,7 +60,7 @@ fingers_entry = record { name = codes "fingers"; form = Between 1 3; default = S
 abbrev pub paging_entry : OptionEntry
 paging_entry = record { name = codes "paging"; form = Between 1 7; default = Some 1 }
 
--- the key that tells a handset's slots, which must be given, and the index of its slot cycle
+-- the key (required) from which a handset's slots are computed, and the index of its slot cycle
 abbrev pub key_entry : OptionEntry
 key_entry = record { name = codes "key"; form = EightDigits; default = None }
 
@@ -78,11 +77,11 @@ walsh_row_entry = record { name = codes "row"; form = Between 1 63; default = No
 abbrev pub offset_entry : OptionEntry
 offset_entry = record { name = codes "offset"; form = Between 0 15; default = None }
 
--- how many of the best codewords of a rate are listed; it must be given
+-- how many of the best codewords of a rate are listed; required
 abbrev pub list_length_entry : OptionEntry
 list_length_entry = record { name = codes "k"; form = Between 1 16; default = None }
 
--- an option that limits how often something is told
+-- an option that limits how many lines of one kind are written
 abbrev pub limit_entry : Text → ℕ → OptionEntry
 limit_entry name default =
     record { name = name; form = Between 0 4294967295; default = Some default }
@@ -90,7 +89,7 @@ limit_entry name default =
 abbrev pub bits_entry : OptionEntry
 bits_entry = record { name = codes "bits"; form = Either 8 16; default = Some 16 }
 
--- which link a trial makes; it must be given
+-- the number of the link that a trial makes; required
 abbrev pub number_entry : OptionEntry
 number_entry = record {
   name = codes "number";
@@ -98,7 +97,7 @@ number_entry = record {
   default = None;
 }
 
--- the phase of the pilot of offset 0, how many chips round its own phase each pilot is measured,
+-- the phase of the pilot of offset 0, how many chips on each side of its phase a pilot is measured,
 -- and how many ranks are written
 abbrev pub base_entry : OptionEntry
 base_entry = record { name = codes "base"; form = Between 0 32767; default = Some 0 }
@@ -111,8 +110,8 @@ top_entry = record { name = codes "top"; form = Between 1 512; default = Some 51
 
 -- ---- the table of commands
 
--- an entry of it: a command's name, its options, and the job for the number of each of them, which
--- may have none; no job where one is missing that is needed, or where they don't go together
+-- an entry of the table: a command's name, its options, and the job for their numbers, of which any
+-- may be missing; no job if a required one is missing or if they don't go together
 pub record CommandEntry : Type 0 where
   pub name : Text
   pub options : List OptionEntry
@@ -122,37 +121,37 @@ abbrev pub find_with : List (Option ℕ) → Option Job
 find_with (Some span ∷ Some workers ∷ []) = Some (Find span workers)
 find_with _ = None
 
--- in how many samples the pilot is searched, by how many workers, and over how many fingers the
--- signal is followed
+-- how many samples the pilot search uses, how many workers search, and how many fingers follow the
+-- signal
 abbrev pub reception_with : List (Option ℕ) → Option ReceptionOptions
 reception_with (Some span ∷ Some workers ∷ Some fingers ∷ []) =
     Some (record { span = span; workers = workers; fingers = fingers })
 reception_with _ = None
 
--- the traffic channel of a serial number, a row and an offset, default 0; the sync channel has row
--- 32
+-- the traffic channel of a serial number, a row other than the sync channel's 32, and an offset
+-- (default 0)
 abbrev pub channel_with : List (Option ℕ) → Option Traffic
 channel_with (Some esn ∷ Some row ∷ offset ∷ []) =
     if nat_eq row 32 then None
     else Some (record { esn = esn; row = row; offset = unwrap_or offset 0 })
 channel_with _ = None
 
--- whether none of these numbers is there
+-- whether all of these numbers are missing
 abbrev pub has_none : List (Option ℕ) → Bool
 has_none numbers = list_all (λ number. not (is_some number)) numbers
 
--- a traffic channel beside a paging channel, which has a row of its own
+-- a traffic channel whose row isn't the paging channel's
 abbrev pub on_another_row : ℕ → Traffic → Option Traffic
 on_another_row paging channel = if nat_eq channel.row paging then None else Some channel
 
--- the traffic channel of these numbers beside a paging channel: where none of them is there, none
--- is followed
+-- the traffic channel of these numbers, followed together with a paging channel; none is followed
+-- if all of them are missing
 abbrev pub traffic_with : ℕ → List (Option ℕ) → Option (Option Traffic)
 traffic_with paging numbers =
     if has_none numbers then Some None
     else option_map Some (option_and_then (on_another_row paging) (channel_with numbers))
 
--- how many pilots, messages, frames and raw capsules are told
+-- how many pilots, messages, frames and raw capsules are written
 abbrev pub limits_with : List (Option ℕ) → Option (List ℕ)
 limits_with (Some pilots ∷ Some messages ∷ Some frames ∷ Some raw ∷ []) =
     Some (pilots ∷ messages ∷ frames ∷ raw ∷ [])
@@ -194,7 +193,7 @@ survey_with (Some span ∷ Some workers ∷ Some base ∷ Some width ∷ Some to
     Some (Survey span workers base width top)
 survey_with _ = None
 
--- the width of parts of n bits
+-- the sample width for `bits` bits per part
 abbrev pub width_of_bits : ℕ → Width
 width_of_bits bits = if nat_eq bits 8 then Eight else Sixteen
 
@@ -285,7 +284,7 @@ commands =
 
 -- ---- values
 
--- the number that 1 to 20 decimal digits spell, leading zeros among them
+-- the number that 1 to 20 decimal digits spell; leading zeros are allowed
 abbrev pub argument_number_in : Text → Option ℕ
 argument_number_in text =
     if nat_le 1 (length text) then (if nat_le (length text) 20 then digits_from 0 text else None)
@@ -296,12 +295,12 @@ unfoldable pub eight_digits_in : Text → Option ℕ
 eight_digits_in text =
     option_map (λ octets. from_be_bytes w32 octets) (result_ok (decode_sized text 4))
 
--- the number that a text spells as values of this form are spelled
+-- the number that a text spells in the notation of this form
 abbrev pub value_spelled_in : ValueForm → Text → Option ℕ
 value_spelled_in EightDigits text = eight_digits_in text
 value_spelled_in form text = argument_number_in text
 
--- the numbers that values of this form may have, as a test and as a fact
+-- the numbers that this form admits, as a test and as a proposition
 abbrev pub form_admits : ValueForm → ℕ → Bool
 form_admits (Between least most) number = nat_le least number && nat_le number most
 form_admits (Either one other) number = nat_eq number one || nat_eq number other
@@ -312,13 +311,13 @@ IsAdmitted (Between least most) number = (least ≤ number) × (number ≤ most)
 IsAdmitted (Either one other) number = (number ≡ one) ⊎ (number ≡ other)
 IsAdmitted EightDigits number = number ≤ 4294967295
 
--- the number of a text that is a value of this form
+-- the number of a text, if it is a value of this form
 unfoldable pub value_in : ValueForm → Text → Option ℕ
 value_in form text =
     option_and_then (λ number. if form_admits form number then Some number else None)
     (value_spelled_in form text)
 
--- whether there is an option of this name, which has this value
+-- whether there is an option with this name, and it admits this value
 abbrev pub is_allowed : List OptionEntry → Text → Text → Bool
 is_allowed entries name text =
     option_map_or (λ entry. is_some (value_in entry.form text))
@@ -326,14 +325,14 @@ is_allowed entries name text =
 
 -- ---- the options after a command
 
--- what was given: names, each with the text of its value
+-- the options that were given: names, each with the text of its value
 abbrev pub Given : Type 0
 Given = List (Text × Text)
 
 abbrev pub has_name : Text → Given → Bool
 has_name name given = list_any (λ p. bytes_eq p.0 name) given
 
--- one option more, where the command has it with that value, and it wasn't given before
+-- another option added, if the command has it with that value and it wasn't given before
 abbrev pub added : List OptionEntry → Text → Text → Given → Option Given
 added entries name text given =
     if is_allowed entries name text && not (has_name name given)
@@ -352,8 +351,8 @@ abbrev pub is_joined : Option (Text × Option Text) → Bool
 is_joined (Some (name, Some text)) = true
 is_joined _ = false
 
--- what arguments give after what was given before them; none where they aren't options of the
--- table
+-- the options of these arguments after those given before; none if the arguments aren't options of
+-- the table
 unfoldable pub given_after : List OptionEntry → Option Given → List Text → Option Given
 given_after entries given [] = given
 given_after entries given (arg ∷ []) = option_and_then (option_joined entries (long_of arg)) given
@@ -394,7 +393,7 @@ job_after command args =
     option_and_then (λ entry. job_by entry args)
     (find (λ entry. pointwise nat_eq command entry.name) commands)
 
--- the job of the arguments: a command, and what stands after it
+-- the job of the arguments: a command and the arguments after it
 unfoldable pub job_in : List Text → Option Job
 job_in [] = None
 job_in (command ∷ args) = job_after command args
@@ -403,7 +402,7 @@ job_in (command ∷ args) = job_after command args
 abbrev pub job_named : List (String Global) → Option Job
 job_named args = job_in (map string_bytes args)
 
--- ---- the first option of arguments, and who names it
+-- ---- the first option of arguments, and the arguments that name an option
 
 -- the name and the value of the first option, and how many arguments it takes
 abbrev pub part_by : Option (Text × Option Text) → List Text → Option (Text × Text × ℕ)
@@ -423,7 +422,7 @@ names name arg = option_map_or (λ p. bytes_eq p.0 name) (long_of arg) false
 abbrev pub is_named_in : Text → List Text → Bool
 is_named_in name args = list_any (names name) args
 
--- the text of an option, after the first argument that names it
+-- the text of an option, from the first argument that names it
 abbrev pub text_in : Text → List Text → Option Text
 text_in name [] = None
 text_in name (arg ∷ args) =
@@ -472,12 +471,12 @@ IsWidth width = width ≤ 31
 abbrev pub IsTop : ℕ → Type 0
 IsTop top = (1 ≤ top) × (top ≤ 512)
 
--- how a signal is received
+-- the options for receiving a signal
 abbrev pub IsLawfulReception : ReceptionOptions → Type 0
 IsLawfulReception reception =
     IsSpan reception.span × IsWorkers reception.workers × IsFingers reception.fingers
 
--- a traffic channel, whose Walsh row isn't the sync channel's
+-- a traffic channel whose Walsh row isn't the sync channel's
 pub record IsLawfulChannel (channel : Traffic) : Type 0 where
   pub esn : channel.esn < 2 ^ 32
   pub least : 1 ≤ channel.row
@@ -485,12 +484,12 @@ pub record IsLawfulChannel (channel : Traffic) : Type 0 where
   pub sync : channel.row ≢ 32
   pub offset : channel.offset ≤ 15
 
--- a traffic channel, or none, beside a paging channel
+-- no traffic channel, or one whose Walsh row isn't the paging channel's either
 abbrev pub IsLawfulTraffic : ℕ → Option Traffic → Type 0
 IsLawfulTraffic paging None = Unit {0}
 IsLawfulTraffic paging (Some channel) = IsLawfulChannel channel × (channel.row ≢ paging)
 
--- a job has numbers that its options admit, and that go together
+-- the numbers of a job are admitted by its options, and go together
 abbrev pub IsLawfulJob : Job → Type 0
 IsLawfulJob (Find span workers) = IsSpan span × IsWorkers workers
 IsLawfulJob (Follow span workers fingers paging traffic limits) =

@@ -1,4 +1,4 @@
-//! The commands: each one's options, and the job that it makes of their values.
+//! The commands, with the options of each and the job that it makes of their values.
 
 ghost use Rattle.std.specs.Prelude.{◌≡◌, IfSome, find, map, nat_eq, option_map};
 ghost use Rattle.std.specs.Cmp.Lexicographic.{pointwise};
@@ -38,10 +38,10 @@ pub enum Command {
     Trial,
 }
 
-/// What `find` takes.
+/// The options of `find`.
 static FIND_OPTIONS: [OptionRule; 2] = [SPAN, WORKERS];
 
-/// What `follow` takes.
+/// The options of `follow`.
 static FOLLOW_OPTIONS: [OptionRule; 11] = [
     SPAN,
     WORKERS,
@@ -56,10 +56,10 @@ static FOLLOW_OPTIONS: [OptionRule; 11] = [
     RAW,
 ];
 
-/// What `rate2` takes.
+/// The options of `rate2`.
 static RATE2_OPTIONS: [OptionRule; 6] = [SPAN, WORKERS, FINGERS, SERIAL_NUMBER, ROW, OFFSET];
 
-/// What `list` takes.
+/// The options of `list`.
 static LIST_OPTIONS: [OptionRule; 7] = [
     SPAN,
     WORKERS,
@@ -70,16 +70,16 @@ static LIST_OPTIONS: [OptionRule; 7] = [
     LIST_LENGTH,
 ];
 
-/// What `idle` takes.
+/// The options of `idle`.
 static IDLE_OPTIONS: [OptionRule; 6] = [SPAN, WORKERS, FINGERS, PAGING, KEY, CYCLE];
 
-/// What `survey` takes.
+/// The options of `survey`.
 static SURVEY_OPTIONS: [OptionRule; 5] = [SPAN, WORKERS, BASE, WIDTH, TOP];
 
-/// What `make` takes.
+/// The options of `make`.
 static MAKE_OPTIONS: [OptionRule; 1] = [BITS];
 
-/// What `trial` takes.
+/// The options of `trial`.
 static TRIAL_OPTIONS: [OptionRule; 2] = [NUMBER, WORKERS];
 
 impl Command {
@@ -152,7 +152,7 @@ impl Command {
     }
 }
 
-/// The job of `find`.
+/// Returns the job of `find`.
 fn find_with<T: Texts>(texts: &T) -> Option<Job>
     ensures value { result ≡ job_with find_entry (T.text_at texts.now) }
     ensures lawful { IfSome result IsLawfulJob }
@@ -165,7 +165,7 @@ fn find_with<T: Texts>(texts: &T) -> Option<Job>
     })
 }
 
-/// The job of `follow`.
+/// Returns the job of `follow`.
 fn follow_with<T: Texts>(texts: &T) -> Option<Job>
     ensures value { result ≡ job_with follow_entry (T.text_at texts.now) }
     ensures lawful { IfSome result IsLawfulJob }
@@ -184,7 +184,7 @@ fn follow_with<T: Texts>(texts: &T) -> Option<Job>
     })
 }
 
-/// The job of `rate2`.
+/// Returns the job of `rate2`.
 fn rate2_with<T: Texts>(texts: &T) -> Option<Job>
     ensures value { result ≡ job_with rate2_entry (T.text_at texts.now) }
     ensures lawful { IfSome result IsLawfulJob }
@@ -201,7 +201,7 @@ fn rate2_with<T: Texts>(texts: &T) -> Option<Job>
     })
 }
 
-/// The job of `list`.
+/// Returns the job of `list`.
 fn list_with<T: Texts>(texts: &T) -> Option<Job>
     ensures value { result ≡ job_with list_entry (T.text_at texts.now) }
     ensures lawful { IfSome result IsLawfulJob }
@@ -220,7 +220,7 @@ fn list_with<T: Texts>(texts: &T) -> Option<Job>
     })
 }
 
-/// The job of `idle`.
+/// Returns the job of `idle`.
 fn idle_with<T: Texts>(texts: &T) -> Option<Job>
     ensures value { result ≡ job_with idle_entry (T.text_at texts.now) }
     ensures lawful { IfSome result IsLawfulJob }
@@ -250,7 +250,7 @@ fn limits_with<T: Texts>(texts: &T) -> Option<EventLimits>
     Some([pilots as u32, messages as u32, frames as u32, raw as u32])
 }
 
-/// The job of `survey`.
+/// Returns the job of `survey`.
 fn survey_with<T: Texts>(texts: &T) -> Option<Job>
     ensures value { result ≡ job_with survey_entry (T.text_at texts.now) }
     ensures lawful { IfSome result IsLawfulJob }
@@ -269,7 +269,7 @@ fn survey_with<T: Texts>(texts: &T) -> Option<Job>
     })
 }
 
-/// The job of `make`.
+/// Returns the job of `make`.
 fn make_with<T: Texts>(texts: &T) -> Option<Job>
     ensures value { result ≡ job_with make_entry (T.text_at texts.now) }
     ensures lawful { IfSome result IsLawfulJob }
@@ -280,7 +280,7 @@ fn make_with<T: Texts>(texts: &T) -> Option<Job>
     })
 }
 
-/// The job of `trial`.
+/// Returns the job of `trial`.
 fn trial_with<T: Texts>(texts: &T) -> Option<Job>
     ensures value { result ≡ job_with trial_entry (T.text_at texts.now) }
     ensures lawful { IfSome result IsLawfulJob }

@@ -130,10 +130,10 @@ pub const LIST_LENGTH: OptionRule = numbered!("k", 1, 16, None);
 /// `--pilots`: how many pilot lines are written.
 pub const PILOTS: OptionRule = numbered!("pilots", 0, 4294967295, Some(4294967295));
 
-/// `--messages`: how many messages' lines are written.
+/// `--messages`: how many message lines are written.
 pub const MESSAGES: OptionRule = numbered!("messages", 0, 4294967295, Some(4294967295));
 
-/// `--frames`: how many frames' lines are written.
+/// `--frames`: how many frame lines are written.
 pub const FRAMES: OptionRule = numbered!("frames", 0, 4294967295, Some(4294967295));
 
 /// `--raw`: how many lines of raw capsules are written.

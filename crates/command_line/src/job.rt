@@ -70,7 +70,7 @@ pub enum Job {
         /// How many of the best codewords of a rate are listed, 1 to 16.
         k: u8,
     },
-    /// `idle`: what a handset in slotted mode receives of a paging channel.
+    /// `idle`: what a handset in slotted mode receives on a paging channel.
     Idle {
         /// How many samples the pilot search uses, 64 to 32,768.
         span: u16,
@@ -85,7 +85,7 @@ pub enum Job {
         /// The index of its slot cycle, 0 to 7: it has 16 times 2^cycle slots of 80 ms.
         cycle: u8,
     },
-    /// `survey`: how strong each pilot is.
+    /// `survey`: the strength of each pilot.
     Survey {
         /// How many samples the measurement uses, 64 to 32,768.
         span: u16,
@@ -103,9 +103,9 @@ pub enum Job {
         /// The width of each part of a sample.
         width: Width,
     },
-    /// `trial`: makes the link of a number, follows it, and counts what was received.
+    /// `trial`: makes the link that a number determines, follows it, and counts what was received.
     Trial {
-        /// The number.
+        /// The number of the link.
         number: u64,
         /// How many workers search the pilot, 1 to 64.
         workers: u8,
@@ -152,7 +152,7 @@ impl Job {
     }
 }
 
-/// Why arguments give no job.
+/// The reason why arguments yield no job.
 #[derive(Clone, Copy, PartialEq, Eq, Debug)]
 pub enum WordFault {
     /// The arguments are invalid.
@@ -168,17 +168,17 @@ pub enum WordFault {
 /// `find` takes `--span`, 64 to 32,768 (default 2,048), and `--workers`, 1 to 64 (default 4).
 /// `follow` takes these, `--fingers`, 1 to 3 (default 1), `--paging`, 1 to 7 (default 1), and four
 /// limits of 0 to 4,294,967,295: `--pilots`, `--messages` and `--frames` (default: the largest),
-/// and `--raw` (default 0); and for a traffic channel `--esn` and `--row`, 1 to 63, both or
-/// neither, and with them `--offset`, 0 to 15 (default 0). The row is neither 32 nor the paging
-/// channel's number. `rate2` takes `--span`, `--workers`, `--fingers`, and the same options of a
-/// traffic channel, of which `--esn` and `--row` must be given; the row isn't 32. `list` takes
-/// these and `--k`, 1 to 16, which must be given. `idle` takes `--span`, `--workers`, `--fingers`
-/// and `--paging`, `--key`, which must be given, and `--cycle`, 0 to 7 (default 0). `survey` takes
-/// `--span` and `--workers`, `--base`, 0 to 32,767 (default 0), `--width`, 0 to 31 (default 10),
-/// and `--top`, 1 to 512 (default 512). `make` takes `--bits`, 8 or 16 (default 16). `trial` takes
-/// `--number`, 0 to 2^64 - 1, which must be given, and `--workers`.
+/// and `--raw` (default 0). For a traffic channel it also takes `--esn` and `--row`, 1 to 63, both
+/// or neither, and with them `--offset`, 0 to 15 (default 0). The row is neither 32 nor the paging
+/// channel's number. `rate2` takes `--span`, `--workers`, `--fingers` and the same options of a
+/// traffic channel; `--esn` and `--row` are required, and the row isn't 32. `list` takes these and
+/// `--k`, 1 to 16, which is required. `idle` takes `--span`, `--workers`, `--fingers`, `--paging`,
+/// `--key`, which is required, and `--cycle`, 0 to 7 (default 0). `survey` takes `--span`,
+/// `--workers`, `--base`, 0 to 32,767 (default 0), `--width`, 0 to 31 (default 10), and `--top`, 1
+/// to 512 (default 512). `make` takes `--bits`, 8 or 16 (default 16). `trial` takes `--number`, 0
+/// to 2^64 - 1, which is required, and `--workers`.
 ///
-/// All other arguments are [`WordFault::Bad`], whatever memory there is.
+/// All other arguments are rejected as [`WordFault::Bad`], even when out of memory.
 pub fn words_of(alloc: Global, args: &[String]) -> Result<Job, WordFault>
     ensures job { IfOk result (λ job. job_named args.now ≡ Some job) }
     ensures bad { (result ≡ Err WordFault.Bad) ↔ (job_named args.now ≡ None) }
@@ -212,8 +212,8 @@ fn job_by(alloc: Global, command: Command, options: &[String]) -> Result<Job, Wo
         (job_by (command_entry command) (map string_bytes options.now) ≡ None) }
     ensures lawful { IfOk result IsLawfulJob }
 {
-    // Clap asks for memory, and arguments that name no job are refused even where there is none: so
-    // they are read once before, without it.
+    // Clap allocates, but arguments that name no job must be rejected even when out of memory. So
+    // they are checked first, without allocating.
     let rules = command.options();
     if !are_lawful(rules, options) {
         return Err(WordFault::Bad);

@@ -2,10 +2,10 @@
 //!
 //! [`words_of`] makes a [`Job`] of the arguments after the program's name: a command, and its
 //! options in any order, each at most once, as `--name VALUE` or `--name=VALUE`. One table has each
-//! option with the form of its values and its default; each command states its options and makes a
+//! option with the form of its values and its default. Each command states its options and makes a
 //! job of their values if they go together. The arguments are first checked against these tables,
 //! which allocates nothing; then clap splits them by a command made from the table. So invalid
-//! arguments are rejected whatever memory there is.
+//! arguments are rejected even when out of memory.
 #![tactic(auto)]
 
 mod commands;

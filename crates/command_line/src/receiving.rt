@@ -22,7 +22,7 @@ pub struct ReceptionOptions {
     pub fingers: u8,
 }
 
-/// Returns how the signal is received.
+/// Returns the options for receiving the signal.
 pub fn reception_with<T: Texts>(texts: &T) -> Option<ReceptionOptions>
     ensures value { result ≡ reception_with (numbers_by reception_entries (T.text_at texts.now)) }
     ensures lawful { IfSome result IsLawfulReception }

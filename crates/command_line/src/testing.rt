@@ -12,7 +12,7 @@ use crate::grammar::OptionRule;
 /// An option among arguments.
 #[derive(Clone, Copy)]
 pub struct Part<'a> {
-    /// Returns its name.
+    /// Its name.
     pub name: &'a str,
     /// The text of its value.
     pub value: &'a str,

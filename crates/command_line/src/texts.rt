@@ -21,7 +21,7 @@ pub trait Texts {
 /// The arguments after a command.
 #[derive(Clone, Copy)]
 pub struct Args<'a> {
-    /// All of them, in order.
+    /// All of these arguments, in order.
     pub args: &'a [String],
 }
 

@@ -11,12 +11,12 @@ g0 = 0 ∷ 1 ∷ 2 ∷ 3 ∷ 5 ∷ 7 ∷ 8 ∷ []
 abbrev pub g1 : List ℕ
 g1 = 0 ∷ 2 ∷ 3 ∷ 4 ∷ 8 ∷ []
 
--- Symbol j of a generator: the sum of the bits that lie its powers back from bit j. Eight start
--- bits lie in front.
+-- Symbol j of a generator: for each of its powers p the bit p places before bit j, summed modulo 2.
+-- Eight start bits come first.
 abbrev pub symbol : List ℕ → List Bool → ℕ → Bool
 symbol generator joined j = parity (map (λ back. get_or joined (8 + j - back) false) generator)
 
--- two symbols a bit, from eight start bits, the oldest first
+-- two symbols per bit, after eight start bits, the oldest first
 abbrev pub code_symbols : List Bool → List Bool → List Bool
 code_symbols start bits =
     flat_map (λ j. symbol g0 (start ++ bits) j ∷ symbol g1 (start ++ bits) j ∷ [])
@@ -26,19 +26,19 @@ code_symbols start bits =
 abbrev pub state_after : List Bool → List Bool → List Bool
 state_after start bits = drop (length bits) (start ++ bits)
 
--- no bits give these symbols from a start
+-- no bits have these symbols after this start
 abbrev pub IsNoCodewordFrom : List Bool → List Bool → Type 0
 IsNoCodewordFrom start symbols = (bits : List Bool) → code_symbols start bits ≢ symbols
 
--- no start and bits give these symbols
+-- no start and bits have these symbols
 abbrev pub IsNoCodeword : List Bool → Type 0
 IsNoCodeword symbols = (start : ℕ) → IsNoCodewordFrom (binary 8 start) symbols
 
--- every codeword that gives the symbols begins at this start
+-- every codeword that has the symbols has this start
 abbrev pub IsOnlyStart : List Bool → List Bool → Type 0
 IsOnlyStart symbols only =
     (start bits : List Bool) → length start ≡ 8 → code_symbols start bits ≡ symbols → start ≡ only
 
--- the only bit that gives this first symbol after eight bits
+-- the only bit that has this first symbol after eight bits
 abbrev pub IsBitFor : List Bool → Bool → Bool → Type 0
 IsBitFor state first only = (bit : Bool) → symbol g0 (state ++ bit ∷ []) 0 ≡ first → bit ≡ only

@@ -56,9 +56,9 @@ impl Register {
     }
 }
 
-/// Encodes bits from a start state into two symbols each, and returns the last state.
+/// Encodes bits from a start state into two symbols each, and returns the final state.
 ///
-/// `out` becomes the symbols, replacing its content. Bit 0 of a state is its newest bit.
+/// The symbols replace the content of `out`. Bit 0 of a state is its newest bit.
 ///
 /// TIA/EIA-95-B, 7.1.3.1.3.1: a bit's symbol of the generator 753 (octal) comes first, then that of
 /// 561 (octal).

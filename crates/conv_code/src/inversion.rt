@@ -12,9 +12,9 @@ use chip_core::Bits;
 /// Returns the start state and the bits whose symbols these are; `None` exactly if no start state
 /// and bits have these symbols.
 ///
-/// Eight pairs of symbols or more determine the start state and every bit. Each bit of the start
-/// state is a sum of some of the first sixteen symbols. Then each bit is the one that gives its
-/// first symbol, and its second symbol must agree. Bit 0 of the start state is its newest bit.
+/// Eight or more pairs of symbols determine the start state and every bit. Each bit of the start
+/// state is a sum of some of the first sixteen symbols. Then each bit follows from its first
+/// symbol, and its second symbol must agree. Bit 0 of the start state is its newest bit.
 ///
 /// For tools that have symbols and no soft values, such as a test bench that checks a transmitter;
 /// a handset finds the best codeword instead.
@@ -31,8 +31,7 @@ pub fn invert(symbols: &Bits) -> Option<(u8, Bits)>
     Some((start, bits))
 }
 
-/// Returns the bits whose symbols, from a start state, these are; `None` if no bits have these
-/// symbols.
+/// Returns the bits that have these symbols after a start state; `None` if no bits have them.
 fn bits_from(start: u8, symbols: &Bits) -> Option<Bits>
     requires { length symbols.now % 2 ≡ 0 }
     ensures found { IfSome result (λ bits. code_symbols (binary 8 start) bits ≡ symbols.now) }
@@ -53,7 +52,7 @@ fn bits_from(start: u8, symbols: &Bits) -> Option<Bits>
     Some(bits)
 }
 
-/// Returns the bit whose first symbol, after a register, is this one.
+/// Returns the bit whose first symbol, after the register's bits, is `first`.
 fn bit_for(mut register: Register, first: bool) -> bool
     ensures { IsBitFor (binary 8 register) first result }
 {
@@ -61,7 +60,7 @@ fn bit_for(mut register: Register, first: bool) -> bool
     first_of_zero != first
 }
 
-/// Returns the only start state that can have given the symbols.
+/// Returns the only start state that can have produced the symbols.
 ///
 /// The generators have no common factor, so for each k up to 15 there are polynomials a and b of
 /// degree below 8 with a g0 + b g1 = D^k. So each of the sixteen bits after the first eight pairs
@@ -82,7 +81,7 @@ fn start_of(symbols: &Bits) -> u8
     register.state()
 }
 
-/// The sum modulo 2 of the symbols at these places.
+/// Returns the sum modulo 2 of the symbols at these places.
 fn sum_at(symbols: &Bits, places: &[u16]) -> bool
     requires { All (λ place. place < length symbols.now) places.now }
     ensures { result ≡ parity (map (λ place. get_or symbols.now place false) places.now) }

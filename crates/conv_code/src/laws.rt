@@ -2,13 +2,13 @@
 
 ghost use Rattle.conv_code.specs.Laws.{IsDistinctCode, IsContinuedCode};
 
-/// Eight pairs of symbols or more fix the start state and every bit.
+/// Eight or more pairs of symbols determine the start state and every bit.
 pub fn symbols_fix_the_bits()
     ensures { IsDistinctCode }
 {}
 
 /// The symbols of two lists of bits, one after the other, are those of the first from the start
-/// state, and then those of the second from the state that the first leaves.
+/// state, followed by those of the second from the state after the first.
 pub fn symbols_continue()
     ensures { IsContinuedCode }
 {}

@@ -1,4 +1,4 @@
--- What the definitions of this crate cite of the crates below, and of its own types.
+-- Names from other crates that the definitions of this crate use.
 unfoldable pub use Rattle.chip_core.specs.Bits.{binary, places}
 pub use Rattle.chip_core.specs.Fields.{FieldsFit, in_widths}
 pub use Rattle.chip_core.specs.declared.check_form.CheckForm.{CheckForm}

@@ -6,7 +6,7 @@ use Rattle.rate_set_two.specs.declared.traffic.Decoded2.{Decoded2}
 use Rattle.quality_bits.specs.TrafficCodewords.{repeats_of}
 use Rattle.symbol_path.specs.RatesTwo as set_two
 
--- how many bits of a frame at this rate would be sent in a second, tail and quality bits among them
+-- the bits per second at this rate, including quality indicators and tails
 abbrev pub bits_in_a_second : Rate → ℕ
 bits_in_a_second rate = 9600 / repeats_of rate
 
@@ -20,7 +20,7 @@ received_text rate good bits power_bits =
     codes " rate=" ++ decimal rate ++ codes " good=" ++ digit_of good ++ codes " bits="
     ++ bit_text bits ++ codes " commands=" ++ digits_of power_bits ++ codes "\n"
 
--- the line of a frame that ends after n samples
+-- the line of a frame that ends after `place` samples
 unfoldable pub frame_line : ℕ → Rate → Bool → List Bool → List Bool → List ℕ
 frame_line place rate good bits power_bits =
     codes "frame at=" ++ decimal place

@@ -10,16 +10,16 @@ use Rattle.event_tap.specs.SaidTexts.{message_text}
 abbrev pub paging_start : ℕ → List ℕ
 paging_start place = codes "paging at=" ++ decimal place
 
--- the line of a message that was known at this number of samples: after `paging at=A`, what it says
--- by its type's row in the table of types
+-- the line of a message that was decoded after `place` samples: `paging at=A`, and its contents by
+-- its type's row in the table of types
 unfoldable pub paging_line : ℕ → PagingMessage → List ℕ
 paging_line place m =
     let kind = paging_kind_of m in
     paging_start place
     ++ message_text kind (paging_names_of kind) (paging_shape_of kind).records (contents_of m)
 
--- `slot at=A time=T messages=C` and LF: what begins the lines of a slot, with the number of samples
--- after which it ends, its system time in units of 80 ms and how many messages there are in it
+-- `slot at=A time=T messages=C` and LF, the first line of a slot: the number of samples after which
+-- it ends, its system time in units of 80 ms, and the number of messages in it
 unfoldable pub slot_line : ℕ → ℕ → ℕ → List ℕ
 slot_line place time messages =
     codes "slot at=" ++ decimal place ++ codes " time=" ++ decimal time ++ codes " messages="

@@ -10,7 +10,7 @@ unfoldable pub commas : List (List ℕ) → List ℕ
 commas [] = []
 commas (item ∷ items) = item ++ flat_map (λ next. codes "," ++ next) items
 
--- what stands before item i of a list, counted from 0: a comma, unless it is the first
+-- the text before item i of a list, counted from 0: a comma, but nothing before the first
 abbrev pub comma_before : ℕ → List ℕ
 comma_before zero = []
 comma_before (suc i) = codes ","
@@ -26,7 +26,7 @@ named_values (name ∷ names) [] = []
 named_values (name ∷ names) (value ∷ values) =
     (spaced_key name ++ decimal value) ++ named_values names values
 
--- whether each name is of at most seven ASCII bytes, and fields of these widths have values of at
+-- whether each name has at most seven ASCII bytes, and the values of fields of these widths have at
 -- most seven digits
 unfoldable pub are_short : List (List ℕ) → List ℕ → Bool
 are_short names widths =

@@ -12,7 +12,7 @@ use Rattle.message_layout.specs.declared.contents.Contents.{Contents}
 use Rattle.message_layout.specs.declared.layout.MessageLayout.{MessageLayout}
 use Rattle.event_tap.specs.Parts.{are_short, commas, named_values, rest_text}
 
--- the number of record i in a further column, after a slash, where records have one there
+-- a slash and the number of record i in a further column, if records have that column
 abbrev pub slash_text : ℕ → List ℕ → List ℕ
 slash_text i column =
     if nat_lt i (length column) then codes "/" ++ decimal (get_or column i 0) else []
@@ -27,13 +27,13 @@ columns_text columns i =
 abbrev pub columns_texts : List (List ℕ) → List (List ℕ)
 columns_texts columns = map (columns_text columns) (places (height columns))
 
--- ` NAME=R,R,..`, where the layout has records
+-- ` NAME=R,R,..`, if the layout has records
 abbrev pub list_text : List ℕ → List ℕ → List (List ℕ) → List ℕ
 list_text name widths columns =
     if length widths == 0 then [] else spaced_key name ++ commas (columns_texts columns)
 
 -- ` WORD NAME=.. NAME=.. LIST=R,R,.. rest=BITS` and LF: the layout's name, each fixed field after
--- its name, the records, and the bits that are left
+-- its name, the records, and the remaining bits
 unfoldable pub said_text : LineNames → List ℕ → Contents → List ℕ
 said_text names widths c =
     codes " " ++ names.word ++ named_values names.fixed c.fixed
@@ -44,7 +44,7 @@ unfoldable pub kind_text : ℕ → List Bool → List ℕ
 kind_text kind bits =
     codes " other type=" ++ decimal kind ++ codes " bits=" ++ bit_text bits ++ codes "\n"
 
--- a message whose layout has no name is told by its type and its bits
+-- the text of a message: its contents by these names, or its type and bits if there is no name
 unfoldable pub message_text : ℕ → LineNames → List ℕ → Contents → List ℕ
 message_text kind names widths c =
     if length names.word == 0 then kind_text kind c.rest else said_text names widths c
@@ -54,19 +54,19 @@ message_text kind names widths c =
 abbrev pub digits_in : ℕ → ℕ
 digits_in width = width * 3 / 10 + 1
 
--- whether such a number is of 32 bits, and has so few digits
+-- whether such a number has at most 32 bits and at most that many digits
 abbrev pub is_short_width : ℕ → Bool
 is_short_width width = nat_le (2 ^ width) (2 ^ 32) && nat_le (2 ^ width) (10 ^ digits_in width)
 
--- how many bytes field j of a record takes at most, with the slash or comma before it
+-- the most bytes that field j of a record takes, with the slash or comma before it
 abbrev pub field_bytes : List ℕ → ℕ → ℕ
 field_bytes widths j = if nat_lt j (length widths) then digits_in (get_or widths j 0) + 1 else 0
 
--- and a record
+-- the most bytes that a record takes
 abbrev pub record_bytes : List ℕ → ℕ
 record_bytes widths = field_bytes widths 0 + field_bytes widths 1 + field_bytes widths 2
 
--- the records of a list have each the same fields, whose numbers are that short
+-- each record of a list has the same fields, whose numbers have at most that many bits and digits
 pub record FillColumns (widths : List ℕ) (columns : List (List ℕ)) : Type 0 where
   pub some : 1 ≤ length widths
   pub few : length widths ≤ 3
@@ -75,11 +75,11 @@ pub record FillColumns (widths : List ℕ) (columns : List (List ℕ)) : Type 0 
       get_or (get_or columns j []) i 0 < 2 ^ get_or widths j 0
   pub short : list_all is_short_width widths ≡ true
 
--- how many bytes 128 records take at most, and their name
+-- the most bytes that 128 records take, with their name
 abbrev pub list_bytes : List ℕ → List ℕ → ℕ
 list_bytes name widths = length name + 2 + 128 * record_bytes widths
 
--- how many bytes the bits that are left take at most, and what stands before and after them
+-- the most bytes that the remaining bits take, with the text before and after them
 abbrev pub end_bytes : Option ℕ → ℕ
 end_bytes None = 309
 end_bytes (Some most) = 44
@@ -88,7 +88,7 @@ abbrev pub is_short_end : Option ℕ → Bool
 is_short_end None = true
 is_short_end (Some most) = nat_le most 7
 
--- whether what a line tells by these names of such a layout has room after 95 bytes
+-- tests whether the text of such a layout with these names fits in a line after 95 bytes
 abbrev pub line_tests : LineNames → MessageShape → List Bool
 line_tests names s =
     are_short names.fixed s.fixed
@@ -104,7 +104,7 @@ line_tests names s =
 unfoldable pub has_line : LineNames → MessageShape → Bool
 has_line names s = list_all (λ test. test) (line_tests names s)
 
--- what is known of contents where it is so
+-- what holds for the contents of a layout that passes these tests
 pub record IsShown (layout : MessageLayout) (c : Contents) : Type 0 where
   pub said : IsOf (shape layout) c
   pub word : IsAscii layout.name.now

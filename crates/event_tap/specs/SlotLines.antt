@@ -21,7 +21,7 @@ slot_pages check rate bits =
     flat_map (λ capsule. option_to_list (paging_reading check capsule))
     (capsules_in (half_frame_body rate) bits)
 
--- the line of a slot that ends after n samples, and those of its messages
+-- the line of a slot that ends after `place` samples, and those of its messages
 abbrev pub slot_lines : ℕ → ℕ → List PagingMessage → List ℕ
 slot_lines place time pages =
     slot_line place time (length pages) ++ flat_map (paging_line place) pages
@@ -44,7 +44,7 @@ is_slot_within count s n slot =
     (places 4)
 
 -- Whether it is heard in the first n samples: the handset monitors its time, the mark's data rate
--- is one of the two that a paging channel has, and its frames lie there.
+-- is one of the two that a paging channel has, and its frames lie within these samples.
 abbrev pub is_heard : ℕ → ℕ → ℕ → Stream → Mark → ℕ → ℕ → Bool
 is_heard key cycle count s m n slot =
     is_monitored (m.time + slot) key cycle && nat_lt m.prat 2 && is_slot_within count s n slot
@@ -64,7 +64,7 @@ lines_of_slot check m samples s slot =
 abbrev pub slot_bound : ℕ → ℕ
 slot_bound n = n / superframe_chips + 1
 
--- those of all slots that are heard in these samples, in the order of their times
+-- the lines of all slots that are heard in these samples, in the order of their times
 abbrev pub lines_by_times : ℕ → ℕ → Tuning → ℕ → Mark → List Sample → List ℕ
 lines_by_times key cycle t number m samples =
     let s = channel_stream t (Paging number) m in
@@ -72,12 +72,12 @@ lines_by_times key cycle t number m samples =
     flat_map (lines_of_slot t.check30 m samples s)
     (filter (is_heard key cycle t.count s m n) (places (slot_bound n)))
 
--- the same where no mark may be set, and then there are none
+-- the same for a mark that may be missing; without one there are no lines
 abbrev pub lines_if_marked : ℕ → ℕ → Tuning → ℕ → List Sample → Option Mark → List ℕ
 lines_if_marked key cycle t number samples None = []
 lines_if_marked key cycle t number samples (Some m) = lines_by_times key cycle t number m samples
 
--- those after the mark that the samples set
+-- the lines of the slots after the mark that the samples set
 abbrev pub lines_of_slots : ℕ → ℕ → Tuning → ℕ → List Sample → List ℕ
 lines_of_slots key cycle t number samples =
     lines_if_marked key cycle t number samples (mark t samples (length samples))

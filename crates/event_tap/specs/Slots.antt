@@ -1,5 +1,5 @@
 -- The slots of a sleeping handset (TIA/EIA-95-B, 6.6.2.1.1.3), from the frames of its paging
--- channel, and the text of one.
+-- channel, and the text of a slot.
 use Rattle.event_tap.specs.Common.{CheckForm, paging_rate, Mark, SoftFrame, slot_bits, is_monitored}
 use Rattle.std.specs.Prelude.{ℕ, ◌+◌, ◌/◌, ◌%◌, ◌==◌, ◌&&◌, if◌then◌else◌, nat_lt, List, [], ◌∷◌}
 use Rattle.std.specs.Prelude.{◌++◌, length}
@@ -8,10 +8,10 @@ use Rattle.event_tap.specs.SlotLines.{slot_lines, slot_pages}
 
 -- ---- the frames of a slot
 
--- The four frames of a slot are those whose numbers, counted from the mark on, have one quotient by
--- 4. The frames of a slot up to a frame, where those before that one are kept: the first frame of a
--- slot starts a new list, another frame is added to those before it, and the list is empty if one
--- of these is missing.
+-- The four frames of a slot are those whose numbers, counted from the mark on, have the same
+-- quotient by 4. This is the list of a slot's frames up to `frame`, given the kept list before it.
+-- A slot's first frame starts a new list, another frame is appended to those before it, and the
+-- list is empty if one of these is missing.
 abbrev pub slot_more : List SoftFrame → SoftFrame → List SoftFrame
 slot_more kept frame =
     if frame.number % 4 == 0 then frame ∷ []
@@ -24,9 +24,9 @@ slot_after kept (frame ∷ frames) = slot_after (slot_more kept frame) frames
 
 -- ---- its lines
 
--- What is written of a slot's last frame, where the handset of a key sleeps through all slots but
--- those of a cycle, and these are the slot's frames up to it: with all four of them, in a slot that
--- it monitors, the lines of the slot; and nothing where the mark's data rate stands for none.
+-- The text written at a frame, given the kept frames of its slot up to it. It is the slot's lines
+-- if all four frames are kept, the handset with this key and cycle monitors the slot, and the
+-- mark's data rate is one that a paging channel has. Otherwise it is empty.
 abbrev pub slot_text : ℕ → ℕ → CheckForm → Mark → List SoftFrame → SoftFrame → List ℕ
 slot_text key cycle check m slot frame =
     let time = m.time + frame.number / 4 in

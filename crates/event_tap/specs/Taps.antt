@@ -10,12 +10,12 @@ use Rattle.event_tap.specs.Parts.{capsule_line}
 use Rattle.event_tap.specs.declared.tap.Heard.{Heard}
 use Rattle.event_tap.specs.declared.tap.Heard.TheVariants.{Keep, Done}
 
--- a tap that is kept: its form, and how many events it has left to hear
+-- a kept tap: its form, and how many events it may still report
 pub record KeptTap : Type 0 where
   pub form : ℕ
   pub left : ℕ
 
--- what contracts see of taps, by what tells a tap's form and how many events it has left
+-- taps as contracts see them, by the functions that return a tap's form and its events left
 abbrev pub kept_of : {T : Type 0} → (T → ℕ) → (T → ℕ) → List T → List KeptTap
 kept_of shape left taps = map (λ t. record { form = shape t; left = left t }) taps
 
@@ -31,14 +31,14 @@ raw_paging_line place capsule = capsule_line (codes " paging ") place capsule
 abbrev pub raw_traffic_line : ℕ → List Bool → List ℕ
 raw_traffic_line place capsule = capsule_line (codes " traffic ") place capsule
 
--- the line of a message as it came, and none of another event
+-- the line of a message as received; other events have none
 abbrev pub raw_of : Event → Option (List ℕ)
 raw_of (Sync place capsule message) = Some (raw_line place capsule)
 raw_of (Paging place capsule message) = Some (raw_paging_line place capsule)
 raw_of (Traffic place capsule message) = Some (raw_traffic_line place capsule)
 raw_of event = None
 
--- the form that hears events of this kind by their lines
+-- the form that reports events of this kind by their lines
 abbrev pub plain_form : Event → ℕ
 plain_form (Pilot phase energy) = 0
 plain_form (Sync place capsule message) = 1
@@ -47,33 +47,33 @@ plain_form (Frame place rate good bits power_bits) = 2
 plain_form (Traffic place capsule message) = 1
 plain_form (Sets place time active candidate report) = 0
 
--- the line that a form has for an event, and none where it doesn't hear events of this kind: form 0
--- hears the pilot and the pilot sets, 1 messages, 2 frames, and 3 messages as they came, bit by bit
+-- a form's line for an event, if it reports events of this kind: form 0 reports the pilot and the
+-- pilot sets, 1 messages, 2 frames, and 3 messages as received, bit by bit
 unfoldable pub form_line : ℕ → Event → Option (List ℕ)
 form_line form event =
     if nat_eq form 3 then raw_of event
     else if nat_eq form (plain_form event) then Some (event_line event)
     else None
 
--- the line, or nothing where there is none
+-- the line, or nothing if there is none
 abbrev pub line_text : Option (List ℕ) → List ℕ
 line_text None = []
 line_text (Some line) = line
 
--- how many events are left after one that has this line or none
+-- how many events are left after one that has this line, or no line
 abbrev pub left_after : Option (List ℕ) → ℕ → ℕ
 left_after None left = left
 left_after (Some line) left = left - 1
 
--- what a tap with n events left answers
+-- whether a tap with `left` events left is kept or done
 abbrev pub kept_or_done : ℕ → Heard
 kept_or_done left = if nat_eq left 0 then Done else Keep
 
--- a tap of this form, where it has events left
+-- a tap of this form, if it has events left
 abbrev pub kept_with : ℕ → ℕ → List KeptTap
 kept_with form left = if nat_eq left 0 then [] else record { form = form; left = left } ∷ []
 
--- a kept tap after an event, where it has events left
+-- a kept tap after an event, if it has events left
 abbrev pub tap_after : Event → KeptTap → List KeptTap
 tap_after event tap = kept_with tap.form (left_after (form_line tap.form event) tap.left)
 
@@ -85,7 +85,7 @@ heard_text taps event = flat_map (λ tap. line_text (form_line tap.form event)) 
 abbrev pub taps_after : List KeptTap → Event → List KeptTap
 taps_after taps event = flat_map (tap_after event) taps
 
--- the text of a run: what kept taps make of events, one event after the other
+-- the text of a run: that of kept taps for each event, one after the other
 unfoldable pub run_text : List KeptTap → List Event → List ℕ
 run_text taps [] = []
 run_text taps (event ∷ events) = heard_text taps event ++ run_text (taps_after taps event) events
@@ -95,12 +95,12 @@ unfoldable pub run_taps : List KeptTap → List Event → List KeptTap
 run_taps taps [] = taps
 run_taps taps (event ∷ events) = run_taps (taps_after taps event) events
 
--- the line in a list of its own, where there is one
+-- a list with the line, empty if there is none
 abbrev pub line_list : Option (List ℕ) → List (List ℕ)
 line_list None = []
 line_list (Some line) = line ∷ []
 
--- the lines that a form has for events, in order
+-- a form's lines for events, in order
 unfoldable pub form_lines : ℕ → List Event → List (List ℕ)
 form_lines form [] = []
 form_lines form (event ∷ events) = line_list (form_line form event) ++ form_lines form events
@@ -109,10 +109,10 @@ form_lines form (event ∷ events) = line_list (form_line form event) ++ form_li
 abbrev pub joined_lines : List (List ℕ) → List ℕ
 joined_lines lines = flat_map (λ line. line) lines
 
--- the taps that limits, one for each form, keep of taps of these forms
+-- the taps of these forms that are kept by limits, one for each form
 abbrev pub kept_by : List ℕ → List ℕ → List KeptTap
 kept_by limits forms = flat_map (λ form. kept_with form (slice_index limits form)) forms
 
--- a kept tap has events left, and is of a form that there is
+-- a kept tap has events left, and its form is 0 to 3
 abbrev pub IsKept : KeptTap → Type 0
 IsKept tap = (1 ≤ tap.left) × (tap.form ≤ 3)

@@ -13,17 +13,17 @@ use Rattle.event_tap.specs.Parts.{commas, named_values, rest_text}
 use Rattle.event_tap.specs.SaidTexts.{columns_texts, message_text}
 use Rattle.traffic_message.specs.declared.body.TrafficBody.TheVariants as bodies
 
--- `traffic at=A ack=.. seq=.. req=.. enc=..`, with which each line begins
+-- `traffic at=A ack=.. seq=.. req=.. enc=..`, the beginning of each line
 unfoldable pub start_text : ℕ → Head → List ℕ
 start_text place h = codes "traffic at=" ++ decimal place ++ named_values head_names (head_values h)
 
--- the search parameters stand only where the direction brings them
+-- the search parameters, if the direction has them
 abbrev pub search_text : Option Search → List ℕ
 search_text None = []
 search_text (Some s) = named_values search_names (search_values s)
 
--- ` handoff use=.. action=.. hdm=..`, then ` wina=.. tadd=.. tdrop=.. tcomp=.. ttdrop=..` where the
--- direction brings them, ` extra=BITS records=P/R/C,P/R/C,.. rest=BITS` and LF: for each record the
+-- ` handoff use=.. action=.. hdm=..`, then ` wina=.. tadd=.. tdrop=.. tcomp=.. ttdrop=..` if the
+-- direction has them, ` extra=BITS records=P/R/C,P/R/C,.. rest=BITS` and LF: for each record the
 -- pilot, the row and PWR_COMB_IND
 unfoldable pub handoff_text : DirectionFields → List ℕ
 handoff_text m =
@@ -31,7 +31,7 @@ handoff_text m =
     ++ codes " extra=" ++ bit_text m.extra ++ codes " records="
     ++ commas (columns_texts (m.pns ∷ m.rows ∷ m.combs ∷ [])) ++ rest_text m.rest
 
--- what the line says after the head: a handoff direction in this way, any other body by its layout
+-- the line after its head: a handoff direction as above, any other body by its layout
 abbrev pub body_text : TrafficBody → List ℕ
 body_text (bodies.Handoff m) = handoff_text m
 body_text b =
@@ -43,6 +43,6 @@ abbrev pub HasFewRecords : TrafficBody → Type 0
 HasFewRecords (bodies.Handoff m) = length m.pns ≤ 62
 HasFewRecords b = Unit {0}
 
--- the line of a message that was known at this number of samples
+-- the line of a message that was decoded after `place` samples
 unfoldable pub traffic_line : ℕ → Message → List ℕ
 traffic_line place m = start_text place m.head ++ body_text m.body

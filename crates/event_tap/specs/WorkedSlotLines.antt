@@ -1,4 +1,4 @@
--- The slots of a file of 1,228,800 samples whose mark lies at sample 688,128 and is time 1007, as
+-- The slots of a file of 1,228,800 samples whose mark lies at sample 688,128 and has time 1007, as
 -- the checker computes them.
 use Rattle.event_tap.specs.Common.{places, channel_stream, Stream, Tuning, Paging, Mark}
 use Rattle.std.specs.Prelude.{◌≡◌, refl, ℕ, List, [], ◌∷◌, filter, ℤ, pos, negsuc, None}
@@ -52,17 +52,17 @@ just_then : heard 0 0 884736 ≡ 1 ∷ []
 unfolding tuned mark_with stream heard places
 just_then = refl
 
--- 3 samples later where a path comes 3 chips later
+-- 3 samples later if a path arrives 3 chips later
 ended_late : frame_of_slot_end (stream (pos 0 ∷ negsuc 2 ∷ pos 2 ∷ [])) 1 3 ≡ 884739
 unfolding tuned mark_with stream
 ended_late = refl
 
--- key 1 monitors times of 12 modulo 16, and none of these is there
+-- key 1 monitors the times equal to 12 modulo 16, and none of these is there
 none_heard : heard 1 0 1228800 ≡ []
 unfolding tuned mark_with stream heard places
 none_heard = refl
 
--- data rate 2 stands for no paging channel
+-- no paging channel has data rate 2
 no_rate : heard 0 2 1228800 ≡ []
 unfolding tuned mark_with stream heard places
 no_rate = refl

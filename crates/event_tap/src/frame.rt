@@ -10,7 +10,7 @@ use symbol_path::Rate;
 
 /// Adds the line of a frame to the empty text, LF at its end.
 ///
-/// `at` is the number of samples at which the frame ended.
+/// `at` is the number of samples taken when the frame ended.
 #[tactic(auto, unfolding(crate::specs::FrameLines::frame_line))]
 pub(crate) fn append_frame(
     text: &mut Text,
@@ -30,7 +30,7 @@ pub(crate) fn append_frame(
 
 /// Adds the line of a frame of rate set 2 to the empty text, LF at its end.
 ///
-/// `at` is the number of samples at which the frame ends.
+/// `at` is the number of samples taken when the frame ends.
 #[tactic(auto, unfolding(crate::specs::FrameLines::frame2_line))]
 pub(crate) fn append_frame2(text: &mut Text, at: u64, frame: &Decoded2, power_bits: &PowerBits)
     requires { text.old ≡ [] }
@@ -47,9 +47,9 @@ pub(crate) fn append_frame2(text: &mut Text, at: u64, frame: &Decoded2, power_bi
     );
 }
 
-/// Adds what was received of a frame, and the end of the line.
+/// Adds the received content of a frame, and ends the line.
 ///
-/// `rate` is in bits a second.
+/// `rate` is in bits per second.
 fn append_received(text: &mut Text, rate: u16, good: bool, bits: &Bits, power_bits: &PowerBits)
     requires room { length text.old + 353 ≤ 1024 }
     ensures value { text.new ≡ text.old ++ received_text rate good bits.now power_bits.now }

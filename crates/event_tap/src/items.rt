@@ -17,16 +17,16 @@ pub(crate) trait Items {
     /// The invariant of the list.
     ghost fit: { Self → Type 0 };
 
-    /// How many items there are.
+    /// The number of items.
     ghost size: { Self → ℕ };
 
     /// The texts of the items, in order.
     ghost texts: { Self → List (List ℕ) };
 
-    /// How many bytes an item takes at most, and the comma before it.
+    /// The most bytes that an item takes, including the comma before it.
     ghost width: { Self → ℕ };
 
-    /// Returns how many items there are.
+    /// Returns the number of items.
     fn count(&self) -> u8
         requires { fit self.now }
         ensures value { result ≡ size self.now }

@@ -11,19 +11,19 @@ use crate::tap::{Heard, Tap};
 use heard_events::Event;
 use line_text::Text;
 
-/// Hears the pilot and the pilot sets, in form 0.
+/// The tap of form 0, which reports the pilot and the pilot sets.
 pub type PilotTap = FormTap<0>;
 
-/// Hears messages, in form 1.
+/// The tap of form 1, which reports messages.
 pub type MessageTap = FormTap<1>;
 
-/// Hears frames of the traffic channel, in form 2.
+/// The tap of form 2, which reports frames of the traffic channel.
 pub type FrameTap = FormTap<2>;
 
-/// Hears messages as they came, bit by bit, in form 3.
+/// The tap of form 3, which reports messages as received, bit by bit.
 pub type RawTap = FormTap<3>;
 
-/// Hears the events of a form, which is the remainder of `FORM` by 4.
+/// A tap that reports the events of a form, the remainder of `FORM` by 4.
 #[derive(Drop)]
 pub struct FormTap<const FORM: u8> {
     /// How many events it may still report.
@@ -31,7 +31,7 @@ pub struct FormTap<const FORM: u8> {
 }
 
 impl<const FORM: u8> FormTap<FORM> {
-    /// Makes a tap that reports no event until it is given a limit.
+    /// Makes a tap that reports no event until its limit is set.
     pub fn new() -> FormTap<FORM>
         ensures { result.left ≡ 0 }
     {
@@ -100,8 +100,8 @@ fn hear_where(heard: bool, left: u32, event: &Event, out: &mut Text) -> u32
     }
 }
 
-/// Sets the text to the raw line of a message, bit by bit, and to empty for any other event.
-/// Returns how many of `left` events remain after it.
+/// Sets the text to the raw line of a message, bit by bit, or to empty if the event is not a
+/// message. Returns how many of `left` events remain after it.
 fn hear_raw(left: u32, event: &Event, out: &mut Text) -> u32
     requires { 1 ≤ left }
     ensures text { out.new ≡ line_text (raw_of event.now) }
@@ -117,7 +117,7 @@ fn hear_raw(left: u32, event: &Event, out: &mut Text) -> u32
     left - 1
 }
 
-/// Returns what a tap with `left` events left reports about itself.
+/// Returns whether a tap with `left` events left is kept or done.
 fn heard_of(left: u32) -> Heard
     ensures { result ≡ kept_or_done left }
 {

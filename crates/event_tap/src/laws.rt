@@ -13,8 +13,8 @@ pub fn taps_hear_the_first_events()
         ≡ joined_lines (take limit (form_lines form events)) }
 {}
 
-/// The text of events is that of the first of them, and then that of the others by the taps that
-/// are kept after the first.
+/// The text of events is that of the first part of them, followed by that of the others from the
+/// taps that are kept after the first part.
 pub fn text_goes_on()
     ensures text { (taps : List KeptTap) (events more : List TheEvent) →
         run_text taps (events ++ more) ≡
@@ -28,8 +28,8 @@ pub fn no_tap_writes_nothing()
     ensures { (events : List TheEvent) → run_text [] events ≡ [] }
 {}
 
-/// Taps of each form once, in order, with no raw messages wanted, write the line of each of fewer
-/// events than their limits, once.
+/// One tap of each form, in order and with limit 0 for raw messages, writes the line of each event
+/// exactly once, if there are fewer events than each of the other limits.
 pub fn plain_taps_write_each_line_once()
     ensures { (pilots messages frames : ℕ) (events : List TheEvent) →
         length events < pilots → length events < messages → length events < frames →

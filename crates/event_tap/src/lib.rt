@@ -1,7 +1,7 @@
 //! Lines of text that report what a handset received.
 //!
 //! Each event has one line, and each line ends with LF. [`line_into`] makes an event's line in a
-//! [`Text`] that is not allocated, and [`write_event`] writes it to a sink. The caller of a run
+//! [`Text`], without allocating, and [`write_event`] writes it to a sink. The caller of a run
 //! passes boxed [`Tap`]s: each reports the events of its form's kinds up to its limit, and [`Taps`]
 //! writes their text for an event to a sink. A frame of rate set 2, which is not an event of a
 //! handset, also has a line ([`write_frame2`]), and so has a slot of a sleeping handset

@@ -9,7 +9,7 @@ use paging_message::PagingMessage;
 
 /// Adds the line of a message to the empty text, LF at its end. No line is longer than 1,024 bytes.
 ///
-/// `at` is the number of samples at which the message was known.
+/// `at` is the number of samples taken when the message was decoded.
 #[tactic(auto, unfolding(crate::specs::PagingLines::paging_line))]
 pub(crate) fn append_paging(text: &mut Text, at: u64, message: &PagingMessage)
     requires { text.old ≡ [] }
@@ -20,10 +20,10 @@ pub(crate) fn append_paging(text: &mut Text, at: u64, message: &PagingMessage)
     append_message(text, message.kind(), &message.layout(), &message.contents());
 }
 
-/// Adds the line with which the lines of a slot begin to the empty text, LF at its end.
+/// Adds the first line of a slot to the empty text, LF at its end.
 ///
-/// `at` is the number of samples at which the slot ends, `time` its system time in units of 80 ms,
-/// and `messages` how many messages there are in it.
+/// `at` is the number of samples taken when the slot ends, `time` its system time in units of 80
+/// ms, and `messages` the number of messages in it.
 #[tactic(auto, unfolding(crate::specs::PagingLines::slot_line))]
 pub(crate) fn append_slot(text: &mut Text, at: u64, time: u64, messages: u16)
     requires { text.old ≡ [] }

@@ -38,7 +38,7 @@ fn append_value(text: &mut Text, name: &str, value: u64)
     text.append_short(value);
 }
 
-/// Adds the bits that are left after a message's fields, and the end of the line.
+/// Adds the bits that follow a message's fields, and ends the line.
 pub(crate) fn append_rest(text: &mut Text, rest: &Bits)
     requires room { length text.old + 309 ≤ 1024 }
     ensures value { text.new ≡ text.old ++ rest_text rest.now }
@@ -49,7 +49,7 @@ pub(crate) fn append_rest(text: &mut Text, rest: &Bits)
     text.append_str("\n");
 }
 
-/// Adds at most seven bits that are left after a message's fields, and the end of the line.
+/// Adds the bits, at most seven, that follow a message's fields, and ends the line.
 pub(crate) fn append_few_rest(text: &mut Text, rest: &Bits)
     requires few { length rest.now ≤ 7 }
     requires room { length text.old + 24 ≤ 1024 }
@@ -61,7 +61,7 @@ pub(crate) fn append_few_rest(text: &mut Text, rest: &Bits)
     text.append_str("\n");
 }
 
-/// Adds the text of at most 56 bits to a text that has room for that of 56.
+/// Adds the text of at most 56 bits, which has at most 17 bytes.
 #[tactic(auto, using(crate::proofs::PartTexts::few_alone))]
 pub(crate) fn append_few_bits(text: &mut Text, bits: &Bits)
     requires few { length bits.now ≤ 56 }
@@ -74,7 +74,7 @@ pub(crate) fn append_few_bits(text: &mut Text, bits: &Bits)
     text.append(alone.bytes());
 }
 
-/// Adds the line of a message's capsule, as it came, to the empty text. `channel` is the name of
+/// Adds the line of a message's capsule, as received, to the empty text. `channel` is the name of
 /// its channel, with a space before and after it.
 pub(crate) fn append_raw(text: &mut Text, channel: &str, at: u64, capsule: &Bits)
     requires empty { text.old ≡ [] }

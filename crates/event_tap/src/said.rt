@@ -15,7 +15,7 @@ use line_text::Text;
 use message_layout::{Contents, MessageLayout, Records};
 
 /// Adds the content of a message by the names of its layout, or its type and bits if the layout has
-/// no names, and ends the line.
+/// no name, and ends the line.
 #[tactic(auto, unfolding(crate::specs::SaidTexts::message_text))]
 pub(crate) fn append_message(text: &mut Text, kind: u8, layout: &MessageLayout, contents: &Contents)
     requires start { length text.old ≤ 95 }
@@ -32,7 +32,7 @@ pub(crate) fn append_message(text: &mut Text, kind: u8, layout: &MessageLayout, 
     }
 }
 
-/// Adds the type of a message and its bits, and the end of the line.
+/// Adds the type of a message and its bits, and ends the line.
 #[tactic(auto, unfolding(crate::specs::SaidTexts::kind_text))]
 fn append_kind(text: &mut Text, kind: u8, bits: &Bits)
     requires { length text.old ≤ 95 }
@@ -87,7 +87,7 @@ fn append_list(text: &mut Text, records: &Records, columns: &[Numbers; 3])
     );
 }
 
-/// Adds the bits that are left after the fields of a layout, and the end of the line.
+/// Adds the bits that follow the fields of a layout, and ends the line.
 fn append_end(text: &mut Text, most: Option<u16>, rest: &Bits)
     requires left { IsRest most rest.now }
     requires short { is_short_end most ≡ true }

@@ -9,7 +9,7 @@ use pilot_sets::{ActiveList, PilotList};
 
 /// Adds the line of the pilot sets to the empty text, LF at its end.
 ///
-/// `at` is the number of samples at which the moment lies, and `time` its time in units of 80 ms.
+/// `at` is the number of samples taken at the moment, and `time` its time in units of 80 ms.
 #[tactic(auto, unfolding(crate::specs::SetsLines::sets_line))]
 pub(crate) fn append_sets(
     text: &mut Text,

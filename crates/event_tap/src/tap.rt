@@ -1,4 +1,4 @@
-//! Taps: what makes text of events.
+//! Taps, which turn events into lines of text.
 
 ghost use Rattle.std.specs.Prelude.{ℕ, ◌≡◌, ◌≤◌};
 ghost use Rattle.event_tap.specs.Taps.{form_line, kept_or_done, left_after, line_text};
@@ -15,7 +15,7 @@ pub enum Heard {
     Done,
 }
 
-/// A tap: it makes lines of text of the events that it receives.
+/// A tap, which turns the events that it receives into lines of text.
 ///
 /// A tap has a fixed form: 0 reports the pilot, 1 messages, 2 frames, and 3 raw messages, bit by
 /// bit. It reports as many events of its kinds as its limit allows.
@@ -26,7 +26,7 @@ pub trait Tap: Drop {
     /// How many events it may still report.
     ghost left: { Self → ℕ };
 
-    /// The form, 0 to 3.
+    /// Returns the form, 0 to 3.
     fn form(&self) -> u8
         ensures value { result ≡ shape self.now }
         ensures most { result ≤ 3 };
@@ -38,7 +38,7 @@ pub trait Tap: Drop {
 
     /// Sets the text to the line of the event, ending with LF, or to empty if the form reports no
     /// event of this kind. Only a reported event reduces the number left. Returns `Done` exactly if
-    /// none is left then.
+    /// none is left after that.
     fn hear(&mut self, event: &Event, out: &mut Text) -> Heard
         requires { 1 ≤ left self.old }
         ensures text { out.new ≡ line_text (form_line (shape self.old) event.now) }

@@ -38,10 +38,10 @@ pub struct Taps {
 
 /// A keeper of taps. Code that uses only this trait sees no boxes.
 pub trait KeepsTaps: Drop {
-    /// The kept taps, in order: the form of each and how many events it has left.
+    /// The kept taps, in order: the form of each, and how many events it has left.
     ghost kept: { Self → List KeptTap };
 
-    /// Gives each tap the event, in order, as [`Taps::hear`] does.
+    /// Passes the event to each tap, in order, as [`Taps::hear`] does.
     fn tell<K: Sink>(&mut self, event: &Event, sink: &mut K) -> Result<(), Failed>
         requires { All IsKept (kept self.old) }
         ensures ok { OnOk result (Appends (K.written sink.old) (K.written sink.new)
@@ -63,7 +63,7 @@ impl KeepsTaps for Taps {
 }
 
 impl Taps {
-    /// Gives each tap the limit of its form, and keeps those whose limit isn't 0, in order.
+    /// Sets each tap's limit to that of its form, and keeps those whose limit isn't 0, in order.
     pub fn new(taps: Vec<Box<dyn Tap>>, limits: EventLimits) -> Taps
         ensures value { ⟦<Taps as KeepsTaps>⟧.kept result ≡
             kept_by limits (map (λ b. shape b) taps.items) }
@@ -74,10 +74,10 @@ impl Taps {
         Taps { taps }
     }
 
-    /// Gives each tap the event, in order, writes its text to the sink, and drops it if it has no
-    /// event left.
+    /// Passes the event to each tap, in order, writes the tap's text to the sink, and drops the tap
+    /// if it has no event left.
     ///
-    /// Returns [`Failed`] only if the sink's count of faults rose, and the sink took then the first
+    /// Returns [`Failed`] only if the sink's count of faults rose. The sink then took the first
     /// bytes of the event's text.
     pub fn hear<K: Sink>(&mut self, event: &Event, sink: &mut K) -> Result<(), Failed>
         requires { All IsKept (⟦<Taps as KeepsTaps>⟧.kept self.old) }
@@ -96,7 +96,7 @@ impl Taps {
     }
 }
 
-/// Gives each tap the limit of its form, and drops those whose limit is 0.
+/// Sets each tap's limit to that of its form, and drops the taps whose limit is 0.
 fn limit_all<T: Tap>(taps: &mut Vec<T>, limits: &EventLimits)
     ensures value { kept_of T.shape T.left taps.new.items ≡
         kept_by limits.now (map T.shape taps.old.items) }
@@ -112,7 +112,7 @@ fn limit_all<T: Tap>(taps: &mut Vec<T>, limits: &EventLimits)
     }
 }
 
-/// Gives a tap the limit of its form and returns whether that is above 0.
+/// Sets a tap's limit to that of its form, and returns whether it is above 0.
 fn has_limit<T: Tap>(tap: &mut T, limits: &EventLimits) -> bool
     ensures form { T.shape tap.new ≡ T.shape tap.old }
     ensures range { T.shape tap.old ≤ 3 }
@@ -124,7 +124,7 @@ fn has_limit<T: Tap>(tap: &mut T, limits: &EventLimits) -> bool
     limit > 0
 }
 
-/// Gives each tap the event, writes its text to the sink, and drops it if it has no event left.
+/// Passes the event to each tap, writes the tap's text, and drops the tap if no event is left.
 fn hear_all<T: Tap, K: Sink>(taps: &mut Vec<T>, event: &Event, sink: &mut K) -> Result<(), Failed>
     requires { All IsKept (kept_of T.shape T.left taps.old.items) }
     ensures ok { OnOk result

@@ -21,7 +21,7 @@ const RECORD_FIELDS: [FieldRow; 3] = [("pn", 9), ("row", 8), ("comb", 1)];
 
 /// Adds the line of a message to the empty text, LF at its end. No line is longer than 1,024 bytes.
 ///
-/// `at` is the number of samples at which the message was known.
+/// `at` is the number of samples taken when the message was decoded.
 #[tactic(auto, unfolding(crate::specs::TrafficLines::traffic_line))]
 pub(crate) fn append_traffic(text: &mut Text, at: u64, message: &TrafficMessage)
     requires { text.old ≡ [] }

@@ -1,4 +1,4 @@
--- What the definitions of this crate cite of the crates below, and of its own types.
+-- Names from other crates that the definitions of this crate use.
 pub use Rattle.quality_bits.specs.TrafficCodewords.{repeats_of}
 pub use Rattle.quality_bits.specs.declared.format.FrameFormat.{FrameFormat}
 pub use Rattle.quality_bits.specs.declared.rate.Rate.{Rate}

@@ -28,7 +28,7 @@ score_in softs format w = correlation softs (symbols_in format w)
 unfoldable pub codeword_in : {R : Type 0} → List ℤ → FrameFormat R → Codeword
 codeword_in softs format = best_codeword (score_in softs format) Zero (bits_in format)
 
--- whether the quality indicator is that of the information bits; so always where a format has none
+-- whether the quality indicator is that of the information bits; always true if a format has none
 abbrev pub is_right : {R : Type 0} → FrameFormat R → List Bool → Bool
 is_right format bits =
     pointwise beq
@@ -36,7 +36,7 @@ is_right format bits =
     (quality_indicator format.quality (take format.information bits))
 
 -- ---- frames
--- a codeword of a format as a frame: good exactly where its score is above 0
+-- a codeword of a format as a frame: good exactly if its score is above 0
 abbrev pub frame_in : {R : Type 0} → FrameFormat R → List Bool → ℤ → DecodedFrame R
 frame_in format bits score = record {
   rate = format.rate;
@@ -49,29 +49,29 @@ frame_in format bits score = record {
 abbrev pub first_right : {R : Type 0} → FrameFormat R → List Codeword → Option Codeword
 first_right format codewords = find (λ w. is_right format w.bits) codewords
 
--- that one as a frame
+-- that codeword as a frame, if any
 abbrev pub candidate_of : {R : Type 0} → List ℤ → FrameFormat R → List Codeword →
     Option (DecodedFrame R)
 candidate_of softs format codewords =
     option_map (λ w. frame_in format w.bits (score_in softs format w))
     (first_right format codewords)
 
--- a format's candidate by its best codeword
+-- a format's candidate: its best codeword, if its quality indicator is right
 abbrev pub candidate_in : {R : Type 0} → List ℤ → FrameFormat R → Option (DecodedFrame R)
 candidate_in softs format = candidate_of softs format (codeword_in softs format ∷ [])
 
--- the frame of greater score, the first where both are equal
+-- the frame with the greater score, the first if both are equal
 abbrev pub better : {R : Type 0} → DecodedFrame R → DecodedFrame R → DecodedFrame R
 better first second = if int_lt first.score second.score then second else first
 
--- a higher rate's candidate against the best of the lower rates, if any: it is preferred on a tie
+-- the better of a higher rate's candidate and the best of the lower rates; the former on a tie
 abbrev pub preferred : {R : Type 0} →
     Option (DecodedFrame R) → Option (DecodedFrame R) → Option (DecodedFrame R)
 preferred None lower = lower
 preferred (Some higher) None = Some higher
 preferred (Some higher) (Some lower) = Some (better higher lower)
 
--- the best of these candidates, from the lowest rate up, and one of lower rates
+-- the best of `lower`, from lower rates, and these candidates, in the order of rising rates
 abbrev pub rising_choice : {R : Type 0} →
     Option (DecodedFrame R) → List (Option (DecodedFrame R)) → Option (DecodedFrame R)
 rising_choice lower [] = lower
@@ -86,14 +86,14 @@ not_good format bits score = record {
   score = score;
 }
 
--- the best candidate where it is good; if it is not good, only its score is kept, and if there is
--- none, that of the codeword of the highest rate
+-- the best candidate if it is good, otherwise a codeword of the highest rate as a frame that isn't,
+-- with the best candidate's score, or the codeword's own if there is no candidate
 abbrev pub good_or : {R : Type 0} → FrameFormat R → List Bool → ℤ → Option (DecodedFrame R) →
     DecodedFrame R
 good_or format bits score None = not_good format bits score
 good_or format bits score (Some best) = if best.good then best else not_good format bits best.score
 
--- what is shown of the soft values that are kept, with the highest rate's format and those of the
+-- the frame decoded from the soft values `kept`, given the highest rate's format and those of the
 -- lower rates, the lowest first
 abbrev pub shown_of : {R : Type 0} → FrameFormat R → List (FrameFormat R) → List ℤ → DecodedFrame R
 shown_of highest lower kept =
@@ -101,8 +101,8 @@ shown_of highest lower kept =
     good_or highest codeword.bits (score_in kept highest codeword)
     (preferred (candidate_in kept highest) (rising_choice None (map (candidate_in kept) lower)))
 
--- what is decoded of a frame's soft values, of which those at these places belong to power control
--- bits
+-- the frame decoded from its soft values, of which those at the places `replaced` belong to power
+-- control bits
 unfoldable pub frame_of : {R : Type 0} → FrameFormat R → List (FrameFormat R) → List ℕ → List ℤ →
     DecodedFrame R
 frame_of highest lower replaced softs = shown_of highest lower (unreplaced replaced softs)

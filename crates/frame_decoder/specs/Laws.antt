@@ -17,7 +17,7 @@ abbrev pub channel_frame_score : Channel → List ℤ → Codeword → ℤ
 channel_frame_score c softs w = correlation softs
     (sent c.shape c.repeats (code_symbols w.start w.bits))
 
--- the own bits of a span of one frame are the frame's best codeword
+-- the bits decoded from a span of one frame are those of the frame's best codeword
 abbrev pub IsOneFrame : Type 0
 IsOneFrame =
     (c : Channel) (softs : List ℤ) →
@@ -43,15 +43,15 @@ AgreeElsewhere replaced xs ys =
     (i : ℕ) → i < 384 → is_replaced replaced i ≡ false →
     get_or xs i false ≡ get_or ys i false
 
--- of rates with these formats: no other codeword of any of them, its quality indicator right or
--- not, has a codeword's symbols there
+-- no other codeword of any rate with these formats, whether or not its quality indicator is right,
+-- has this codeword's symbols there
 abbrev pub IsUnsharedIn : {R : Type 0} → (R → FrameFormat R) → List ℕ → R → Codeword → Type 0
 IsUnsharedIn {R} format_of replaced rate w =
     (r : R) (v : Codeword) → IsAllowed Zero (bits_in (format_of r)) v →
     AgreeElsewhere replaced (symbols_in (format_of rate) w) (symbols_in (format_of r) v) →
     (r ≡ rate) × (v ≡ w)
 
--- how many symbols aren't replaced
+-- the number of symbols that aren't replaced
 abbrev pub kept_count : List ℕ → ℕ
 kept_count replaced = length (filter (λ i. not (is_replaced replaced i)) (places 384))
 
@@ -60,7 +60,7 @@ abbrev pub good_frame : {R : Type 0} → R → List Bool → ℤ → DecodedFram
 good_frame rate information score =
     record { rate = rate; good = true; bits = information; score = score }
 
--- soft values that show the symbols of a frame which no other codeword shares give that frame
+-- a frame is decoded from soft values that show its symbols, if no other codeword shares these
 abbrev pub DecodesSentFrames : {R D : Type 0} → (R → FrameFormat R) → (DecodedFrame R → D) →
     (List ℕ → List ℤ → D) → Type 0
 DecodesSentFrames {R} format_of shown decoded =
@@ -74,7 +74,7 @@ DecodesSentFrames {R} format_of shown decoded =
     decoded replaced softs
     ≡ shown (good_frame rate information (pos (strength * kept_count replaced)))
 
--- where all soft values are 0, no frame is good, and the bits are zeros
+-- if all soft values are 0, the frame is not good, and its bits are zeros
 abbrev pub DecodesNothing : {R D : Type 0} → FrameFormat R → (DecodedFrame R → D) →
     (List ℕ → List ℤ → D) → Type 0
 DecodesNothing highest shown decoded =

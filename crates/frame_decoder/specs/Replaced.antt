@@ -3,7 +3,7 @@ use Rattle.frame_decoder.specs.Common.{places}
 use Rattle.std.specs.Prelude.{ℕ, Bool, if◌then◌else◌, nat_eq, List, map, length, get_or, ℤ, pos}
 use Rattle.std.specs.List.{list_any}
 
--- whether a place is that of a symbol that a power control bit replaces
+-- whether a power control bit replaces the symbol at place i
 abbrev pub is_replaced : List ℕ → ℕ → Bool
 is_replaced replaced i = list_any (nat_eq i) replaced
 

@@ -7,8 +7,8 @@ use Rattle.frame_decoder.specs.Formats.{format_of, score_in, symbols_in}
 use Rattle.frame_decoder.specs.Laws.{IsUnsharedIn, good_frame, sent_codeword}
 use Rattle.frame_decoder.specs.TrafficFrames.{as_decoded, decoded, is_replaced, unreplaced}
 
--- At each place of a frame that no power control bit replaces, the symbol and the soft value stand
--- in a relation.
+-- At each place of a frame that no power control bit replaces, `Related` holds of the symbol and
+-- the soft value.
 abbrev pub AreKept : (Bool → ℤ → Type 0) → List ℕ → List Bool → List ℤ → Type 0
 AreKept Related replaced symbols softs =
     (i : ℕ) → i < 384 → is_replaced replaced i ≡ false →
@@ -18,8 +18,8 @@ AreKept Related replaced symbols softs =
 abbrev pub KeepSigns : List ℕ → List Bool → List ℤ → Type 0
 KeepSigns = AreKept HasSign
 
--- Soft values with the signs of the symbols of a frame, which no other codeword shares, give that
--- frame, with its rate and its information bits, as a good one. Its score is its codeword's.
+-- From soft values with the signs of a frame's symbols, which no other codeword shares, that frame
+-- is decoded as good, with its rate and its information bits. Its score is that of its codeword.
 abbrev pub DecodesBySigns : {R D : Type 0} → (R → FrameFormat R) → (DecodedFrame R → D) →
     (List ℕ → List ℤ → D) → Type 0
 DecodesBySigns {R} format_of shown decoded =

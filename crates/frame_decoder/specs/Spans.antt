@@ -18,13 +18,13 @@ pub record Channel : Type 0 where
 abbrev pub sync_channel : Channel
 sync_channel = record { shape = sync_shape; bits = 32; repeats = 2 }
 
--- at 9,600 bits a second 192 bits a frame, each code symbol sent once, and at 4,800 half as many,
--- twice
+-- 192 bits per frame at 9,600 bits per second, each code symbol sent once; 96 bits at 4,800, each
+-- sent twice
 abbrev pub paging_channel : Rate → Channel
 paging_channel rate =
     record { shape = data_shape; bits = 192 / repeats_of rate; repeats = repeats_of rate }
 
--- the channel of each kind of frames
+-- the channel of each kind of frame
 abbrev pub channel_for : FrameKind → Channel
 channel_for Sync = sync_channel
 channel_for (Paging rate) = paging_channel rate
@@ -32,7 +32,7 @@ channel_for (Paging rate) = paging_channel rate
 abbrev pub channel_of : SpanFormat → Channel
 channel_of l = record { shape = shape_of l.kind; bits = l.bits; repeats = l.repeats }
 
--- how a codeword turns into sent symbols: the number of frames, and their code symbols
+-- how a codeword is sent: the number of frames, and the order, repeats and code symbols of each
 pub record Sending : Type 0 where
   pub frames : ℕ
   pub shape : Shape
@@ -43,7 +43,7 @@ abbrev pub sending : Channel → ℕ → Sending
 sending c frames =
     record { frames = frames; shape = c.shape; repeats = c.repeats; code_symbols = 2 * c.bits }
 
--- symbols parted frame by frame, and put into the sent order in each
+-- symbols divided into frames, and put into the sent order within each
 abbrev pub sent_frames : Sending → List Bool → List Bool
 sent_frames s symbols =
     flat_map (λ k. sent s.shape s.repeats (take s.code_symbols (drop (s.code_symbols * k) symbols)))
@@ -53,17 +53,17 @@ sent_frames s symbols =
 abbrev pub sent_symbols : Sending → Codeword → List Bool
 sent_symbols s w = sent_frames s (code_symbols w.start w.bits)
 
--- how well a codeword's symbols agree with the soft values as they are sent
+-- how well a codeword's symbols, as they are sent, agree with the soft values
 abbrev pub score : List ℤ → Sending → Codeword → ℤ
 score softs s w = correlation softs (sent_symbols s w)
 
--- the bits of frame number `own` of a span of frames, whose soft values follow one another
+-- the bits of frame `own` of a span, given the soft values of its frames one after another
 abbrev pub own_bits : Channel → ℕ → ℕ → List ℤ → List Bool
 own_bits c frames own softs =
     let best = best_codeword (score softs (sending c frames)) Free (c.bits * frames) in
     take c.bits (drop (c.bits * own) best.bits)
 
--- for each code symbol of each frame the sum of the soft values that are sent for it
+-- for each code symbol of each frame, the sum of the soft values that are sent for it
 abbrev pub gathered_span : Channel → ℕ → List ℤ → List ℤ
 gathered_span c frames softs =
     flat_map (λ k. gathered c.shape c.repeats (take (size c.shape) (drop (size c.shape * k) softs)))

@@ -12,7 +12,7 @@ use Rattle.frame_decoder.specs.Formats.{format_of, bits_in, symbols_in, score_in
 pub use Rattle.frame_decoder.specs.Replaced.{is_replaced}
 unfoldable pub use Rattle.frame_decoder.specs.Replaced.{unreplaced}
 
--- how many bits a frame of a rate has, its quality indicator and its eight tail bits included
+-- the number of bits of a frame at a rate, including its quality indicator and eight tail bits
 abbrev pub frame_bits : Rate → ℕ
 frame_bits rate = bits_in (format_of rate)
 
@@ -31,12 +31,12 @@ lower_rates = R1200 ∷ R2400 ∷ R4800 ∷ []
 abbrev pub lower_formats : List (FrameFormat Rate)
 lower_formats = map format_of lower_rates
 
--- a frame by its format as a frame of rate set 1
+-- a frame that was decoded by its format, as one of rate set 1
 abbrev pub as_decoded : DecodedFrame Rate → Decoded
 as_decoded d = record { rate = d.rate; good = d.good; bits = d.bits; score = d.score }
 
--- what is decoded of a frame's soft values, of which those at these places belong to power control
--- bits
+-- the frame decoded from its soft values, of which those at the places `replaced` belong to power
+-- control bits
 unfoldable pub decoded : List ℕ → List ℤ → Decoded
 decoded replaced softs = as_decoded (frame_of (format_of R9600) lower_formats replaced softs)
 
@@ -47,19 +47,19 @@ group_sum replaced softs g =
     get_or softs (get_or replaced (2 * g) 0) (pos 0)
     +ℤ get_or softs (get_or replaced (2 * g + 1) 0) (pos 0)
 
--- for each of a frame's 16 groups
+-- the sums of a frame's 16 groups
 abbrev pub group_sums : List ℕ → List ℤ → List ℤ
 group_sums replaced softs = map (group_sum replaced softs) (places 16)
 
--- the sums of each subchannel that is heard
+-- the sums of each subchannel that is received
 abbrev pub summed_subchannels : PowerSofts → List (List ℤ)
 summed_subchannels p = take p.count p.sums
 
--- whether a group's power control bit is heard as 0, by a sum above 0, on each subchannel
+-- whether a group's power control bit is 0 on each subchannel: its sum there is above 0
 abbrev pub is_up : ℕ → List (List ℤ) → Bool
 is_up g sums = list_all (λ sum. int_lt (pos 0) (get_or sum g (pos 0))) sums
 
--- The power control bit of a group: 0, which tells the handset to raise its power, only where each
--- subchannel says so.
+-- The power control bit of a group: 0, which orders the handset to raise its power, exactly if it
+-- is 0 on each subchannel.
 abbrev pub power_bit : List (List ℤ) → ℕ → Bool
 power_bit sums g = not (is_up g sums)

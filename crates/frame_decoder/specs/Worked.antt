@@ -15,7 +15,7 @@ paging_9600 = refl
 paging_4800 : paging_channel R4800 ≡ record { shape = data_shape; bits = 96; repeats = 2 }
 paging_4800 = refl
 
--- a small channel of two bits a frame, which sends the four code symbols 0, 2, 1, 3
+-- a small channel of two bits per frame, which sends the four code symbols in the order 0, 2, 1, 3
 small : Channel
 small = record { shape = record { width = 1; columns = 2 }; bits = 2; repeats = 1 }
 
@@ -26,7 +26,7 @@ two_frames : sent_frames (sending small 2)
 unfolding small sent_by places binary
 two_frames = refl
 
--- one bit a frame, and each code symbol sent twice
+-- one bit per frame, with each code symbol sent twice
 small_twice : Channel
 small_twice = record { shape = record { width = 1; columns = 2 }; bits = 1; repeats = 2 }
 
@@ -36,7 +36,7 @@ two_gathered : gathered_span small_twice 2
 unfolding small_twice gathered_by places binary
 two_gathered = refl
 
--- the values at two of four places are left out
+-- the values at two of four places are set to 0
 left_out : unreplaced (1 ∷ 3 ∷ []) (pos 5 ∷ pos 6 ∷ pos 7 ∷ pos 8 ∷ [])
     ≡ pos 5 ∷ pos 0 ∷ pos 7 ∷ pos 0 ∷ []
 unfolding unreplaced places
@@ -60,7 +60,7 @@ right_4800 : is_right (format_of R4800) (binary 64 0xe17e1018de3b9058 ++ binary 
 unfolding binary places check_bits
 right_4800 = refl
 
--- a frame of zeros has no right quality indicator, and at the lower rates none at all
+-- the quality indicator of a frame of zeros is wrong; at the lower rates there is none
 zeros_9600 : is_right (format_of R9600) (replicate 192 false) ≡ false
 unfolding places check_bits
 zeros_9600 = refl
@@ -72,7 +72,7 @@ zeros_4800 = refl
 zeros_2400 : is_right (format_of R2400) (replicate 48 false) ≡ true
 zeros_2400 = refl
 
--- a frame of each of two rates, of the same score
+-- frames of two rates with the same score
 abbrev quarter : DecodedFrame Rate
 quarter = frame_in (format_of R2400) (replicate 48 false) (pos 352)
 
@@ -85,7 +85,7 @@ tie = refl
 no_candidate : preferred None (Some eighth) ≡ Some eighth
 no_candidate = refl
 
--- a score of 0 isn't good, and only it is kept then
+-- a candidate of score 0 isn't good, and only its score is kept
 nothing_good : good_or (format_of R9600) (replicate 192 false) (pos 7)
     (Some (frame_in (format_of R2400) (replicate 48 true) (pos 0)))
     ≡ record { rate = R9600; good = false; bits = replicate 172 false; score = pos 0 }
@@ -105,7 +105,7 @@ two_groups = refl
 one_subchannel : map (power_bit ((pos 1 ∷ pos 0 ∷ []) ∷ [])) (0 ∷ 1 ∷ []) ≡ false ∷ true ∷ []
 one_subchannel = refl
 
--- a second subchannel says 1 where the first says 0
+-- each of the two bits is 1 on one of the subchannels, and so is 1
 two_subchannels : map (power_bit ((pos 1 ∷ pos 0 ∷ []) ∷ (negsuc 4 ∷ pos 7 ∷ []) ∷ [])) (0 ∷ 1 ∷ [])
     ≡ true ∷ true ∷ []
 two_subchannels = refl

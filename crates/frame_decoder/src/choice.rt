@@ -39,8 +39,8 @@ pub fn preferred<R: Copy>(
     }
 }
 
-/// The frame that is shown: the best candidate if it is good, otherwise the information bits of a
-/// codeword of the highest rate, with the score of the best candidate, if there is one.
+/// Returns the best candidate if it is good, otherwise the information bits of a codeword of the
+/// highest rate, with the score of the best candidate if there is one.
 pub fn good_or<R: Copy>(
     highest: &FrameFormat<R>,
     codeword: &ScoredCodeword,
@@ -80,7 +80,7 @@ fn candidate<R: Copy>(format: &FrameFormat<R>, codeword: &ScoredCodeword) -> Opt
     }
 }
 
-/// The best candidate of these rates, if any, the lowest rate first.
+/// Returns the best candidate of these rates, if any; `formats` begins with the lowest rate.
 fn best_candidate<R: Copy>(
     decoder: &mut Decoder,
     formats: &[FrameFormat<R>],
@@ -103,13 +103,13 @@ fn best_candidate<R: Copy>(
 /// Decodes a frame, given the format of the highest rate and those of the lower rates, the lowest
 /// first.
 ///
-/// `softs` has the soft values of a frame's 384 symbols in the sent order, turned by the
-/// scrambling, and `places` the places of the power control bits, whose soft values count as 0, as
-/// those of dropped symbols do. The best codeword of each rate, among those that start and end with
-/// eight zeros, is a candidate if its quality indicator is right or the rate has none. The
-/// candidate of the largest score is taken, the higher rate on a tie, and is good exactly if that
-/// score is above 0. If it isn't, and if there is no candidate, the rate is the highest, with the
-/// information bits of the best codeword at that rate.
+/// `softs` has the descrambled soft values of a frame's 384 symbols in the sent order, and `places`
+/// the places of the power control bits, whose soft values count as 0, as those of dropped symbols
+/// do. The best codeword of each rate, among those that start and end with eight zeros, is a
+/// candidate if its quality indicator is right or the rate has none. The candidate with the largest
+/// score is taken, the higher rate on a tie, and is good exactly if that score is above 0. If it
+/// isn't, or if there is no candidate, the rate is the highest, with the information bits of the
+/// best codeword at that rate.
 pub fn frame_of<R: Copy>(
     decoder: &mut Decoder,
     highest: &FrameFormat<R>,

@@ -12,7 +12,7 @@ use std::alloc::AllocError;
 use symbol_path::{FrameFormat, REPEATED_SYMBOLS, gather_frame_into};
 use viterbi::{Codeword, Decoder, Ends};
 
-/// A codeword of a format.
+/// A codeword of a format, with its score.
 #[derive(Clone, Copy)]
 pub struct ScoredCodeword {
     /// All bits of the frame.
@@ -47,8 +47,8 @@ impl<R: Copy> Clone for DecodedFrame<R> {
     }
 }
 
-/// The best codeword, for a frame's soft values in the sent order: of those that start from
-/// eight zeros and end with eight zeros.
+/// Returns the best codeword for a frame's soft values in the sent order, among those that start
+/// from eight zeros and end with eight zeros.
 pub(crate) fn best_codeword<R: Copy>(
     format: &FrameFormat<R>,
     decoder: &mut Decoder,
@@ -93,7 +93,7 @@ pub fn is_right<R: Copy>(format: &FrameFormat<R>, bits: &Bits) -> bool
     }
 }
 
-/// A codeword as a frame.
+/// Returns a codeword as a frame.
 pub fn frame_in<R: Copy>(format: &FrameFormat<R>, bits: &Bits, score: i64) -> DecodedFrame<R>
     requires { length bits.now ≡ bits_in format.now }
     ensures { result ≡ frame_in format.now bits.now score }

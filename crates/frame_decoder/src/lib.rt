@@ -1,12 +1,12 @@
 //! From the soft values of frames to their bits.
 //!
-//! The encoders of the sync channel and of a paging channel go on from frame to frame, and no frame
-//! of theirs has a tail (TIA/EIA-95-B, 7.7.1.2 and 7.1.3.1.3). So the neighboring frames also carry
-//! information on the bits near a frame's edges, and a frame is decoded as a part of a span: one,
-//! two or three frames that follow one another, as one codeword.
+//! The encoders of the sync channel and of a paging channel continue from frame to frame, and their
+//! frames have no tail (TIA/EIA-95-B, 7.7.1.2 and 7.1.3.1.3). So the neighboring frames also carry
+//! information about the bits near a frame's edges. A frame is therefore decoded as part of a span:
+//! one to three successive frames that are decoded as one codeword.
 //!
 //! A frame of a traffic channel ends with tail bits (7.1.3.5), so it is decoded by itself, and at
-//! each of the four rates, since nothing says at which it was sent. Its power control bits are read
+//! each of the four rates, since its rate is not transmitted. Its power control bits are read
 //! separately.
 #![tactic(auto)]
 

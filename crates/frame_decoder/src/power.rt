@@ -1,4 +1,4 @@
-//! Power control bits, as a handset receives them.
+//! Power control bits as a handset receives them.
 
 ghost use Rattle.frame_decoder.specs.Common.{places};
 ghost use Rattle.std.specs.Prelude.{◌≡◌, ◌<◌, ◌≤◌, ◌+◌, ◌*◌, ◌^◌, ◌++◌, ◌∷◌, [], map, sum_by, All};
@@ -11,7 +11,7 @@ use crate::frame_softs::FrameSofts;
 use chip_core::PowerBits;
 use symbol_path::PowerPlaces;
 
-/// For each of the 16 power control bits of a frame the sum of the two soft values of the symbols
+/// For each of the 16 power control bits of a frame, the sum of the soft values of the two symbols
 /// that it replaces (TIA/EIA-95-B, 7.1.3.1.7).
 pub type GroupSums = [i64; 16];
 
@@ -21,9 +21,9 @@ pub type GroupSums = [i64; 16];
 /// replaces two symbols.
 #[derive(Clone, Copy, PartialEq, Eq, Debug)]
 pub struct PowerSofts {
-    /// How many subchannels there are, at most six.
+    /// The number of subchannels, at most six.
     pub count: u8,
-    /// For each of them the sums of the two soft values of each power control bit. Entries after
+    /// For each subchannel, the sum of the two soft values of each power control bit. Entries after
     /// the first `count` are unused.
     pub sums: [GroupSums; 6],
 }
@@ -40,9 +40,9 @@ impl PowerSofts {
         }
     }
 
-    /// Adds a subchannel, if there is room: `softs` has the soft values of a frame's symbols over
-    /// its fingers, without descrambling, and `replaced` the places of the power control bits, as
-    /// `symbol_path::power_places` returns them.
+    /// Adds a subchannel, for which there must be room. `softs` has the soft values of a frame's
+    /// symbols over its fingers, not descrambled, and `replaced` the places of the power control
+    /// bits, as `symbol_path::power_places` returns them.
     pub fn push(&mut self, softs: &FrameSofts, replaced: &PowerPlaces)
         requires room { self.old.count < 6 }
         requires below { All (λ place. place < 384) replaced.now }
@@ -57,7 +57,7 @@ impl PowerSofts {
     }
 }
 
-/// For each of a frame's 16 power control bits the sum of its two soft values.
+/// Returns the sum of the two soft values of each of a frame's 16 power control bits.
 fn group_sums(softs: &FrameSofts, replaced: &PowerPlaces) -> GroupSums
     requires below { All (λ place. place < 384) replaced.now }
     requires rising { IsStrictlyIncreasing replaced.now }
@@ -73,7 +73,7 @@ fn group_sums(softs: &FrameSofts, replaced: &PowerPlaces) -> GroupSums
     sums
 }
 
-/// Whether the sum of a group, below 16, is above 0.
+/// Returns whether the sum of `group`, below 16, is above 0.
 fn is_above_zero(sums: &GroupSums, group: usize) -> bool
     requires { group < 16 }
     ensures { result ≡ int_lt (pos 0) (get_or sums.now group (pos 0)) }
@@ -81,7 +81,7 @@ fn is_above_zero(sums: &GroupSums, group: usize) -> bool
     sums[group] > 0
 }
 
-/// Whether the power control bit of a group, below 16, is 0 on each of these subchannels.
+/// Returns whether the power control bit of `group`, below 16, is 0 on each of these subchannels.
 fn is_up(heard: &[GroupSums], group: usize) -> bool
     requires { group < 16 }
     ensures { result ≡ is_up group heard.now }
@@ -93,9 +93,9 @@ fn is_up(heard: &[GroupSums], group: usize) -> bool
     up
 }
 
-/// The 16 power control bits of a frame: a bit is 0, which commands the handset to raise its power,
-/// exactly if the sum of its soft values is above 0 on each subchannel; otherwise it is 1, which
-/// commands it to lower its power.
+/// Returns the 16 power control bits of a frame. A bit is 0, which commands the handset to raise
+/// its power, exactly if the sum of its soft values is above 0 on each subchannel; otherwise it is
+/// 1, which commands it to lower its power.
 ///
 /// TIA/EIA-95-B, 7.1.3.1.7: a 0 raises the power and a 1 lowers it.
 pub fn commands(softs: &PowerSofts) -> PowerBits

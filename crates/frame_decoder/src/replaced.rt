@@ -6,7 +6,7 @@ ghost use Rattle.frame_decoder.specs.Replaced.{unreplaced};
 use crate::frame_softs::FrameSofts;
 use symbol_path::PowerPlaces;
 
-/// Sets the value at a place to 0, if there is one.
+/// Sets the value at `place` to 0, if there is one.
 fn clear_at(values: &mut FrameSofts, place: u16)
     ensures { values.new ≡ slice_set values.old place (pos 0) }
 {
@@ -16,8 +16,8 @@ fn clear_at(values: &mut FrameSofts, place: u16)
     }
 }
 
-/// Returns the soft values of a frame's 384 symbols, with those of power control bits set to 0:
-/// `places` has their places, as `symbol_path::power_places` gives them. No absolute value grows.
+/// Returns the soft values of a frame's 384 symbols, with those of power control bits set to 0.
+/// `places` has their places, as `symbol_path::power_places` returns them. No absolute value grows.
 ///
 /// TIA/EIA-95-B, 7.1.3.1.7: a power control bit replaces two symbols.
 pub fn without_power_bits(softs: &FrameSofts, places: &PowerPlaces) -> FrameSofts

@@ -13,8 +13,7 @@ use chip_core::air::{DATA_SYMBOLS, SPAN_SYMBOLS, SYNC_SYMBOLS};
 use symbol_path::{Rate, gather_into};
 use viterbi::{Codeword, Decoder, Ends};
 
-/// For each code symbol of each frame, one frame after another, the sum of the soft values that
-/// were sent for it.
+/// Sets `out` to the sum of the soft values sent for each code symbol, one frame after another.
 fn gather_span(span_format: SpanFormat, frames: u8, softs: &[i64], out: &mut [i64])
     requires sent { 2 * span_format.bits * span_format.repeats ≡ size (shape_of span_format.kind) }
     requires most { span_format.bits ≤ 192 }
@@ -38,8 +37,8 @@ fn gather_span(span_format: SpanFormat, frames: u8, softs: &[i64], out: &mut [i6
     }
 }
 
-/// The best of all codewords, with any start and any end, for soft values in the order of the code
-/// symbols.
+/// Returns the best of all codewords, with any start and any end, for soft values in the order of
+/// the code symbols.
 fn best_codeword(decoder: &mut Decoder, softs: &[i64]) -> Codeword
     requires { AreDecodable decoder.old softs.now }
     ensures best { IsBestCodeword softs.now Free (spelled_codeword result) }
@@ -83,7 +82,7 @@ fn bits_of(
         .part(span_format.bits * u16::from(own), span_format.bits)
 }
 
-/// The bits of frame `own`, counted from 0, of a span of one to three frames of a kind.
+/// Returns the bits of frame `own`, counted from 0, of a span of one to three frames of a kind.
 ///
 /// `softs` has the soft values of `frames` frames in the sent order, one frame after another, with
 /// the scrambling removed if there is any; a soft value is positive if its symbol is more likely a
@@ -91,8 +90,8 @@ fn bits_of(
 /// start and any end, the one whose sent symbols agree best with the soft values of all frames
 /// together. If several agree best, it is the first of them in the decoder's order.
 ///
-/// TIA/EIA-95-B, 7.1.3.1: the bits are encoded from frame to frame, each code symbol is sent so
-/// often, and the symbols of each frame are interleaved by themselves.
+/// TIA/EIA-95-B, 7.1.3.1: the bits are encoded from frame to frame, each code symbol is sent one or
+/// more times, and the symbols of each frame are interleaved by themselves.
 pub fn span_bits(decoder: &mut Decoder, kind: FrameKind, frames: u8, softs: &[i64], own: u8) -> Bits
     requires frames { frames ≤ 3 }
     requires own { own < frames }
@@ -106,8 +105,8 @@ pub fn span_bits(decoder: &mut Decoder, kind: FrameKind, frames: u8, softs: &[i6
     bits_of(decoder, kind.span_format(), frames, softs, own)
 }
 
-/// The 32 bits of frame `own`, counted from 0, of a span of one to three sync frames: `span_bits`
-/// of as many as `softs` has, 128 soft values a frame.
+/// Returns the 32 bits of frame `own`, counted from 0, of a span of one to three sync frames, as
+/// [`span_bits`] does. `softs` has 128 soft values per frame.
 ///
 /// TIA/EIA-95-B, 7.7.1.2: a sync frame has 32 bits; 7.1.3.1: they are encoded, each code symbol is
 /// sent twice, and the symbols of each frame are interleaved by themselves.
@@ -125,9 +124,9 @@ pub fn sync_span(decoder: &mut Decoder, softs: &[i64], own: u8) -> Bits
     span_bits(decoder, FrameKind::Sync, frames, softs, own)
 }
 
-/// The bits of frame `own`, counted from 0, of a span of one to three frames of a paging channel,
-/// 192 bits at 9,600 bits a second and 96 at 4,800: `span_bits` of as many as `softs` has, 384 soft
-/// values a frame.
+/// Returns the bits of frame `own`, counted from 0, of a span of one to three frames of a paging
+/// channel, as [`span_bits`] does: 192 bits at 9,600 bits per second, and 96 at 4,800. `softs` has
+/// 384 soft values per frame.
 ///
 /// TIA/EIA-95-B, 7.1.3.1: the bits are encoded, each code symbol is sent once at 9,600 and twice at
 /// 4,800, and the symbols of each frame are interleaved by themselves.

@@ -8,8 +8,8 @@ use symbol_path::{Kind, Rate};
 pub enum FrameKind {
     /// Frames of the sync channel: 32 bits, each code symbol sent twice, 128 symbols.
     Sync,
-    /// Frames of a paging channel at a rate: 384 symbols; at 9,600 bits a second 192 bits, each
-    /// code symbol sent once, and at 4,800 half as many, twice.
+    /// Frames of a paging channel at a rate, of 384 symbols: 192 bits at 9,600 bits per second,
+    /// each code symbol sent once; 96 bits at 4,800, each code symbol sent twice.
     Paging(Rate),
 }
 
@@ -40,7 +40,7 @@ impl FrameKind {
     }
 }
 
-/// How a frame's bits are sent, two code symbols a bit.
+/// How a frame's bits are sent, with two code symbols per bit.
 #[derive(Clone, Copy)]
 pub(crate) struct SpanFormat {
     /// The number of symbols that a frame sends, and their order.

@@ -13,7 +13,7 @@ use viterbi::Decoder;
 /// A decoded traffic frame.
 #[derive(Clone, Copy, PartialEq, Eq, Debug)]
 pub struct Decoded {
-    /// The rate at which it was sent; 9,600 bits a second if the frame is bad.
+    /// The rate at which it was sent; 9,600 bits per second if the frame is bad.
     pub rate: Rate,
     /// Whether its score is above 0: its symbols agree with the soft values.
     pub good: bool,
@@ -26,7 +26,7 @@ pub struct Decoded {
 impl Decoded {
     ghost use Rattle.frame_decoder.specs.TrafficFrames.{as_decoded};
 
-    /// A frame of rate set 1 by its format, as it is shown.
+    /// Makes a decoded frame of rate set 1 from one that was decoded by its format.
     pub fn of_frame(frame: &DecodedFrame<Rate>) -> Decoded
         ensures { result ≡ as_decoded frame.now }
     {
@@ -41,13 +41,13 @@ impl Decoded {
 
 /// Decodes a traffic frame of rate set 1.
 ///
-/// `softs` has the soft values of a frame's 384 symbols in the sent order, turned by the
-/// scrambling, and `places` the places of the power control bits, whose soft values count as 0. For
-/// each rate, the best codeword is found among those that start and end with eight zeros. Those of
-/// 9,600 and 4,800 bits a second are candidates where their quality indicator is right, and the
-/// others always. The candidate of the largest score is taken, the higher rate on a tie, and is
-/// good exactly if that score is above 0. If it isn't, the rate is 9,600, with the information bits
-/// of the best codeword at that rate.
+/// `softs` has the descrambled soft values of a frame's 384 symbols in the sent order, and `places`
+/// the places of the power control bits, whose soft values count as 0. For each rate, the best
+/// codeword is found among those that start and end with eight zeros. At 9,600 and 4,800 bits per
+/// second it is a candidate only if its quality indicator is right; at the other rates it always
+/// is. The candidate with the largest score is taken, the higher rate on a tie, and is good exactly
+/// if that score is above 0. If it isn't, the rate is 9,600, with the information bits of the best
+/// codeword at that rate.
 ///
 /// TIA/EIA-95-B, 7.1.3.5: the bits of a frame at each rate; 7.1.3.1: they are encoded, each code
 /// symbol is sent 1, 2, 4 or 8 times, and the symbols are interleaved.

@@ -15,12 +15,12 @@ abbrev pub IsLawful : CodeChannel → Type 0
 IsLawful (Paging number) = (1 ≤ number) × (number ≤ 7)
 IsLawful (Traffic traffic) = (traffic.row < 64) × (traffic.offset ≤ 15)
 
--- the Walsh row that it is sent on
+-- the Walsh row on which a channel is sent
 abbrev pub row_of : CodeChannel → ℕ
 row_of (Paging number) = number
 row_of (Traffic traffic) = traffic.row
 
--- how many chips after the mark its frame 0 begins
+-- the number of chips from the mark to the start of its frame 0
 abbrev pub offset_of : CodeChannel → ℕ
 offset_of (Paging number) = 0
 offset_of (Traffic traffic) = frame_offset_chips * traffic.offset
@@ -30,7 +30,7 @@ abbrev pub has_power_control : CodeChannel → Bool
 has_power_control (Paging number) = false
 has_power_control (Traffic traffic) = true
 
--- the long code's state at the first chip of frame k, and the mask
+-- the long code's state at the first chip of frame k, and the channel's mask
 abbrev pub state_at : CodeChannel → Mark → ℕ → ℕ
 state_at (Paging number) m k = after m.state (data_frame_chips * k)
 state_at (Traffic traffic) m k = frame_state traffic m k
@@ -48,7 +48,7 @@ abbrev pub start_of : CodeChannel → Mark → ℕ
 start_of (Paging number) m = m.sample
 start_of (Traffic traffic) m = m.sample + frame_offset_chips * traffic.offset
 
--- Its frames, as the paths of the reference base station receive them, each known at its own end.
+-- A channel's frames on the reference base station's paths, each known at its own end.
 abbrev pub channel_stream : Tuning → CodeChannel → Mark → Stream
 channel_stream t channel m = record {
   channel = sent_as channel m;

@@ -5,12 +5,12 @@ use Rattle.std.specs.Prelude.{nat_lt, if◌then◌else◌, Option, None}
 use Rattle.std.specs.List.{list_all}
 use Rattle.rake_finger.specs.Near.{is_close}
 
--- a list of fingers that may have none
+-- the fingers of an optional list
 abbrev pub fingers_in : Option (List Finger) → List Finger
 fingers_in None = []
 fingers_in (Some fingers) = fingers
 
--- for how many fingers active pilots may want room: three for the reference's, one for another
+-- the most fingers that active pilots need: three for the reference's, one for any other
 abbrev pub finger_places : Leg → ℕ
 finger_places leg = if leg.reference then 3 else 1
 
@@ -25,6 +25,6 @@ legs_close legs = list_all (λ (leg : Leg). is_close leg.finger) legs
 abbrev pub legs_rows : List Leg → Bool
 legs_rows legs = list_all (λ (leg : Leg). nat_lt leg.finger.row 64) legs
 
--- so are the reference's paths
+-- each of the reference's paths is close
 abbrev pub paths_close : List ℤ → Bool
 paths_close deltas = list_all (λ d. nat_le (unsigned_abs d) half_window_chips) deltas

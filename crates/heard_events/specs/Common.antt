@@ -1,4 +1,4 @@
--- What the definitions of this crate cite of the crates below, and of its own types.
+-- Names that the definitions of this crate use, from other crates and of its own types.
 pub use Rattle.chip_core.specs.Air.{data_frame_chips, frame_offset_chips, half_window_chips}
 pub use Rattle.chip_core.specs.Air.{superframe_chips}
 unfoldable pub use Rattle.chip_core.specs.Bits.{places}

@@ -8,6 +8,6 @@ use Rattle.heard_events.specs.declared.channel.CodeChannel.TheVariants as channe
 abbrev pub traffic_channel : Traffic → CodeChannel
 traffic_channel traffic = channels.Traffic traffic
 
--- only the reference's pilot is active, for any frame
+-- the active pilots of any frame k: only the reference's
 abbrev pub reference_alone : Traffic → Mark → ℕ → List Leg
 reference_alone traffic m k = legs_of m (new_standing m.pilot traffic.row)

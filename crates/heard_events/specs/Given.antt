@@ -3,13 +3,12 @@ use Rattle.heard_events.specs.Common.{Event, Pilot, Sync, Frame, Sets}
 use Rattle.std.specs.Prelude.{ℕ, List, [], ◌∷◌, Option, Some, None}
 use Rattle.heard_events.specs.declared.event.Event.TheVariants.{Paging, Traffic}
 
--- one or none, as a list
+-- an optional event, as a list
 abbrev pub event_list : Option Event → List Event
 event_list None = []
 event_list (Some event) = event ∷ []
 
--- how many samples had been taken at an event's end; the pilot is found before any is given to the
--- handset
+-- the number of samples taken when an event ends; the pilot is found before any sample is taken
 abbrev pub at_of : Event → ℕ
 at_of (Pilot phase energy) = 0
 at_of (Sync at' capsule message) = at'

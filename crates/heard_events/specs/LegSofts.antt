@@ -6,14 +6,13 @@ use Rattle.pilot_search.specs.declared.paths.Near.{Near}
 use Rattle.heard_events.specs.Close.{legs_close, legs_rows, places_in}
 use Rattle.heard_events.specs.Legs.{all_fingers, on_subchannel}
 
--- the sums of the power control bits of the frame that begins at a reference sample, on a
--- subchannel
+-- the power control sums on subchannel c of the frame that begins at reference sample `start`
 abbrev pub sums_on : List Sample → ℕ → List ℤ → List Leg → ℕ → List ℕ → ℕ → List ℤ
 sums_on heard phase deltas legs start replaced c =
     group_sums replaced
     (softs heard (all_fingers phase deltas (on_subchannel c legs)) Data start)
 
--- one to six pilots, whose fingers' samples of the frame the ring holds
+-- there are one to six pilots, and the ring holds their fingers' samples of the frame
 pub record IsHeldFrom (ring : Held) (legs : List Leg) (phase : ℕ) (near : Near) (start : ℕ)
     : Type 0 where
   pub some : 1 ≤ length legs

@@ -7,12 +7,12 @@ use Rattle.std.specs.Prelude.{◌-ℤ◌, get_or}
 use Rattle.std.specs.List.{flat_map, list_any}
 use Rattle.pilot_sets.specs.declared.lists.Active.{Active}
 
--- the chip of a pilot's code that falls on sample 0, on a path so much earlier than the reference:
--- at the mark the system's time is a multiple of the code's period
+-- the chip of a pilot's code that falls on sample 0, on a path `delta` chips earlier than the
+-- reference; at the mark, system time is a multiple of the code's period
 abbrev pub pilot_phase : Mark → ℕ → ℤ → ℕ
 pilot_phase m pilot delta = modulo_code ((delta -ℤ pos (64 * pilot)) -ℤ pos m.sample)
 
--- the finger of a pilot, on the path where it was measured last
+-- the finger of a pilot, on the path where it was last measured
 abbrev pub pilot_finger : Mark → ℤ → Active → Finger
 pilot_finger m delta a = record { phase = pilot_phase m a.pilot delta; delta = delta; row = a.row }
 
@@ -27,7 +27,7 @@ leg_of m deltas a = record {
 abbrev pub legs_of : Mark → Standing → List Leg
 legs_of m s = map (leg_of m s.deltas) (shown s)
 
--- The reference's pilot has all of the handset's paths, another one finger.
+-- The reference's pilot has a finger on each of the handset's paths, any other pilot only one.
 abbrev pub leg_fingers : ℕ → List ℤ → Leg → List Finger
 leg_fingers phase deltas leg =
     if leg.reference then fingers_of leg.finger.row phase deltas else leg.finger ∷ []
@@ -35,7 +35,7 @@ leg_fingers phase deltas leg =
 abbrev pub all_fingers : ℕ → List ℤ → List Leg → List Finger
 all_fingers phase deltas legs = flat_map (leg_fingers phase deltas) legs
 
--- the pilots of a power control subchannel, and the subchannels that there are, of six
+-- the pilots of a power control subchannel, and those of the six subchannels that have pilots
 abbrev pub is_on : ℕ → Leg → Bool
 is_on c leg = leg.subchannel == c
 

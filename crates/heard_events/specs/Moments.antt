@@ -19,13 +19,13 @@ use Rattle.heard_events.specs.TrafficStreams.{chips_after}
 use Rattle.heard_events.specs.Tuning.{Tuning}
 use Rattle.rake_finger.specs.Strengths as measured
 
--- Moment j lies j superframes after the mark, and has a time as much later. Moment 0 is the mark,
--- where nothing is measured.
+-- Moment j lies j superframes after the mark, and its time is j units of 80 ms later. Moment 0 is
+-- the mark itself, where nothing is measured.
 abbrev pub moment_place : Mark → ℕ → ℕ
 moment_place m j = m.sample + superframe_chips * j
 
 -- ONE MOMENT
--- how strong a pilot is in the 512 samples before a place, in the window that the sets have for it
+-- the strength of a pilot in the 512 samples before `place`, within the sets' window for it
 abbrev pub strength_at : Mark → List Sample → ℕ → Standing → ℕ → measured.Strength
 strength_at m samples place s p =
     strength_before samples (pilot_phase m p (pos 0)) (search_window_chips (window_number s.sets p))
@@ -44,22 +44,22 @@ strengths_at m samples place s = map (pilot_strength m samples place s) (pilots 
 abbrev pub power_at : List Sample → ℕ → ℕ
 power_at samples place = sample_power (samples_before samples place)
 
--- The sets after moment j: the direction for its time takes effect, then all pilots of the sets
--- are measured, and move.
+-- The sets after moment j. The direction for its time takes effect; then all pilots of the sets are
+-- measured and moved.
 unfoldable pub passed : Mark → List Sample → ℕ → Standing → Standing
 passed m samples j s =
     let place = moment_place m j in
     let began = due_at (m.time + j) s in
     stepped (strengths_at m samples place began) (power_at samples place) (m.time + j) began
 
--- what it changed
+-- the changes at moment j
 unfoldable pub changed : Mark → List Sample → ℕ → Standing → SetChange
 changed m samples j s =
     let place = moment_place m j in
     let began = due_at (m.time + j) s in
     change_at (strengths_at m samples place began) (power_at samples place) (m.time + j) began
 
--- There is an event where a list changed or a report is due.
+-- There is an event if a list changed or a report is due.
 abbrev pub moment_events : Mark → ℕ → SetChange → Standing → List Event
 moment_events m j change s =
     if change.changed || change.report
@@ -72,18 +72,18 @@ moment_events m j change s =
 abbrev pub moment_of : Traffic → ℕ → ℕ
 moment_of traffic k = chips_after traffic k / superframe_chips
 
--- the active pilots of each frame, from what is kept after each moment
+-- the active pilots of each frame, from the sets kept after each moment
 abbrev pub legs_by : Traffic → Mark → (ℕ → Standing) → ℕ → List Leg
 legs_by traffic m kept k = legs_of m (kept (moment_of traffic k))
 
--- what is heard after the mark when just n samples have been taken, from these samples
+-- the frames and messages after the mark that end at n samples, from these samples
 unfoldable pub told_by : Tuning → Traffic → Mark → (ℕ → List Leg) → List Sample → ℕ → List Event
 told_by t traffic m legs samples n =
     let first = take n samples in
     map (page_event n) (pages_if_marked t t.paging (Some m) first n)
     ++ (frames_by t traffic m legs first n ++ messages_by t traffic m legs first n)
 
--- the sets with what is heard after moment j, over n samples
+-- the sets after moment j, updated by what is received in the `count` samples that follow
 unfoldable pub heard_from : Tuning → Traffic → Mark → (ℕ → Standing) → List Sample → ℕ → ℕ →
     Standing
 heard_from t traffic m kept samples j count =
@@ -92,8 +92,8 @@ heard_from t traffic m kept samples j count =
     (places count))
     (kept j)
 
--- What is kept after each moment up to j, by its number: a later one isn't known yet, and has what
--- moment j has. It depends only on the samples before moment j.
+-- The sets kept after each moment up to j, by its number. Later moments aren't known yet, and have
+-- the sets of moment j. All of these depend only on the samples before moment j.
 unfoldable pub kept_to : Tuning → Traffic → Mark → List Sample → ℕ → (ℕ → Standing)
 kept_to t traffic m samples zero = λ i. new_standing m.pilot traffic.row
 kept_to t traffic m samples (suc j) =
@@ -104,7 +104,7 @@ kept_to t traffic m samples (suc j) =
     else passed m first (suc j) (heard_from t traffic m kept first j superframe_chips)
 
 -- AT A NUMBER OF SAMPLES
--- how many moments lie before it
+-- how many moments lie before n samples, not counting the mark
 abbrev pub moments_before : Mark → ℕ → ℕ
 moments_before m n = (n - (m.sample + 1)) / superframe_chips
 
@@ -114,7 +114,7 @@ kept_at t traffic m samples n = kept_to t traffic m samples (moments_before m n)
 abbrev pub legs_at : Tuning → Traffic → Mark → List Sample → ℕ → (ℕ → List Leg)
 legs_at t traffic m samples n = legs_by traffic m (kept_at t traffic m samples n)
 
--- the frames that end when just n samples have been taken, and the messages that they complete
+-- the frames that end at n samples, and the messages that they complete
 abbrev pub frames_at : Tuning → Traffic → Mark → List Sample → ℕ → List Event
 frames_at t traffic m samples n =
     frames_by t traffic m (legs_at t traffic m samples n) (take n samples) n
@@ -127,7 +127,7 @@ messages_at t traffic m samples n =
 abbrev pub sets_events : Mark → List Sample → ℕ → Standing → List Event
 sets_events m samples j s = moment_events m j (changed m samples j s) (passed m samples j s)
 
--- that of a moment that lies there
+-- the event of the moment at n samples, if one lies there
 unfoldable pub sets_at : Tuning → Traffic → Mark → List Sample → ℕ → List Event
 sets_at t traffic m samples n =
     let j = moments_before m n in

@@ -38,20 +38,19 @@ page_noted pn (pages.System f) s = if f.pn == pn then with_thresholds (system_th
 page_noted pn (pages.Neighbors f) s = if f.pn == pn then with_neighbors f.pns s else s
 page_noted pn message s = s
 
--- a message of the traffic channel, where the first moment that isn't before its end has this time
+-- a traffic message updates the sets; `first` is the time of the first moment at or after its end
 abbrev pub body_noted : ℕ → TrafficBody → Standing → Standing
 body_noted first (bodies.System f) s = with_thresholds (in_traffic_thresholds f) s
 body_noted first (bodies.Neighbors f) s = with_neighbors f.pns s
 body_noted first (bodies.Handoff f) s = directed first f s
 body_noted first body s = s
 
--- the number of the first moment, from 1 on, that isn't before n samples; a superframe lies between
--- two moments
+-- the number, from 1 on, of the first moment at or after n samples; moments are a superframe apart
 abbrev pub moment_from : Mark → ℕ → ℕ
 moment_from m n = (n - (m.sample + 1)) / superframe_chips + 1
 
--- What an event changes, where the reference's pilot has this offset, and the first moment that
--- isn't before the event's end this time.
+-- The sets after an event. `pn` is the offset of the reference's pilot, and `first` the time of the
+-- first moment at or after the event's end.
 abbrev pub noted_with : ℕ → ℕ → Event → Standing → Standing
 noted_with pn first (Paging n capsule message) s = page_noted pn message s
 noted_with pn first (Traffic n capsule message) s = body_noted first message.body s
@@ -60,7 +59,7 @@ noted_with pn first event s = s
 abbrev pub noted : Mark → Event → Standing → Standing
 noted m event s = noted_with m.pilot (m.time + moment_from m (at_of event)) event s
 
--- one after the other
+-- the sets after all of these events, one after the other
 abbrev pub all_noted : Mark → List Event → Standing → Standing
 all_noted m [] s = s
 all_noted m (event ∷ events) s = all_noted m events (noted m event s)

@@ -17,22 +17,22 @@ use Rattle.heard_events.specs.SpelledMessages.{SpelledPage, as_spelled, spelled_
 abbrev pub as_spelled_page : List Bool → Option PagingMessage → Option SpelledPage
 as_spelled_page = as_spelled
 
--- a capsule with a fault gives none
+-- the message of a capsule; none if the capsule has a fault
 abbrev pub page_in : CheckForm → Option (List Bool) → Option SpelledPage
 page_in form = spelled_in (paging_reading form)
 
--- The bits of the frames in the file before frame `next`, which all follow one another: a mark lies
--- so far after the file's first sample that frame 0 is in the file where a later one is.
+-- The bits of the frames in the file before frame `next`. These all follow one another: a mark lies
+-- so far after the file's first sample that frame 0 is in the file if any later frame is.
 unfoldable pub paging_bits_before : ℕ → List Sample → Stream → ℕ → List Bool
 paging_bits_before count samples s next =
     flat_map (frame_own_bits count samples s) (filter (is_in_file count s) (places next))
 
--- the bits up to bit i of frame k, with that bit
+-- the bits up to and including bit i of frame k
 unfoldable pub bits_up_to : ℕ → List Sample → Stream → ℕ → ℕ → List Bool
 bits_up_to count samples s k i =
     paging_bits_before count samples s k ++ take (i + 1) (frame_own_bits count samples s k)
 
--- what bit i of frame k of a paging channel completes
+-- the message that bit i of frame k of a paging channel completes
 unfoldable pub page_at : Tuning → ℕ → Mark → List Sample → ℕ → ℕ → Option SpelledPage
 page_at t channel m samples k i =
     page_in t.check30
@@ -46,13 +46,13 @@ pages_from t channel m samples k from =
     flat_map (λ i. option_to_list (page_at t channel m samples k i))
     (range_with_len from (length own - from))
 
--- the messages that are known when just n samples have been taken
+-- the messages that become known at n samples
 unfoldable pub pages_at : Tuning → ℕ → Mark → List Sample → ℕ → List SpelledPage
 pages_at t channel m samples n =
     flat_map (λ k. pages_from t channel m samples k 0)
     (known_now t.count (paging_stream t channel m) n (paging_bound n))
 
--- the same after a mark that may be set; with the values 2 and 3 of PRAT no channel is heard
+-- the same after the mark, if it is set; with PRAT 2 or 3 no channel is received
 abbrev pub pages_if_marked : Tuning → ℕ → Option Mark → List Sample → ℕ → List SpelledPage
 pages_if_marked t channel None samples n = []
 pages_if_marked t channel (Some m) samples n =

@@ -12,7 +12,7 @@ use Rattle.heard_events.specs.Tuning.{Tuning}
 use Rattle.rake_finger.specs.Paths.{fingers_of}
 use Rattle.heard_events.specs.declared.mark.Mark.{Mark}
 
--- PRAT 0 stands for 9,600 bits a second, and 1 for 4,800
+-- PRAT 0 means 9,600 bits a second, and PRAT 1 means 4,800
 abbrev pub paging_rate : ℕ → Rate
 paging_rate prat = if prat == 1 then R4800 else R9600
 

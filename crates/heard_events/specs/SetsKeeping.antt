@@ -6,11 +6,11 @@ use Rattle.heard_events.specs.Moments.{moment_place}
 use Rattle.heard_events.specs.SoundMarks.{IsSoundMark}
 use Rattle.heard_events.specs.declared.sets_keeper.SetsKeeper.{SetsKeeper}
 
--- the sample at which the moment lies that comes next
+-- the sample of the next moment to come
 abbrev pub coming_place : SetsKeeper → ℕ
 coming_place k = moment_place k.mark (k.passed + (if k.due then 2 else 1))
 
--- No pilot was measured far from its place, and the moments lie in a file.
+-- No pilot was measured far from its expected phase, and the moments lie in a file.
 pub record IsSoundKeeper (k : SetsKeeper) : Type 0 where
   pub marked : IsSoundMark k.mark
   pub close : All (λ d. unsigned_abs d ≤ half_window_chips) k.sets.deltas

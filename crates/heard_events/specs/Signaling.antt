@@ -14,15 +14,15 @@ use Rattle.heard_events.specs.Tuning.{Tuning}
 use Rattle.heard_events.specs.SpelledMessages.{SpelledSignal, spelled_in}
 use Rattle.heard_events.specs.declared.event.Event.TheVariants as events
 
--- a capsule with a fault gives none
+-- the message of a capsule; none if the capsule has a fault
 abbrev pub signal_in : CheckForm → Option (List Bool) → Option SpelledSignal
 signal_in form = spelled_in (traffic_reading form)
 
--- a frame's signaling, where the frame is good and has any
+-- a frame's signaling, if the frame is good and has any
 abbrev pub signal_of : Decoded → Option (List Bool)
 signal_of frame = if frame.good then (split frame.rate frame.bits).signal else None
 
--- that of frame k
+-- the signaling of frame k
 unfoldable pub signal_at : Tuning → Traffic → Mark → (ℕ → List Leg) → List Sample → ℕ →
     Option (List Bool)
 signal_at t traffic m legs samples k = signal_of (decoded_at t traffic m legs samples k)
@@ -34,7 +34,7 @@ signals_before t traffic m legs samples next =
     flat_map (λ k. option_to_list (signal_at t traffic m legs samples k))
     (filter (has_frame t traffic m legs) (places next))
 
--- the capsule whose last bit lies in a signaling part after those before it, where there is one
+-- the capsule whose last bit lies in a signaling part that follows those of `before`, if any
 abbrev pub capsule_with : List (List Bool) → Option (List Bool) → Option (List Bool)
 capsule_with before None = None
 capsule_with before (Some signal) = capsule_ending (map piece (before ++ signal ∷ []))
@@ -47,7 +47,7 @@ signaling_message_at t traffic m legs samples k =
     (capsule_with (signals_before t traffic m legs samples k)
     (signal_at t traffic m legs samples k))
 
--- the event of a message that is known at n samples, where there is one
+-- the event of a message that is known at n samples, if there is one
 abbrev pub message_events : ℕ → Option SpelledSignal → List Event
 message_events n None = []
 message_events n (Some heard) = events.Traffic n heard.capsule heard.message ∷ []
@@ -57,7 +57,7 @@ abbrev pub message_heard : Tuning → Traffic → Mark → (ℕ → List Leg) �
 message_heard t traffic m legs samples n k =
     message_events n (signaling_message_at t traffic m legs samples k)
 
--- those of the frames that end when just n samples have been taken
+-- the events of the messages that are completed by the frames that end at n samples
 unfoldable pub messages_by : Tuning → Traffic → Mark → (ℕ → List Leg) → List Sample → ℕ → List Event
 messages_by t traffic m legs samples n =
     flat_map (message_heard t traffic m legs samples n) (frames_now t traffic m legs n)

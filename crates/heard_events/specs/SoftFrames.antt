@@ -12,7 +12,7 @@ use Rattle.heard_events.specs.declared.channel.CodeChannel.TheVariants.{Paging, 
 use Rattle.heard_events.specs.declared.soft_frame.PowerControl.{PowerControl}
 use Rattle.heard_events.specs.declared.soft_frame.SoftFrame.{SoftFrame}
 
--- the power control bits of frame k of a traffic channel, from its soft values, which nothing turns
+-- the power control bits of frame k of a traffic channel, from its raw soft values
 abbrev pub power_of : CodeChannel → Mark → ℕ → List ℤ → Option PowerControl
 power_of (Paging number) m k raw = None
 power_of (Traffic traffic) m k raw = Some (record {
@@ -20,13 +20,13 @@ power_of (Traffic traffic) m k raw = Some (record {
   power_bits = map (power_bit (group_sums (replaced_in traffic m k) raw ∷ [])) (places 16);
 })
 
--- frame k's soft values as the paths of the reference base station are heard
+-- frame k's raw soft values, received on the paths of the reference base station
 abbrev pub raw_at : Tuning → CodeChannel → Mark → List Sample → ℕ → List ℤ
 raw_at t channel m samples k =
     let s = channel_stream t channel m in
     softs samples s.fingers s.form (frame_start s k)
 
--- what is received of frame k, by these soft values
+-- frame k as received, from its raw soft values
 abbrev pub soft_frame_of : Tuning → CodeChannel → Mark → ℕ → List ℤ → SoftFrame
 soft_frame_of t channel m k raw =
     let s = channel_stream t channel m in
@@ -46,6 +46,6 @@ frames_within t channel m samples n =
     map (soft_frame t channel m samples)
     (known_by t.count (channel_stream t channel m) n (paging_bound n))
 
--- those that end within these samples
+-- the frames that end within these samples
 abbrev pub soft_frames : Tuning → CodeChannel → Mark → List Sample → List SoftFrame
 soft_frames t channel m samples = frames_within t channel m samples (length samples)

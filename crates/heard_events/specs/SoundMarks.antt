@@ -2,8 +2,8 @@
 use Rattle.heard_events.specs.Common.{IsState, Mark}
 use Rattle.std.specs.Prelude.{◌^◌, ◌<◌, ◌≤◌}
 
--- The mark isn't far after a file, and lies after all that a finger may read too early; there the
--- time has 36 bits, the long code has a state and the pilot a number.
+-- The mark is not far past the end of a file, and late enough for fingers that read early. Its time
+-- has 36 bits, its state is one of the long code, and its pilot is one of the 512.
 pub record IsSoundMark (m : Mark) : Type 0 where
   pub early : m.sample < 2 ^ 29
   pub late : 2 ^ 16 ≤ m.sample

@@ -1,10 +1,10 @@
--- Messages as they are read, each with its capsule.
+-- Decoded messages, each with its capsule.
 use Rattle.heard_events.specs.Common.{PagingMessage, SyncFields}
 use Rattle.std.specs.Prelude.{Bool, List, Option, Some, None}
 use Rattle.traffic_message.specs.Messages.{Message}
 use Rattle.heard_events.specs.declared.spelled.Spelled.{Spelled}
 
--- those of the sync channel, of a paging channel, and of a traffic channel
+-- messages of the sync channel, of a paging channel, and of a traffic channel
 abbrev pub SpelledMessage : Type 0
 SpelledMessage = Spelled SyncFields
 
@@ -19,7 +19,7 @@ abbrev pub as_spelled : {M : Type 0} → List Bool → Option M → Option (Spel
 as_spelled capsule None = None
 as_spelled capsule (Some message) = Some (record { capsule = capsule; message = message })
 
--- what is read of a capsule; one with a fault gives none
+-- a capsule with its message; none if the capsule has a fault
 abbrev pub spelled_in : {M : Type 0} → (List Bool → Option M) → Option (List Bool) →
     Option (Spelled M)
 spelled_in reading None = None

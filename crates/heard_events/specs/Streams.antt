@@ -5,7 +5,7 @@ use Rattle.frame_decoder.specs.Spans.{Channel, own_bits}
 use Rattle.rake_finger.specs.Streams.{span_first, span_frames, span_softs}
 use Rattle.rake_finger.specs.Streams as streams
 
--- frames of a channel, which are decoded as it is sent
+-- the frames of a channel, decoded according to how the channel is sent
 abbrev pub Stream : Type 0
 Stream = streams.StreamOf Channel
 

@@ -25,16 +25,16 @@ with_message = as_spelled
 abbrev pub heard_in : CheckForm → Option (List Bool) → Option SpelledMessage
 heard_in form = spelled_in (sync_reading form)
 
--- what frame k completes
+-- the message that frame k completes
 unfoldable pub heard_at : Tuning → List Sample → ℕ → Option SpelledMessage
 heard_at t samples k = heard_in t.check30 (sync_capsule_at t samples k)
 
--- the event of what was heard at n samples
+-- the event of a message that is known at n samples, if there is one
 abbrev pub events_of : ℕ → Option SpelledMessage → List Event
 events_of n None = []
 events_of n (Some heard) = Sync n heard.capsule heard.message ∷ []
 
--- the events that end when just n samples have been taken
+-- the events that end at n samples
 unfoldable pub sync_events_at : Tuning → List Sample → ℕ → List Event
 sync_events_at t samples n =
     flat_map (λ k. events_of n (heard_at t samples k))

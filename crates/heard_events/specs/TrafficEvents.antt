@@ -6,12 +6,12 @@ use Rattle.heard_events.specs.Legs.{all_fingers, on_subchannel, subchannels}
 use Rattle.heard_events.specs.TrafficStreams.{frames_now, replaced_in, stream_of, traffic_start}
 use Rattle.heard_events.specs.Tuning.{Tuning}
 
--- what is decoded of frame k, from its soft values as the scrambling turns them
+-- frame k, decoded from its descrambled soft values
 unfoldable pub decoded_at : Tuning → Traffic → Mark → (ℕ → List Leg) → List Sample → ℕ → Decoded
 decoded_at t traffic m legs samples k =
     decoded (replaced_in traffic m k) (frame_softs samples (stream_of t traffic m legs k) k)
 
--- frame k's soft values as the fingers of some of its pilots hear them, which no scrambling turns
+-- frame k's raw soft values, from the fingers of some of its pilots
 abbrev pub raw_by : Tuning → Traffic → Mark → List Sample → ℕ → List Leg → List ℤ
 raw_by t traffic m samples k some =
     softs samples (all_fingers t.phase t.deltas some) Data (traffic_start traffic m k)
@@ -19,18 +19,18 @@ raw_by t traffic m samples k some =
 abbrev pub raw_softs : Tuning → Traffic → Mark → (ℕ → List Leg) → List Sample → ℕ → List ℤ
 raw_softs t traffic m legs samples k = raw_by t traffic m samples k (legs k)
 
--- the sums of its power control bits on a subchannel, whose symbols aren't scrambled
+-- the sums of frame k's power control bits on a subchannel; their symbols aren't scrambled
 abbrev pub subchannel_sums : Tuning → Traffic → Mark → List Sample → ℕ → List Leg → ℕ → List ℤ
 subchannel_sums t traffic m samples k pilots c =
     group_sums (replaced_in traffic m k)
     (raw_by t traffic m samples k (on_subchannel c pilots))
 
--- those of every subchannel
+-- the sums of every subchannel
 abbrev pub all_sums : Tuning → Traffic → Mark → (ℕ → List Leg) → List Sample → ℕ → List (List ℤ)
 all_sums t traffic m legs samples k =
     map (subchannel_sums t traffic m samples k (legs k)) (subchannels (legs k))
 
--- its 16 power control bits
+-- frame k's 16 power control bits
 unfoldable pub power_bits_at : Tuning → Traffic → Mark → (ℕ → List Leg) → List Sample → ℕ →
     List Bool
 power_bits_at t traffic m legs samples k =
@@ -44,12 +44,12 @@ abbrev pub frame_heard : Tuning → Traffic → Mark → (ℕ → List Leg) → 
 frame_heard t traffic m legs samples n k =
     frame_event n (decoded_at t traffic m legs samples k) (power_bits_at t traffic m legs samples k)
 
--- those of the frames that end when just n samples have been taken
+-- the events of the frames that end at n samples
 unfoldable pub frames_by : Tuning → Traffic → Mark → (ℕ → List Leg) → List Sample → ℕ → List Event
 frames_by t traffic m legs samples n =
     map (frame_heard t traffic m legs samples n) (frames_now t traffic m legs n)
 
--- what is heard where a channel may be followed, after a mark that may be set
+-- the events of a channel, if one is followed, after the mark, if it is set
 abbrev pub if_followed : {C : Type 0} → (C → Mark → List Event) → Option C → Option Mark →
     List Event
 if_followed heard None mark = []

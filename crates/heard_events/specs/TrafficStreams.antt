@@ -7,7 +7,7 @@ use Rattle.heard_events.specs.Legs.{all_fingers}
 use Rattle.heard_events.specs.Streams.{Stream}
 use Rattle.heard_events.specs.Tuning.{Tuning}
 
--- how many chips after the mark frame k begins: the channel's offset is in units of 1,536 chips
+-- the number of chips from the mark to frame k; the channel's offset is in units of 1,536 chips
 abbrev pub chips_after : Traffic → ℕ → ℕ
 chips_after traffic k = frame_offset_chips * traffic.offset + data_frame_chips * k
 
@@ -15,9 +15,9 @@ chips_after traffic k = frame_offset_chips * traffic.offset + data_frame_chips *
 abbrev pub frame_state : Traffic → Mark → ℕ → ℕ
 frame_state traffic m k = after m.state (chips_after traffic k)
 
--- Frame 0 begins at the channel's offset after the mark. A frame is encoded on its own, and so
--- doesn't wait for the one after it. At 9,600 bits a second it has as many bits and symbols as one
--- of a paging channel, and is scrambled like one, under the channel's mask.
+-- Frame 0 begins at the channel's offset after the mark. A frame is encoded on its own, so its
+-- decoding doesn't wait for the next one. At 9,600 bits a second it has as many bits and symbols as
+-- a frame of a paging channel, and is scrambled like one, under the channel's mask.
 abbrev pub traffic_stream : Traffic → Mark → List Finger → Stream
 traffic_stream traffic m fingers = record {
   channel = paging_channel R9600;
@@ -36,8 +36,9 @@ traffic_start traffic m k = frame_start (traffic_stream traffic m []) k
 abbrev pub replaced_in : Traffic → Mark → ℕ → List ℕ
 replaced_in traffic m k = power_places (frame_state traffic m k) (traffic_mask traffic.esn)
 
--- FRAME BY FRAME The frames depend on the active pilots, which may be others from frame to frame:
--- `legs k` are those of frame k.
+-- FRAME BY FRAME
+-- The frames depend on the active pilots, which may change from frame to frame; `legs k` are those
+-- of frame k.
 abbrev pub stream_of : Tuning → Traffic → Mark → (ℕ → List Leg) → ℕ → Stream
 stream_of t traffic m legs k = traffic_stream traffic m (all_fingers t.phase t.deltas (legs k))
 
@@ -48,7 +49,7 @@ has_frame t traffic m legs k = is_in_file t.count (stream_of t traffic m legs k)
 abbrev pub frame_known : Tuning → Traffic → Mark → (ℕ → List Leg) → ℕ → ℕ
 frame_known t traffic m legs k = known_at t.count (stream_of t traffic m legs k) k
 
--- whether frame k is known when just n samples have been taken
+-- whether frame k becomes known at n samples
 abbrev pub ends_now : Tuning → Traffic → Mark → (ℕ → List Leg) → ℕ → ℕ → Bool
 ends_now t traffic m legs n k = has_frame t traffic m legs k && frame_known t traffic m legs k == n
 

@@ -10,9 +10,9 @@ use Rattle.heard_events.specs.Streams.{Stream}
 use Rattle.heard_events.specs.declared.settings.Settings.{Settings}
 use Rattle.chip_core.specs.declared.assignment.Traffic.{Traffic}
 
--- the samples in the file, the best phase and the energy there, how much earlier than there each
--- finger's samples come, how the checks of 30 and of 16 bits are sent, the number of the paging
--- channel, and the traffic channel, where one is followed
+-- the number of samples in the file, the best phase and its energy, the delta of each finger, how
+-- the 30-bit and the 16-bit checks are sent, the number of the paging channel, and the traffic
+-- channel, if one is followed
 pub record Tuning : Type 0 where
   pub count : ℕ
   pub phase : ℕ
@@ -23,7 +23,7 @@ pub record Tuning : Type 0 where
   pub paging : ℕ
   pub traffic : Option Traffic
 
--- of these settings, where the search found this phase, with its energy, and these deltas
+-- the tuning for these settings, with the phase, the energy and the deltas that the search found
 abbrev pub tuning_by : Settings → Best → Near → Tuning
 tuning_by settings best near =
     record {

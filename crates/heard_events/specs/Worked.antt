@@ -44,7 +44,7 @@ sync_known : map (known_at 1228800 (sync_stream alone)) (6 ∷ 34 ∷ 35 ∷ [])
     ≡ 294848 ∷ 1212352 ∷ 1212352 ∷ []
 sync_known = refl
 
--- the first of them 4 samples later where a path comes 4 chips later
+-- the first of these frames is known 4 samples later if a path comes 4 chips later
 seventh_late : known_at 1228800 (sync_stream (tuned 64 (pos 0 ∷ pos 2 ∷ negsuc 3 ∷ []))) 6 ≡ 294852
 seventh_late = refl
 
@@ -54,12 +54,12 @@ last_span = refl
 none_past_end : is_in_file 1228800 (sync_stream alone) 36 ≡ false
 none_past_end = refl
 
--- a path that comes earlier than the file begins has no frame 0
+-- the first frame is frame 1 if a path comes earlier than the file begins
 first_frame : low_of (tuned 0 (pos 0 ∷ pos 1 ∷ [])) ≡ 1
 first_frame = refl
 
--- a capsule of 200 bits takes three superframes: seven from its first frame's sample on, less the
--- pilot's offset
+-- a capsule of 200 bits takes three superframes, so its mark lies seven superframes after the start
+-- of its first frame, less the pilot's offset
 abbrev worked_sync : ℕ → SyncFields
 worked_sync lc = record {
   prev = 3;
@@ -77,7 +77,7 @@ worked_sync lc = record {
   rest = false ∷ false ∷ false ∷ [];
 }
 
--- a mark of that file, at 28 frames of 20 ms
+-- the mark of that file, after 28 frames of 20 ms
 abbrev paged : ℕ → Mark
 paged prat = record {
   sample = 688128;
@@ -87,14 +87,14 @@ paged prat = record {
   prat = prat;
 }
 
--- a message whose long-code state is 0 sets none
+-- a message whose long-code state is 0 sets no mark
 no_mark_of_state_zero : map
     (λ lc. marks_of 32704
     (Some (record { capsule = replicate 200 true; message = worked_sync lc })))
     (0x102a1d2e508 ∷ 0 ∷ []) ≡ (paged 0 ∷ []) ∷ [] ∷ []
 no_mark_of_state_zero = refl
 
--- a message goes on, hasn't begun, and begins again
+-- a message goes on, one has not begun, and one begins again
 open_frames : frames_with false 6 ∷ frames_with false 0 ∷ frames_with true 3 ∷ [] ≡ 7 ∷ 0 ∷ 1 ∷ []
 open_frames = refl
 
@@ -102,8 +102,8 @@ open_frames = refl
 abbrev pages_of : ℕ → Stream
 pages_of prat = paging_stream alone 1 (paged prat)
 
--- the frame at the mark is known when the one after it has ended, two frames after the mark; 22
--- frames lie in the file, of which the last two are known together, at its end
+-- the frame at the mark is known when the next one has ended, two frames after the mark; the last
+-- two of the 22 frames in the file are known together, at its end
 pages_known : map (known_at 1228800 (pages_of 0)) (0 ∷ 20 ∷ 21 ∷ [])
     ≡ 737280 ∷ 1228800 ∷ 1228800 ∷ []
 pages_known = refl
@@ -111,7 +111,7 @@ pages_known = refl
 no_page : is_in_file 1228800 (pages_of 0) 22 ≡ false
 no_page = refl
 
--- PRAT 1 halves the bits of a frame, and 2 leaves no channel
+-- PRAT 1 halves the bits of a frame; with PRAT 2 no channel is received
 half_rate : (pages_of 1).channel.bits ≡ 96
 half_rate = refl
 
@@ -134,11 +134,11 @@ frames_known = refl
 no_frame : is_in_file 1228800 (worked_frames 0) 21 ≡ false
 no_frame = refl
 
--- nothing is heard where no channel is assigned
+-- there are no events if no channel is assigned
 unassigned : told_after alone None (Some (paged 0)) [] 0 ≡ []
 unassigned = refl
 
--- a frame of 9,600 bits a second, of which MM and TT are told, and all after them is other traffic
+-- a frame of 9,600 bits a second with the given MM and TT; all after them is other traffic
 abbrev mixed : Bool → Bool → Bool → Decoded
 mixed good mm tt' = record {
   rate = R9600;
@@ -147,7 +147,7 @@ mixed good mm tt' = record {
   score = pos 1;
 }
 
--- it has signaling where it is good, MM is 1, and TT is 0
+-- it has signaling if it is good, MM is 1, and TT is 0
 signaling : map signal_of
     (mixed true true false ∷ mixed true true true ∷ mixed true false false ∷ mixed false true false
     ∷ [])
@@ -156,15 +156,15 @@ unfolding split split_9600
 signaling = refl
 
 -- THE PILOT SETS
--- what is heard at a moment is heard before it
+-- an event at the sample of a moment comes before the moment
 before_moments : map (moments_before (paged 0)) (786432 ∷ 786433 ∷ []) ≡ 0 ∷ 1 ∷ []
 before_moments = refl
 
--- a message's first moment is the one at its end, or the next; before the mark the first one
+-- a message's first moment is the one at its end, or the next one; before the mark it is moment 1
 from_moments : map (moment_from (paged 0)) (786432 ∷ 786433 ∷ 688128 ∷ []) ≡ 1 ∷ 2 ∷ 1 ∷ []
 from_moments = refl
 
--- four frames are heard from the pilots after one moment
+-- four frames are received from the pilots that are active after a moment
 of_moments : map (moment_of assigned) (3 ∷ 4 ∷ []) ≡ 0 ∷ 1 ∷ []
 of_moments = refl
 
@@ -181,7 +181,7 @@ two_pilots = record {
   deltas = pos 0 ∷ pos 0 ∷ pos 0 ∷ pos 5 ∷ [];
 }
 
--- a handset with two paths has three fingers then, on two subchannels
+-- a handset with two paths then has three fingers, on two subchannels
 three_fingers : all_fingers 64 (pos 0 ∷ negsuc 2 ∷ []) (legs_of (paged 0) two_pilots)
     ≡ record { phase = 64; delta = pos 0; row = 10 }
     ∷ record { phase = 61; delta = negsuc 2; row = 10 }
@@ -193,8 +193,8 @@ two_subchannels : subchannels (legs_of (paged 0) two_pilots) ≡ 0 ∷ 1 ∷ []
 unfolding places
 two_subchannels = refl
 
--- another pilot's message of the paging channel tells nothing of the sets, and one whose bits
--- aren't known neither
+-- a paging message from another pilot changes nothing in the sets, nor does a traffic message of
+-- any other type
 abbrev neighbors_of : ℕ → PagingMessage
 neighbors_of pn = pages.Neighbors
     (record { pn = pn; seq = 0; inc = 1; configs = 0 ∷ []; pns = 7 ∷ []; rest = [] })

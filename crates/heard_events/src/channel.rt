@@ -16,7 +16,7 @@ impl CodeChannel {
     ghost use Rattle.std.specs.Prelude.{◌≡◌, ◌<◌, ◌≤◌};
     ghost use Rattle.heard_events.specs.Channels.{IsLawful, has_power_control, offset_of, row_of};
 
-    /// The Walsh row that it is sent on.
+    /// Returns the Walsh row on which the channel is sent.
     pub fn row(&self) -> u8
         requires { IsLawful self.now }
         ensures value { result ≡ row_of self.now }
@@ -28,7 +28,7 @@ impl CodeChannel {
         }
     }
 
-    /// Returns how many chips after the mark its frame 0 begins.
+    /// Returns the number of chips from the mark to the start of frame 0.
     pub fn offset(&self) -> u64
         requires { IsLawful self.now }
         ensures value { result ≡ offset_of self.now }

@@ -19,7 +19,7 @@ pub enum Event {
     },
     /// A message of the sync channel was received (TIA/EIA-95-B, 7.7.1).
     Sync {
-        /// How many samples had been taken when the message was known.
+        /// The number of samples taken when the message became known.
         at: u64,
         /// The whole capsule: length, body and check.
         capsule: Bits,
@@ -28,7 +28,7 @@ pub enum Event {
     },
     /// A message of the paging channel was received (TIA/EIA-95-B, 7.7.2).
     Paging {
-        /// How many samples had been taken when the message was known.
+        /// The number of samples taken when the message became known.
         at: u64,
         /// The whole capsule: length, body and check.
         capsule: Bits,
@@ -37,7 +37,7 @@ pub enum Event {
     },
     /// A frame of the traffic channel was received (TIA/EIA-95-B, 7.1.3.5).
     Frame {
-        /// How many samples had been taken when the frame's last one had been.
+        /// The number of samples taken when the frame ended.
         at: u64,
         /// The rate at which it was sent; 9,600 bits a second if the frame is bad.
         rate: Rate,
@@ -45,12 +45,12 @@ pub enum Event {
         good: bool,
         /// The information bits.
         bits: Bits,
-        /// Its 16 power control bits: 1 if one tells the handset to lower its power.
+        /// Its 16 power control bits; a 1 orders the handset to lower its power.
         commands: PowerBits,
     },
     /// A message of the traffic channel was received (TIA/EIA-95-B, 7.7.3).
     Traffic {
-        /// How many samples had been taken when the last frame that carries it ended.
+        /// The number of samples taken when the last frame that carries the message ended.
         at: u64,
         /// The whole capsule: length, body and check.
         capsule: Bits,
@@ -59,7 +59,7 @@ pub enum Event {
     },
     /// The pilot sets changed, or a report of them is due (after TIA/EIA-95-B, 6.6.6.2).
     Sets {
-        /// The sample at which the pilot sets were evaluated: how many samples had been taken then.
+        /// The number of samples taken when the pilot sets were evaluated.
         at: u64,
         /// The time of this evaluation, in units of 80 ms.
         time: u64,

@@ -12,7 +12,7 @@ use chip_core::Phase;
 use pilot_search::Near;
 use rake_finger::{Finger, Fingers, finger_at};
 
-/// Returns a list with another finger; `None` stands for no finger.
+/// Returns a list with another finger; `None` is the empty list.
 fn with_finger(fingers: Option<Fingers>, finger: Finger) -> Option<Fingers>
     requires { length (fingers_in fingers) < 8 }
     ensures { fingers_in result ≡ fingers_in fingers ++ finger ∷ [] }
@@ -66,7 +66,7 @@ fn fingers_or_none(legs: &Legs, phase: Phase, near: &Near) -> Option<Fingers>
     fingers
 }
 
-/// The fingers that receive a traffic channel from one active pilot or more.
+/// Returns the fingers that receive a traffic channel from one or more active pilots.
 pub fn leg_fingers(legs: &Legs, phase: Phase, near: &Near) -> Fingers
     requires some { 1 ≤ length legs.now }
     requires few { places_in legs.now ≤ 8 }

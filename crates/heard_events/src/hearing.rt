@@ -22,7 +22,8 @@ use pilot_search::Best;
 use sync_message::SyncMessage;
 use traffic_message::{SignalFramer, TrafficMessage, split_frame};
 
-/// A capsule with the message that it spells; `None` if there is none.
+/// Returns a capsule of the sync channel with the message that it spells; `None` if there is no
+/// capsule, or it has a fault.
 pub fn message_in(check: CheckForm, capsule: Option<Bits>) -> Option<Spelled<SyncMessage>>
     ensures { result ≡ heard_in check capsule }
 {
@@ -33,8 +34,8 @@ pub fn message_in(check: CheckForm, capsule: Option<Bits>) -> Option<Spelled<Syn
     }
 }
 
-/// A capsule of a paging channel with the message that it spells; `None` if there is none, or the
-/// capsule has a fault.
+/// Returns a capsule of a paging channel with the message that it spells; `None` if there is no
+/// capsule, or it has a fault.
 pub fn page_in(check: CheckForm, capsule: Option<Bits>) -> Option<Spelled<PagingMessage>>
     ensures { result ≡ page_in check capsule }
 {
@@ -45,8 +46,8 @@ pub fn page_in(check: CheckForm, capsule: Option<Bits>) -> Option<Spelled<Paging
     }
 }
 
-/// A capsule of a traffic channel with the message that it spells; `None` if there is none, or the
-/// capsule has a fault.
+/// Returns a capsule of a traffic channel with the message that it spells; `None` if there is no
+/// capsule, or it has a fault.
 fn signal_in(check: CheckForm, capsule: Option<Bits>) -> Option<Spelled<TrafficMessage>>
     ensures { result ≡ signal_in check capsule }
 {
@@ -69,9 +70,9 @@ fn signal_of(frame: &Decoded) -> Option<Bits>
     split_frame(frame.rate, &frame.bits).signal
 }
 
-/// Gives the framer a frame's signaling, if the frame is good and has any, and returns the message
-/// that this completes.
-// Its frame holds several messages, and is not to lie beneath that of a frame's decoding.
+/// Passes a frame's signaling to the framer, if the frame is good and has any, and returns the
+/// message that this completes, if any.
+// Not inlined: its stack frame holds several messages.
 #[inline(never)]
 pub fn hear_signal(
     framer: &mut SignalFramer,
@@ -89,7 +90,7 @@ pub fn hear_signal(
     signal_in(check, capsule)
 }
 
-/// The event of the pilot that the search found.
+/// Returns the event of the pilot that the search found.
 pub fn pilot_event(best: &Best) -> Event
     ensures { result ≡ TheEvent.Pilot best.now.phase best.now.energy }
 {
@@ -111,7 +112,7 @@ pub fn event_of(told: &Spelled<SyncMessage>, at: u64) -> Event
     }
 }
 
-/// Returns the event of a paging message, if there is one, that is complete after `at` samples.
+/// Returns the event of a paging message that is complete after `at` samples, if there is one.
 pub fn event_of_page(page: Option<Spelled<PagingMessage>>, at: u64) -> Option<Event>
     ensures value { event_list result ≡ map (page_event at) (option_to_list page) }
     ensures ends { IfSome result (λ event. at_of event ≡ at) }
@@ -125,7 +126,7 @@ pub fn event_of_page(page: Option<Spelled<PagingMessage>>, at: u64) -> Option<Ev
     })
 }
 
-/// Returns the event of a traffic frame, with its power control bits, that ends after `at` samples.
+/// Returns the event of a traffic frame that ends after `at` samples, with its power control bits.
 pub fn frame_event(frame: &Decoded, power_bits: PowerBits, at: u64) -> Event
     ensures value { result ≡ frame_event at frame.now power_bits }
     ensures ends { at_of result ≡ at }

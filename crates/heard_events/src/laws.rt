@@ -26,9 +26,9 @@ pub fn later_samples_change_nothing()
         mark t one n ≡ mark t other n }
 {}
 
-/// What is received of a channel's frames by a sample doesn't depend on later samples: the frames
-/// that end within the first n samples are the same, soft value by soft value, for all files with
-/// these first n samples.
+/// The frames of a channel that are received by a sample don't depend on later samples: those that
+/// end within the first n samples are the same, soft value by soft value, for all files with these
+/// first n samples.
 pub fn later_samples_change_no_frame()
     ensures { (t : Tuning) (channel : CodeChannel) (m : Mark) (one other : List Sample) (n : ℕ) →
         n ≤ length one → n ≤ length other → take n one ≡ take n other →

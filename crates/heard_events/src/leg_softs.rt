@@ -41,7 +41,7 @@ fn leg_softs(
 }
 
 /// Computes the soft values of the frame from the fingers of one power control subchannel. If all
-/// pilots are on it, these are the given values of all fingers.
+/// pilots are on it, copies `all`, the soft values over all fingers.
 fn subchannel_softs(
     ring: &SampleRing,
     codes: &Codes,

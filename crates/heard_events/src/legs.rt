@@ -1,4 +1,4 @@
-//! The active pilots, with what a traffic channel needs of them.
+//! The active pilots with their parameters for a traffic channel.
 
 ghost use Rattle.std.specs.Prelude.{◌≡◌, ◌<◌, ◌≤◌, ◌∷◌, ◌++◌, [], length};
 ghost use Rattle.heard_events.specs.Legs.{has_subchannel, on_subchannel};
@@ -27,7 +27,7 @@ impl Model for Legs {
 }
 
 impl Legs {
-    /// The list of no pilots.
+    /// Returns the empty list.
     pub(crate) fn empty() -> Legs
         ensures { result ≡ [] }
     {
@@ -46,7 +46,7 @@ impl Legs {
         }
     }
 
-    /// The pilots.
+    /// Returns the pilots.
     pub(crate) fn all(&self) -> &[Leg]
         ensures value { result.now ≡ self.now }
         ensures most { length result.now ≤ 6 }
@@ -70,7 +70,7 @@ impl Legs {
         self.all().iter().any(|leg| leg.subchannel == subchannel)
     }
 
-    /// The pilots of a power control subchannel.
+    /// Returns the pilots of a power control subchannel.
     pub(crate) fn on_subchannel(&self, subchannel: u8) -> Legs
         ensures { result ≡ on_subchannel subchannel self.now }
     {

@@ -1,6 +1,6 @@
-//! Defines what a handset receives of a file of samples, and when: the events, the mark that a sync
-//! message sets, and each received frame, as definitions over all samples, with their types and the
-//! laws of causality. The handset itself is `mobile_core`.
+//! Defines what a handset receives from a file of samples, and when: the events, the mark that a
+//! sync message sets, and each received frame. These are definitions over all samples, with their
+//! types and the laws of causality. The handset itself is `mobile_core`.
 //!
 //! This crate also computes what needs no receiver: the events of capsules and frames, the pilot
 //! sets at each moment, and the soft values of a frame from several active pilots.

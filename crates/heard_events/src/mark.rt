@@ -1,21 +1,21 @@
-//! The time reference: the sample at which a sync message's time lies.
+//! The time reference: the sample at which a sync message's time holds.
 
 use long_code::State;
 use symbol_path::Rate;
 
-/// The time reference of a handset: the sample at which a sync message's time lies, and the
+/// The time reference of a handset: the sample at which a sync message's time holds, and the
 /// message's parameters of the channels that begin there (TIA/EIA-95-B, 7.7.1.3).
 #[derive(Clone, Copy, PartialEq, Eq, Debug)]
 pub struct Mark {
-    /// The reference sample at which the time lies.
+    /// The reference sample at which the time holds.
     pub sample: u64,
-    /// The system's time there, in units of 80 ms.
+    /// The system time there, in units of 80 ms.
     pub time: u64,
     /// The state of the long code there.
     pub state: State,
     /// The offset of the pilot code, in units of 64 chips.
     pub pilot: u16,
-    /// The data rate of the paging channel.
+    /// The data rate of the paging channels (PRAT).
     pub prat: u8,
 }
 

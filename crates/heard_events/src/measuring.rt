@@ -25,15 +25,15 @@ pub(crate) fn pilot_phase(mark: &Mark, pilot: u16, delta: i16) -> Phase
     phase_of(i64::from(delta) - following as i64)
 }
 
-/// The phase at a number of chips, which may lie before the code's first chip or after its last.
+/// Returns the phase of a number of chips, which may be negative or exceed the code's period.
 fn phase_of(chips: i64) -> Phase
     ensures { result ≡ modulo_code chips }
 {
     Phase::new(chips.rem_euclid(32768) as u16).unwrap()
 }
 
-/// Returns how strong a pilot is in the 512 samples before a place, in the window that the sets
-/// have for it.
+/// Returns the strength of a pilot in the 512 samples before `place`, within the sets' window for
+/// it.
 fn pilot_strength(
     sets: &Sets,
     mark: &Mark,
@@ -59,7 +59,7 @@ fn pilot_strength(
     }
 }
 
-/// Returns how strong all pilots of the sets are in the 512 samples before a place, in their order.
+/// Returns the strengths of all pilots of the sets in the 512 samples before `place`, in order.
 pub(crate) fn measure(
     sets: &Sets,
     mark: &Mark,

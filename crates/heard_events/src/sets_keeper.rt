@@ -17,11 +17,11 @@ use short_code::Codes;
 pub struct SetsKeeper {
     /// The current sets.
     pub sets: Sets,
-    /// The mark that they are kept from.
+    /// The mark from which they are kept.
     pub mark: Mark,
     /// How many moments have passed.
     pub passed: u64,
-    /// Whether the next one has come.
+    /// Whether the next moment has come.
     pub due: bool,
 }
 
@@ -41,7 +41,7 @@ impl SetsKeeper {
     ghost use Rattle.pilot_sets.specs.Standing.{new_standing};
     ghost use Rattle.rake_finger.specs.Held.{HoldsLast};
 
-    /// Makes the sets at the mark, for a handset with the reference's traffic channel on a row.
+    /// Makes the sets at the mark for a handset whose traffic channel the reference sends on `row`.
     pub fn new(mark: &Mark, row: u8) -> SetsKeeper
         requires mark { IsSoundMark mark.now }
         requires row { row < 64 }
@@ -61,7 +61,7 @@ impl SetsKeeper {
         }
     }
 
-    /// The sample at which the moment lies that comes next.
+    /// Returns the sample of the next moment to come.
     pub fn end(&self) -> u64
         requires { IsSoundKeeper self.now }
         ensures { result ≡ coming_place self.now }
@@ -70,7 +70,7 @@ impl SetsKeeper {
         self.mark.sample + SUPERFRAME_CHIPS * number
     }
 
-    /// Whether a moment has come that hasn't passed.
+    /// Whether a moment has come that has not passed yet.
     pub fn is_due(&self) -> bool
         ensures { result ≡ self.now.due }
     {
@@ -84,7 +84,8 @@ impl SetsKeeper {
         self.passed
     }
 
-    /// The number of the last moment at or before a reference sample after the mark.
+    /// Returns the number of the last moment at or before `start`, a reference sample that is not
+    /// before the mark.
     pub fn moment_at(&self, start: u64) -> u64
         requires { self.now.mark.sample ≤ start }
         ensures { result ≡ (start - self.now.mark.sample) / 98304 }
@@ -121,7 +122,7 @@ impl SetsKeeper {
         note_event(&mut self.sets, self.mark.pilot, first, event);
     }
 
-    /// An active pilot, with what a traffic channel needs of it.
+    /// Returns an active pilot with its parameters for a traffic channel.
     fn leg(&self, active: &Active) -> Leg
         requires sound { IsSoundKeeper self.now }
         requires pilot { active.now.pilot < 512 }
@@ -139,7 +140,7 @@ impl SetsKeeper {
         }
     }
 
-    /// The active pilots, with what a traffic channel needs of them.
+    /// Returns the active pilots with their parameters for a traffic channel.
     pub fn legs(&self) -> Legs
         requires { IsSoundKeeper self.now }
         ensures value { result ≡ legs_of self.now.mark self.now.sets }

@@ -11,7 +11,7 @@ use paging_message::{NeighborFields, PagingMessage, SystemFields};
 use pilot_sets::{Sets, Thresholds};
 use traffic_message::{InTrafficFields, TrafficBody};
 
-/// The thresholds of a System Parameters Message (TIA/EIA-95-B, 7.7.2.3.2.1).
+/// Returns the thresholds of a System Parameters Message (TIA/EIA-95-B, 7.7.2.3.2.1).
 fn system_thresholds(fields: &SystemFields) -> Thresholds
     ensures { result ≡ system_thresholds fields.now }
 {
@@ -25,7 +25,7 @@ fn system_thresholds(fields: &SystemFields) -> Thresholds
     }
 }
 
-/// The thresholds of an In-Traffic System Parameters Message (TIA/EIA-95-B, 7.7.3.3.2.7).
+/// Returns the thresholds of an In-Traffic System Parameters Message (TIA/EIA-95-B, 7.7.3.3.2.7).
 fn in_traffic_thresholds(fields: &InTrafficFields) -> Thresholds
     ensures { result ≡ in_traffic_thresholds fields.now }
 {

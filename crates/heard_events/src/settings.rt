@@ -5,7 +5,7 @@ use chip_core::{CheckForm, Traffic};
 /// What a handset knows about a file, and how it receives it.
 #[derive(Clone, Copy, PartialEq, Eq, Debug)]
 pub struct Settings {
-    /// How many paths of the base station it receives, 1 to 3.
+    /// The number of paths of the base station that it receives, 1 to 3.
     pub fingers: u8,
     /// The number of the paging channel that it follows, 1 to 7.
     pub paging: u8,
@@ -15,6 +15,6 @@ pub struct Settings {
     pub check30: CheckForm,
     /// How the 16-bit checks of the traffic channel's messages are sent.
     pub check16: CheckForm,
-    /// How many samples the file has, 1 to 67,108,864.
+    /// The number of samples in the file, 1 to 67,108,864.
     pub count: u64,
 }

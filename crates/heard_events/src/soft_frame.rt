@@ -9,8 +9,8 @@ use symbol_path::PowerPlaces;
 pub struct PowerControl {
     /// The places of the symbols that they replace, in rising order.
     pub replaced: PowerPlaces,
-    /// The 16 bits: 0, which tells the handset to raise its power, exactly if the sum of the two
-    /// soft values, which no scrambling turns, is above 0.
+    /// The 16 bits. A bit is 0, which orders the handset to raise its power, exactly if the sum of
+    /// its two raw soft values is above 0.
     pub power_bits: PowerBits,
 }
 
@@ -19,7 +19,7 @@ pub struct PowerControl {
 pub struct SoftFrame {
     /// Its number, counted from the channel's first frame after the mark.
     pub number: u64,
-    /// How many samples of the file have been taken when it ends on every finger.
+    /// The number of samples of the file taken when it has ended on every finger.
     pub end: u64,
     /// The soft values of its symbols, descrambled (7.1.3.1.6).
     pub descrambled: FrameSofts,

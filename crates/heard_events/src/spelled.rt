@@ -1,4 +1,4 @@
-//! A message as it is read.
+//! A decoded message with its capsule.
 
 use chip_core::Bits;
 

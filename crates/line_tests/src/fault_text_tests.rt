@@ -1,4 +1,4 @@
-//! The printed texts of all faults, which no clause says.
+//! The printed texts of all faults, which no clause specifies.
 
 use cdma_io::{Failed, FileFault};
 use cell_script::ScriptFault;
@@ -9,7 +9,7 @@ use std::alloc::Global;
 use std::fmt::Display;
 use std::test::Fail;
 
-/// What is wrong with a sample file.
+/// The faults of a sample file, with their texts.
 static FILE_FAULTS: [(FileFault, &'static str); 8] = [
     (FileFault::Magic, "magic"),
     (FileFault::Version, "version"),
@@ -21,7 +21,7 @@ static FILE_FAULTS: [(FileFault, &'static str); 8] = [
     (FileFault::TooFew { count: 2047 }, "too few"),
 ];
 
-/// What is wrong with a script.
+/// The faults of a script, with their texts.
 static SCRIPT_FAULTS: [(ScriptFault, &'static str); 7] = [
     (ScriptFault::Line { n: 4294967295 }, "line 4294967295"),
     (ScriptFault::Walsh { row: 32 }, "walsh 32"),
@@ -32,7 +32,7 @@ static SCRIPT_FAULTS: [(ScriptFault, &'static str); 7] = [
     (ScriptFault::TooBig, "too big"),
 ];
 
-/// What is wrong with a capsule, a message and a handoff direction.
+/// The faults of a capsule, then those of a message and of a handoff direction.
 static CAPSULE_FAULTS: [(CapsuleFault, &'static str); 2] = [
     (CapsuleFault::BadLength, "bad length"),
     (CapsuleFault::BadCheck, "bad check"),
@@ -50,7 +50,7 @@ static DIRECTION_FAULTS: [(DirectionFault, &'static str); 3] = [
     (DirectionFault::Twice { pilot: 6 }, "pilot 6 twice"),
 ];
 
-/// Fails where a fault has another text than its row.
+/// Fails if the text of a fault differs from the text in its row.
 fn have_texts<T: Copy + Display>(alloc: Global, rows: &[(T, &'static str)]) -> Result<(), Fail> {
     for (fault, text) in rows {
         if fault.to_string(alloc)?.as_str() != *text {

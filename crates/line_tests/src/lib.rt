@@ -1,7 +1,7 @@
-//! Tests of taps and faults by what their crates make public, of what no clause says: a tap of
-//! another maker among them, a sink that fails within a line, and the printed texts of all faults.
+//! Tests of what no clause specifies about taps and faults, through public interfaces: a tap of
+//! another crate, a sink that fails within a line, and the printed texts of all faults.
 //!
-//! They stand apart from the crates, so that each of those is proved once.
+//! They have a crate of their own, so that each of the others is proved only once.
 #![tactic(auto)]
 
 #[cfg(test)]

@@ -1,4 +1,4 @@
-//! What boxed taps write of pilots.
+//! The lines that boxed taps write for pilots.
 
 ghost use Rattle.std.specs.Prelude.{◌-◌};
 
@@ -8,7 +8,7 @@ use event_tap::{Heard, PilotTap, Tap, Taps, Text, line_into};
 use heard_events::Event;
 use std::test::Fail;
 
-/// A tap of pilots that counts those that it heard.
+/// A tap of pilots that counts the events that it writes.
 #[derive(Drop)]
 struct CountingTap {
     heard: u32,
@@ -46,7 +46,7 @@ impl Tap for CountingTap {
     }
 }
 
-/// The event of a pilot.
+/// Returns the event of a pilot.
 fn pilot(phase: Phase) -> Event {
     Event::Pilot { phase, energy: 9 }
 }

@@ -11,7 +11,7 @@ use Rattle.hex.specs.declared.error.FromHexError.{FromHexError}
 use Rattle.chip_core.specs.Decimals.{digits_from}
 use Rattle.chip_core.specs.Bits.{binary}
 
--- how many bytes of a text stand before the first mark; all where it has none
+-- how many bytes of a text precede the first mark; all if there is none
 unfoldable pub length_before : ℕ → List ℕ → ℕ
 length_before mark [] = 0
 length_before mark (byte ∷ bytes) = if byte == mark then 0 else suc (length_before mark bytes)
@@ -20,13 +20,13 @@ length_before mark (byte ∷ bytes) = if byte == mark then 0 else suc (length_be
 abbrev pub begins_with : List ℕ → List ℕ → Bool
 begins_with text front = pointwise nat_eq (take (length front) text) front
 
--- what stands after a text's front; None where it doesn't begin with it
+-- the rest of a text after `front`; None if the text doesn't begin with it
 abbrev pub text_after : List ℕ → List ℕ → Option (List ℕ)
 text_after front text = if begins_with text front then Some (drop (length front) text) else None
 
 -- ---- decimal numbers
 
--- 1 to 20 bytes, no 0 before others
+-- whether a text has 1 to 20 bytes and no leading zero
 abbrev pub is_plain : List ℕ → Bool
 is_plain text =
     if nat_lt (length text) 2 then length text == 1
@@ -39,11 +39,11 @@ number_in text = if is_plain text then digits_from 0 text else None
 abbrev pub up_to : ℕ → ℕ → Option ℕ
 up_to most number = if nat_le number most then Some number else None
 
--- a number in a range from 0 on
+-- a number from 0 to `most`
 unfoldable pub number_up_to : ℕ → List ℕ → Option ℕ
 number_up_to most text = option_and_then (up_to most) (number_in text)
 
--- a number with a sign: -32768 to 32767, and -0 isn't one
+-- a signed number from -32768 to 32767; -0 isn't one
 abbrev pub negative : ℕ → Option ℤ
 negative size = if size == 0 then None else Some (neg_ℤ (pos size))
 
@@ -63,7 +63,7 @@ signed_in text = signed_after text (text_after (codes "-") text)
 abbrev pub hex_digit : ℕ → Option ℕ
 hex_digit byte = if nat_lt (digit_value byte) 16 then Some (digit_value byte) else None
 
--- hex digits after a number
+-- a number with hex digits appended
 unfoldable pub hex_from : ℕ → List ℕ → Option ℕ
 hex_from number [] = Some number
 hex_from number (digit ∷ digits) =
@@ -84,7 +84,7 @@ serial_number_in text = if length text == 8 then hex_from 0 text else None
 
 -- ---- lists of bits
 
--- whether all are 0
+-- whether all bits are 0
 abbrev pub all_clear : List Bool → Bool
 all_clear [] = true
 all_clear (bit ∷ bits) = if bit then false else all_clear bits
@@ -115,11 +115,11 @@ bits_in_text text =
 
 -- ---- power control bits
 
--- the bit that a digit 0 or 1 is
+-- the bit of a digit 0 or 1
 abbrev pub binary_digit : ℕ → Option Bool
 binary_digit byte = if byte == 48 then Some false else (if byte == 49 then Some true else None)
 
--- bits and after them those that digits are
+-- bits, followed by those of digits
 unfoldable pub digits_after : List Bool → List ℕ → Option (List Bool)
 digits_after bits [] = Some bits
 digits_after bits (digit ∷ digits) =

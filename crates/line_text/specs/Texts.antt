@@ -11,27 +11,26 @@ use Rattle.hex.specs.Hex.{encode_lower}
 abbrev pub octet_count : List Bool → ℕ
 octet_count bits = (length bits + 7) / 8
 
--- the bits, and zeros after them up to whole octets
+-- the bits, padded with zeros to whole octets
 unfoldable pub padded : List Bool → List Bool
 padded bits = bits ++ replicate (8 * octet_count bits - length bits) false
 
--- the first n octets, each the number that its bits spell
+-- the first `count` octets, each the number that its bits spell
 unfoldable pub packed_octets : ℕ → List Bool → List ℕ
 packed_octets zero bits = []
 packed_octets (suc count) bits = number (take 8 bits) ∷ packed_octets count (drop 8 bits)
 
--- `N:HEX`: how many bits, and two lower case digits for each octet of the padded bits
+-- `N:HEX`: the number of bits, and two lower-case hex digits for each octet of the padded bits
 unfoldable pub bit_text : List Bool → List ℕ
 bit_text bits =
     decimal (length bits) ++ codes ":" ++ encode_lower
     (packed_octets (octet_count bits) (padded bits))
 
--- the last eleven of the sixteen lower case hex digits of 64 bits: all that a state of 42 bits
--- needs
+-- the last eleven of the sixteen lower-case hex digits of 64 bits, enough for a state of 42 bits
 unfoldable pub state_digits : ℕ → List ℕ
 state_digits state = drop 5 (encode_lower (to_be_bytes w64 state))
 
--- the eight lower case hex digits of an electronic serial number
+-- the eight lower-case hex digits of an electronic serial number
 unfoldable pub serial_digits : ℕ → List ℕ
 serial_digits esn = encode_lower (to_be_bytes w32 esn)
 
@@ -43,6 +42,6 @@ digit_of bit = if bit then codes "1" else codes "0"
 unfoldable pub digits_of : List Bool → List ℕ
 digits_of bits = flat_map digit_of bits
 
--- what stands before the value of a field
+-- the text before the value of a field
 abbrev pub spaced_key : List ℕ → List ℕ
 spaced_key name = codes " " ++ name ++ codes "="

@@ -54,7 +54,7 @@ pub fn number_up_to(text: &[u8], most: u64) -> Option<u64>
     Some(number as u64)
 }
 
-/// Returns the number that 1 to 20 digits spell.
+/// Returns the number that 1 to 20 digits without a leading zero spell.
 fn number_in(text: &[u8]) -> Option<u128>
     ensures { result ≡ number_in text.now }
 {
@@ -91,7 +91,7 @@ pub fn signed_in(text: &[u8]) -> Option<i64>
     }
 }
 
-/// Returns the negative number of this size.
+/// Returns the negative number of this size; `None` for 0.
 fn negative(size: u64) -> Option<i64>
     requires { size ≤ 32768 }
     ensures value { result ≡ negative size }
@@ -153,7 +153,7 @@ fn hex_digit(byte: u8) -> Option<u8>
     Some(value as u8)
 }
 
-/// Returns a number with another hex digit after it.
+/// Returns a number with another hex digit appended.
 fn with_hex_digit(number: u64, digit: u8) -> u64
     requires number { number < 16 ^ 11 }
     requires digit { digit < 16 }

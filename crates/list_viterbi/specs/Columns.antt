@@ -14,11 +14,11 @@ abbrev pub starts_at : Ends → ℕ → Bool
 starts_at Zero t = nat_eq t 0
 starts_at Free t = true
 
--- the score of the codeword of no bits into a state, where a codeword may start from it
+-- the score of the codeword of no bits into a state, if a codeword may start from it
 abbrev pub start_scores : Ends → ℕ → List ℤ
 start_scores ends t = if starts_at ends t then pos 0 ∷ [] else []
 
--- by column n, the pointer of a place in a state's list
+-- the pointer of a place in a state's list, by column n
 abbrev pub back_of : List (List ℕ) → ℕ → ℕ → ℕ → ℕ
 back_of columns n t place = pointer_of (get_or (get_or columns n []) t 0) (place % 16)
 
@@ -47,7 +47,7 @@ list_path columns (suc n) t place =
 abbrev pub find_score : Find → ℤ
 find_score f = f.score
 
--- the codewords of a state's list, the first of which has this place
+-- the codewords of a state's list, the first of them at this place
 abbrev pub finds_from : ℕ → ℕ → List ℤ → List Find
 finds_from t place [] = []
 finds_from t place (s ∷ ss) =

@@ -6,7 +6,7 @@ use Rattle.viterbi.specs.Best.{IsAllowed, IsBestCodeword}
 use Rattle.viterbi.specs.declared.codeword.Ends.{Ends}
 use Rattle.list_viterbi.specs.First.{AreFirst, first_codewords, IsFirstPassing}
 
--- the statement names one list
+-- `AreFirst` determines the list
 abbrev pub NamesOneList : Type 0
 NamesOneList = (score : Codeword → ℤ) (ends : Ends) (n k : ℕ) (codewords others : List Codeword) →
     AreFirst score (IsAllowed ends n) k codewords → AreFirst score (IsAllowed ends n) k others →
@@ -19,7 +19,7 @@ AreFirstByDefinition =
     AreFirst (score_of softs) (IsAllowed ends n) k codewords →
     codewords ≡ first_codewords k (score_of softs) ends n
 
--- there are k of them, or all
+-- there are k of them, or all allowed codewords if those are fewer
 abbrev pub HaveLength : Type 0
 HaveLength = (softs : List ℤ) (ends : Ends) (n k : ℕ) (codewords : List Codeword) → 8 ≤ n →
     AreFirst (score_of softs) (IsAllowed ends n) k codewords → length codewords

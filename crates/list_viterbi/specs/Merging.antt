@@ -13,21 +13,20 @@ use Rattle.list_viterbi.specs.declared.codewords.Entry.{Entry}
 abbrev pub entry_score : Entry → ℤ
 entry_score e = e.score
 
--- one bit more
+-- an entry with another bit
 abbrev pub entry_extended_by : Bool → ℤ → Entry → Entry
 entry_extended_by bit gain e = record {
   word = record { start = e.word.start; bits = e.word.bits ++ bit ∷ [] };
   score = e.score +ℤ gain;
 }
 
--- the second list has the next element: that of greater score, or the only one
+-- whether the second list has the next element: the one with the greater score, or the only one
 abbrev pub second_is_next : {A : Type 0} → (A → ℤ) → List A → List A → Bool
 second_is_next score xs [] = false
 second_is_next score [] (y ∷ ys) = true
 second_is_next score (x ∷ xs) (y ∷ ys) = int_lt (score x) (score y)
 
--- the first k of two lists by falling score, those of the first list before those of the second on
--- a tie
+-- the first k of two lists by falling score; on a tie those of the first list come first
 unfoldable pub merge : {A : Type 0} → (A → ℤ) → ℕ → List A → List A → List A
 merge score zero xs ys = []
 merge score (suc k) [] [] = []
@@ -38,20 +37,20 @@ merge score (suc k) (x ∷ xs) (y ∷ ys) =
     then y ∷ merge score k (x ∷ xs) ys
     else x ∷ merge score k xs (y ∷ ys)
 
--- from the state before with this oldest bit, 0 or 1
+-- the list that comes from the state with this oldest bit, 0 or 1
 unfoldable pub list_from : List (List Entry) → ℤ → ℤ → ℕ → ℕ → List Entry
 list_from column first second state oldest =
     map (entry_extended_by (nat_le 128 state)
     (gain_of first second (low_bits 9 (2 * state + oldest))))
     (get_or column (2 * (state % 128) + oldest) [])
 
--- the first k of both
+-- the first k of these two lists
 unfoldable pub list_into : List (List Entry) → ℤ → ℤ → ℕ → ℕ → List Entry
 list_into column first second k state =
     merge entry_score k (list_from column first second state 0)
     (list_from column first second state 1)
 
--- one bit more can be added
+-- another bit can be added
 abbrev pub EntryHasRoom : ℤ → ℤ → Entry → Type 0
 EntryHasRoom first second e =
     (unsigned_abs e.score + (unsigned_abs first + unsigned_abs second) ≤ 2 ^ 62) ×
@@ -63,7 +62,7 @@ pub record IsStartEntry (state : ℕ) (e : Entry) : Type 0 where
   pub none : e.word.bits ≡ []
   pub nothing : e.score ≡ pos 0
 
--- that codeword alone, or none where a codeword may not start from the state
+-- only that codeword, or none if a codeword may not start from the state
 abbrev pub EntriesStart : Ends → ℕ → List Entry → Type 0
 EntriesStart ends state [] = ¬ (HasStart ends (low_bits 8 state))
 EntriesStart ends state (e ∷ []) = HasStart ends (low_bits 8 state) × IsStartEntry state e

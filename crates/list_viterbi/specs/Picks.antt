@@ -14,24 +14,24 @@ pub record Pick : Type 0 where
 abbrev pub pick_score : Pick → ℤ
 pick_score p = p.score
 
--- the codewords of a state's list with one bit more, the first of which has this place
+-- the codewords of a state's list with another bit, the first of them at this place
 abbrev pub picks_from : ℕ → ℤ → ℕ → List ℤ → List Pick
 picks_from oldest gain place [] = []
 picks_from oldest gain place (s ∷ ss) =
     record { score = s +ℤ gain; back = 2 * place + oldest }
     ∷ picks_from oldest gain (suc place) ss
 
--- the first k codewords into a state, where the bit adds so much after oldest bit 0
+-- the first k codewords into a state, if the bit adds `gain` after oldest bit 0
 unfoldable pub picks_by : List (List ℤ) → ℤ → ℕ → ℕ → List Pick
 picks_by column gain k t =
     merge pick_score k (picks_from 0 gain 0 (get_or column (2 * (t % 128) + 0) []))
     (picks_from 1 (pos 0 -ℤ gain) 0 (get_or column (2 * (t % 128) + 1) []))
 
--- and by its two soft values
+-- the same, from the two soft values of the bit
 abbrev pub picks_into : List (List ℤ) → ℤ → ℤ → ℕ → ℕ → List Pick
 picks_into column first second k t = picks_by column (gain_by first second (lane_code_of t)) k t
 
--- Choices are a number, bit r of which is the oldest bit of the state that codeword r comes from.
+-- Choices are a number. Its bit r is the oldest bit of the state that codeword r comes from.
 
 -- how many of the first n codewords come from the state with oldest bit 1
 unfoldable pub ones_below : ℕ → ℕ → ℕ
@@ -39,7 +39,7 @@ ones_below choices zero = 0
 ones_below choices (suc n) = ones_below choices n + digit (bit_of choices n)
 
 -- a codeword's pointer: codewords from one state keep their order, so its place in that state's
--- list is how many before it come from there
+-- list is the number of codewords before it that come from there
 abbrev pub pointer_of : ℕ → ℕ → ℕ
 pointer_of choices place =
     if bit_of choices place

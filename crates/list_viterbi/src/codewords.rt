@@ -12,7 +12,7 @@ use viterbi::Codeword;
 pub struct Entry {
     /// The codeword.
     pub word: Codeword,
-    /// Its score: the soft values times the signs of its code symbols, added up.
+    /// Its score: the sum of the soft values times the signs of its code symbols.
     pub score: i64,
 }
 
@@ -37,5 +37,5 @@ impl Scored for Entry {
 /// A list of at most 16 codewords with their scores.
 pub type Codewords = Ranked<Entry>;
 
-/// A list of codewords, by its shorter name.
+/// A shorter name for [`Codewords`].
 pub type Words = Codewords;

@@ -14,14 +14,14 @@ use std::alloc::Global;
 use std::marker::Model;
 use viterbi::Ends;
 
-/// The scores of the first codewords into each state, of at most `k` for each.
+/// The scores of the first codewords into each state, at most `k` for each.
 ///
 /// Contracts see the largest number of codewords, and the scores of each state.
 #[derive(Drop)]
 pub struct Column {
     k: u8,
     states: Vec<Scores>,
-    /// The scores after one bit more.
+    /// The scores after another bit.
     next_states: Vec<Scores>,
 }
 
@@ -37,7 +37,7 @@ impl Model for Column {
         × (r.k ≤ 16) };
 }
 
-/// A column of states without codewords.
+/// Returns a column of states without codewords.
 fn empty_column(alloc: Global) -> Result<Vec<Scores>, OutOfMemory>
     ensures { IfOk result (λ column. vec_len column ≡ 256) }
 {
@@ -58,7 +58,7 @@ fn is_start(state: u8, ends: Ends) -> bool
     }
 }
 
-/// The score of the codeword of no bits into a state, where a codeword may start from it.
+/// Returns the score of the codeword of no bits into a state, if a codeword may start from it.
 fn start_at(state: u8, ends: Ends) -> Scores
     ensures { result ≡ start_scores ends state }
 {
@@ -69,7 +69,7 @@ fn start_at(state: u8, ends: Ends) -> Scores
     scores
 }
 
-/// The scores before the first bit.
+/// Sets the scores before the first bit.
 fn start_column(column: &mut [Scores], ends: Ends)
     requires { length column.old ≡ 256 }
     ensures { (t : ℕ) → t < 256 → get_or column.new t [] ≡ start_scores ends t }
@@ -80,7 +80,7 @@ fn start_column(column: &mut [Scores], ends: Ends)
 }
 
 impl Column {
-    /// A column of states without codewords, with all the memory that it needs.
+    /// Returns a column of states without codewords, with all the memory that it needs.
     pub fn new(alloc: Global) -> Result<Column, OutOfMemory> {
         let states = empty_column(alloc)?;
         let next_states = empty_column(alloc)?;
@@ -91,7 +91,7 @@ impl Column {
         })
     }
 
-    /// The scores before the first bit.
+    /// Sets the scores before the first bit.
     pub fn start(&mut self, ends: Ends, k: u8)
         requires { k ≤ 16 }
         ensures k { self.new.k ≡ k }
@@ -102,8 +102,8 @@ impl Column {
         start_column(&mut self.states, ends);
     }
 
-    /// The scores and the choices of the first codewords into all states, one bit further, by the
-    /// soft values of its two symbols.
+    /// Advances the scores of the first codewords into all states by one bit, with the soft values
+    /// of its two symbols, and writes their choices to `choices`.
     pub fn step(&mut self, first: i64, second: i64, choices: &mut Choices)
         requires fits { unsigned_abs first + unsigned_abs second ≤ 2 ^ 62 }
         requires room { (t : ℕ) → t < 256 →
@@ -125,7 +125,7 @@ impl Column {
         std::mem::swap(&mut self.states, &mut self.next_states);
     }
 
-    /// The first codewords of the states in which a codeword may end.
+    /// Returns the first codewords of the states in which a codeword may end.
     pub fn first_ends(&self, ends: Ends) -> Finds
         ensures { result ≡ first_finds self.now.scores self.now.k (end_count ends) }
     {

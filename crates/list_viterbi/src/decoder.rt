@@ -13,8 +13,8 @@ use std::alloc::Global;
 use std::marker::Model;
 use viterbi::{Ends, MOST_BITS};
 
-/// Finds the first codewords for a list of soft values, in memory that `new` takes: two columns of
-/// scores and a column of choices for each of 576 bits, less than 650 KiB.
+/// Finds the first codewords for a list of soft values, in memory that `new` allocates: two columns
+/// of scores and a column of choices for each of 576 bits, less than 650 KiB.
 ///
 /// Contracts see the largest number of bits of a codeword.
 #[derive(Drop)]
@@ -37,8 +37,8 @@ impl Model for ListDecoder {
 }
 
 impl ListDecoder {
-    /// A decoder for codewords of at most `max_bits` bits, from 8 to 576, with all the memory that
-    /// it needs; `OutOfMemory` where the allocator has none.
+    /// Returns a decoder for codewords of at most `max_bits` bits, 8 to 576, with all the memory
+    /// that it needs. Returns `OutOfMemory` if allocation fails.
     pub fn new(alloc: Global, max_bits: u16) -> Result<ListDecoder, OutOfMemory>
         requires least { 8 ≤ max_bits }
         requires most { max_bits ≤ 576 }
@@ -53,14 +53,14 @@ impl ListDecoder {
         })
     }
 
-    /// Finds the first `k` of all allowed codewords for these soft values, or all where there are
-    /// fewer: `out` becomes their list, with their scores, whatever it held, and the answer is its
-    /// length.
+    /// Finds the first `k` of all allowed codewords for these soft values, or all if there are
+    /// fewer: `out` becomes their list with their scores, replacing its content. Returns the length
+    /// of the list.
     ///
-    /// There are two soft values a bit, that of the symbol of 753 octal first and then that of 561
-    /// octal (TIA/EIA-95-B, 7.1.3.1.3.1). Soft values, scores and the order of codewords are those
-    /// of `viterbi::Decoder::best_into`. There are 2^(bits - 8) codewords between zeros, otherwise
-    /// 2^(bits + 8), which is never fewer than 16.
+    /// `softs` has two values for each bit, first that of the symbol of 753 (octal), then that of
+    /// 561 (octal) (TIA/EIA-95-B, 7.1.3.1.3.1). Soft values, scores and the order of codewords are
+    /// those of `viterbi::Decoder::best_into`. There are 2^(bits - 8) allowed codewords if `ends`
+    /// is `Zero`, otherwise 2^(bits + 8), which is never fewer than 16.
     pub fn list_into(&mut self, softs: &[i64], ends: Ends, k: u8, out: &mut Codewords) -> u8
         requires some { 1 ≤ k }
         requires few { k ≤ 16 }

@@ -1,4 +1,4 @@
-//! The first codewords of all end states, by their scores and where they stand.
+//! The first codewords of all end states, by their scores and their places in the lists of states.
 
 ghost use Rattle.std.specs.Prelude.{◌≡◌, ◌≤◌, length, pos};
 ghost use Rattle.viterbi.specs.Survivors.{end_count};
@@ -15,7 +15,7 @@ pub struct Find {
     pub score: i64,
     /// The state.
     pub state: u8,
-    /// The place in its list.
+    /// The place in the state's list, counted from 0.
     pub rank: u8,
 }
 
@@ -40,7 +40,7 @@ impl Scored for Find {
 /// A list of at most 16 codewords that lead into states.
 pub type Finds = Ranked<Find>;
 
-/// The codewords of a state's list.
+/// Returns the codewords of a state's list.
 fn finds_of(scores: &Scores, state: u8) -> Finds
     ensures { result ≡ finds_from state 0 scores.now }
 {
@@ -55,7 +55,7 @@ fn finds_of(scores: &Scores, state: u8) -> Finds
     finds
 }
 
-/// The first codewords of the states in which a codeword may end.
+/// Returns the first `k` codewords of the states in which a codeword may end.
 pub fn first_ends(column: &[Scores], ends: Ends, k: u8) -> Finds
     requires whole { length column.now ≡ 256 }
     requires few { k ≤ 16 }

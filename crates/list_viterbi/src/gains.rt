@@ -5,13 +5,13 @@ ghost use Rattle.viterbi.specs.Lanes.{lane_code_of};
 
 use viterbi::symbol_gains::pattern_of;
 
-/// The codes of eight states, for each pattern: 1 where the first symbol is 1, plus 2 where the
-/// second is, where the oldest bit is 0.
+/// The codes of eight states, for each pattern, if the oldest bit is 0: 1 if the first symbol is 1,
+/// plus 2 if the second is.
 const CODES: [u8; 32] = [
     0, 1, 0, 1, 1, 0, 1, 0, 1, 0, 1, 0, 0, 1, 0, 1, 2, 3, 2, 3, 3, 2, 3, 2, 3, 2, 3, 2, 2, 3, 2, 3,
 ];
 
-/// A state's code.
+/// Returns a state's code.
 fn code_of(state: u8) -> usize
     ensures value { result ≡ lane_code_of state }
     ensures small { result < 4 }

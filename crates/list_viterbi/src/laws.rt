@@ -8,13 +8,13 @@ pub fn one_list()
     ensures { NamesOneList }
 {}
 
-/// The first codewords are those of the definition: of the allowed codewords, numbered in their
-/// order, those at the first places by falling score.
+/// The first codewords are those of the definition: the allowed codewords, numbered in their order,
+/// that come first by falling score.
 pub fn first_by_definition()
     ensures { AreFirstByDefinition }
 {}
 
-/// There are `k` first codewords, or as many as there are allowed codewords where those are fewer.
+/// There are `k` first codewords, or all allowed codewords if there are fewer.
 pub fn length_is_known()
     ensures { HaveLength }
 {}
@@ -24,8 +24,8 @@ pub fn best_is_first()
     ensures { HaveBestFirst }
 {}
 
-/// The first of them that passes a test, as that its quality bits agree, is, if there is one, the
-/// first of all allowed codewords that pass it.
+/// If one of them passes a test, such as the check of its quality bits, the first of them that does
+/// is also the first of all allowed codewords that do.
 pub fn first_passing_of_all()
     ensures { HaveFirstPassing }
 {}

@@ -1,4 +1,4 @@
-//! The first codewords of one bit more, from the scores of the two states before.
+//! The first codewords after another bit, from the scores of the two states before.
 
 ghost use Rattle.std.specs.Prelude.{◌≡◌, ◌<◌, ◌≤◌, ◌+◌, ◌*◌, ◌^◌, ◌+ℤ◌, ℕ, [], length, get_or, pos};
 ghost use Rattle.std.specs.Prelude.{drop, unsigned_abs, int_lt, All};
@@ -12,12 +12,12 @@ use crate::gains::gain_at;
 use crate::scores::Scores;
 use viterbi::symbol_gains::gains;
 
-/// A number for each state after some bit. Bit `r` of it is the oldest bit of the state that the
+/// A number for each state after some bit. Its bit `r` is the oldest bit of the state that the
 /// codeword at place `r` of the state's list comes from. Codewords from one state keep their order,
-/// so that with the lower bits it tells the codeword's place in that state's list too.
+/// so the bits up to `r` also determine the codeword's place in that state's list.
 pub type Choices = [u32; 256];
 
-/// A codeword's score with what a bit adds to it.
+/// Returns the score of codeword `i` plus what a bit adds to it.
 fn sum_at(scores: &Scores, i: u8, gain: i64) -> i64
     requires place { i < length scores.now }
     requires room { All (LeavesScoreRoom gain) scores.now }
@@ -27,9 +27,9 @@ fn sum_at(scores: &Scores, i: u8, gain: i64) -> i64
     *scores.get(i) + gain
 }
 
-/// Whether the codewords of the state before with oldest bit 1, from place `j` on, have one that
-/// comes before those of the state with oldest bit 0 from place `i` on, where the bit adds so much
-/// to the scores of both.
+/// Whether the next codeword comes from the previous state with oldest bit 1, from place `j` on,
+/// rather than from the one with oldest bit 0, from place `i` on. The bit adds `odd_gain` and
+/// `even_gain` to their scores.
 fn takes_odd(even: &Scores, i: u8, even_gain: i64, odd: &Scores, j: u8, odd_gain: i64) -> bool
     requires even_place { i ≤ length even.now }
     requires odd_place { j ≤ length odd.now }
@@ -47,9 +47,9 @@ fn takes_odd(even: &Scores, i: u8, even_gain: i64, odd: &Scores, j: u8, odd_gain
     sum_at(even, i, even_gain) < sum_at(odd, j, odd_gain)
 }
 
-/// The scores of the first `k` codewords of one bit more go into `scores`, from those of the states
-/// before with oldest bit 0 and 1, to which the bit adds so much; on a tie those of the first come
-/// first. The answer is their choices.
+/// Writes the scores of the first `k` codewords after another bit to `scores`, from those of the
+/// previous states with oldest bit 0 and 1, to which the bit adds the gains. On a tie, codewords
+/// from oldest bit 0 come first. Returns their choices.
 fn picked(
     even: &Scores,
     even_gain: i64,
@@ -87,7 +87,7 @@ fn picked(
     choices
 }
 
-/// The greater of two scores, the first on a tie, and whether it is the second.
+/// Returns the greater of two scores, the first on a tie, and whether it is the second.
 fn greater(even: i64, odd: i64) -> (i64, bool)
     ensures score { result.0 ≡ taken_of (int_lt even odd) even odd }
     ensures choice { result.1 ≡ int_lt even odd }
@@ -96,7 +96,7 @@ fn greater(even: i64, odd: i64) -> (i64, bool)
     (if is_odd { odd } else { even }, is_odd)
 }
 
-/// The weight of a choice, if it is 1.
+/// Returns `weight` if `choice`, otherwise 0.
 fn weight_of(choice: bool, weight: u32) -> u32
     ensures value { result ≡ digit choice * weight }
     ensures most { result ≤ weight }
@@ -104,7 +104,7 @@ fn weight_of(choice: bool, weight: u32) -> u32
     if choice { weight } else { 0 }
 }
 
-/// As `picked`, where both lists have `k` codewords, so that neither comes to its end.
+/// Does the same as `picked` for lists of at least `k` codewords, neither of which runs out.
 fn picked_of_full(
     even: &Scores,
     even_gain: i64,
@@ -135,10 +135,9 @@ fn picked_of_full(
     choices
 }
 
-/// The scores of the first `k` codewords into a state go into `scores`, where the bit adds `gain`
-/// after oldest bit 0; the answer is their choices. Both generators, 753 and 561 octal
-/// (TIA/EIA-95-B, 7.1.3.1.3.1), tap the oldest bit, so after oldest bit 1 the bit takes as much
-/// off.
+/// Writes the scores of the first `k` codewords into a state to `scores`, if the bit adds `gain`
+/// after oldest bit 0. Returns their choices. Both generators, 753 and 561 octal (TIA/EIA-95-B,
+/// 7.1.3.1.3.1), tap the oldest bit, so after oldest bit 1 the bit subtracts `gain`.
 fn picked_into(column: &[Scores], state: u8, gain: i64, k: u8, scores: &mut Scores) -> u32
     requires whole { length column.now ≡ 256 }
     requires few { k ≤ 16 }
@@ -150,8 +149,8 @@ fn picked_into(column: &[Scores], state: u8, gain: i64, k: u8, scores: &mut Scor
     picked(&column[before], gain, &column[before + 1], -gain, k, scores)
 }
 
-/// The scores and the choices of the first `k` codewords into all states, one bit further, by the
-/// soft values of its two symbols.
+/// Writes the scores and the choices of the first `k` codewords into all states after another bit,
+/// from the soft values of its two symbols.
 pub fn step(
     column: &[Scores],
     first: i64,

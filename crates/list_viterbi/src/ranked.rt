@@ -1,4 +1,4 @@
-//! Lists of things by falling score, and the first of two lists.
+//! Lists of values by falling score, and the first values of two lists.
 
 ghost use Rattle.std.specs.Prelude.{◌≡◌, ◌<◌, ◌≤◌, ℤ, [], ◌∷◌, ◌++◌, length, drop, slice_get, Some};
 ghost use Rattle.list_viterbi.specs.Merging.{second_is_next, merge};
@@ -15,12 +15,12 @@ pub trait Scored: Copy {
     fn nothing() -> Self
         ensures { result ≡ nothing };
 
-    /// The score.
+    /// Returns the score.
     fn score(&self) -> i64
         ensures { result ≡ score self.now };
 }
 
-/// A list of at most 16 things with scores.
+/// A list of at most 16 values with scores.
 ///
 /// Contracts see the list.
 #[derive(Drop)]
@@ -53,14 +53,14 @@ impl<T: Scored> Ranked<T> {
         }
     }
 
-    /// Leaves nothing.
+    /// Makes the list empty.
     pub fn clear(&mut self)
         ensures { self.new ≡ [] }
     {
         self.count = 0;
     }
 
-    /// Returns how many things the list has.
+    /// Returns how many values the list has.
     pub fn len(&self) -> u8
         ensures value { result ≡ length self.now }
         ensures most { result ≤ 16 }
@@ -68,7 +68,7 @@ impl<T: Scored> Ranked<T> {
         self.count
     }
 
-    /// The things of the list.
+    /// Returns the values of the list.
     fn all(&self) -> &[T]
         ensures value { result.now ≡ self.now }
         ensures most { length result.now ≤ 16 }
@@ -76,7 +76,7 @@ impl<T: Scored> Ranked<T> {
         &self.entries[..self.count as usize]
     }
 
-    /// Thing `i`, counted from 0.
+    /// Returns value `i`, counted from 0.
     pub fn get(&self, i: u8) -> &T
         requires { i < length self.now }
         ensures value { slice_get self.now i ≡ Some result.now }
@@ -85,7 +85,7 @@ impl<T: Scored> Ranked<T> {
         &self.all()[i as usize]
     }
 
-    /// Adds a thing at the end.
+    /// Adds a value at the end.
     pub fn push(&mut self, entry: T)
         requires { length self.old < 16 }
         ensures { self.new ≡ self.old ++ entry ∷ [] }
@@ -95,8 +95,8 @@ impl<T: Scored> Ranked<T> {
     }
 }
 
-/// Whether the second list, from place `j` on, has a thing that comes before those of the first
-/// from place `i` on.
+/// Whether the next value comes from the second list, from place `j` on, rather than from the
+/// first, from place `i` on.
 fn takes_second<T: Scored>(first: &Ranked<T>, i: u8, second: &Ranked<T>, j: u8) -> bool
     requires first_place { i ≤ length first.now }
     requires second_place { j ≤ length second.now }
@@ -111,8 +111,8 @@ fn takes_second<T: Scored>(first: &Ranked<T>, i: u8, second: &Ranked<T>, j: u8) 
     first.get(i).score() < second.get(j).score()
 }
 
-/// The first `k` things of two lists, by falling score; on a tie those of the first list come
-/// first.
+/// Returns the first `k` values of two lists, by falling score; on a tie those of the first list
+/// come first.
 pub fn merged<T: Scored>(first: &Ranked<T>, second: &Ranked<T>, k: u8) -> Ranked<T>
     requires { k ≤ 16 }
     ensures { result ≡ merge T.score k first.now second.now }

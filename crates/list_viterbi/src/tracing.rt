@@ -31,8 +31,8 @@ fn ones_below(choices: u32, place: u8) -> u8
     ones
 }
 
-/// Where the codeword at a place of a state's list comes from: twice the place in the list of the
-/// state before, plus that state's oldest bit.
+/// Returns where the codeword at a place of a state's list comes from: twice the place in the list
+/// of the state before, plus that state's oldest bit.
 fn pointer_at(choices: &Choices, state: u8, place: u8) -> u8
     ensures { result ≡ pointer_of (get_or choices.now state 0) (place % 16) }
 {
@@ -46,8 +46,8 @@ fn pointer_at(choices: &Choices, state: u8, place: u8) -> u8
     }
 }
 
-/// The bits that the columns lead back to from a place in a state's list go into `bits`; the answer
-/// is the state before them.
+/// Writes the bits to which the columns lead back from a place in a state's list into `bits`, and
+/// returns the state before them.
 fn trace_back(columns: &[Choices], end: u8, place: u8, bits: &mut [bool]) -> u8
     requires { length bits.old ≡ length columns.now }
     ensures start { result ≡ list_origin columns.now (length columns.now) end place }
@@ -65,8 +65,8 @@ fn trace_back(columns: &[Choices], end: u8, place: u8, bits: &mut [bool]) -> u8
     state
 }
 
-/// The codeword that the columns, one for each bit, lead back to from a place in a state's list,
-/// with its score.
+/// Returns the codeword to which the columns, one for each bit, lead back from a place in a state's
+/// list, with its score.
 fn traced(columns: &[Choices], find: &Find) -> Entry
     requires { length columns.now ≤ 576 }
     ensures { result ≡ entry_at columns.now find.now }
@@ -83,7 +83,7 @@ fn traced(columns: &[Choices], find: &Find) -> Entry
     }
 }
 
-/// The codewords that the columns lead back to, with their scores.
+/// Returns the codewords to which the columns lead back, with their scores.
 pub fn all_traced(columns: &[Choices], finds: &Finds) -> Codewords
     requires { length columns.now ≤ 576 }
     ensures { result ≡ map (entry_at columns.now) finds.now }

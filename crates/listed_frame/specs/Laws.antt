@@ -7,13 +7,13 @@ use Rattle.frame_decoder.specs.TrafficFrames.{decoded, frame_score, frame_symbol
 use Rattle.frame_decoder.specs.Laws.{frame_codeword, ShowSymbols, IsUnshared, kept_count}
 use Rattle.listed_frame.specs.ListedFrames.{listed}
 
--- with one codeword of each rate the frame is that of the best codewords
+-- with one codeword per rate, the frame is the one decoded from the best codewords
 abbrev pub IsDecodedByOneCodeword : Type 0
 IsDecodedByOneCodeword =
     (replaced : List ℕ) (softs : List ℤ) → listed 1 replaced softs ≡ decoded replaced softs
 
--- soft values that show the symbols of a frame which no other codeword shares give that frame,
--- however many codewords are listed
+-- soft values that show the symbols of a frame, which no other codeword shares, are decoded as that
+-- frame, for any number of listed codewords
 abbrev pub IsSentFrameListed : Type 0
 IsSentFrameListed =
     (k strength : ℕ) (replaced : List ℕ) (rate : Rate) (information : List Bool)
@@ -29,8 +29,8 @@ IsSentFrameListed =
       score = pos (strength * kept_count replaced);
     }
 
--- so do soft values with the signs of these symbols, whatever their sizes: the score is what they
--- add up to
+-- so are soft values with the signs of these symbols, whatever their sizes; the score is the sum of
+-- the sizes
 abbrev pub IsListedBySigns : Type 0
 IsListedBySigns =
     (k : ℕ) (replaced : List ℕ) (rate : Rate) (information : List Bool) (softs : List ℤ) →

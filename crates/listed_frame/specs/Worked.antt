@@ -19,7 +19,7 @@ right = codeword (binary 64 0xe17e1018de3b9058 ++ binary 32 0x4cd96800)
 abbrev later : Codeword
 later = codeword (binary 64 0xbde54164d8399f76 ++ binary 32 0x7c451500)
 
--- the first whose quality indicator is right is taken, and not the last
+-- the first codeword with a right quality indicator is taken, not the last
 second_saves : first_right (format_of R4800) (wrong ∷ right ∷ later ∷ []) ≡ Some right
 unfolding binary places check_bits
 second_saves = refl

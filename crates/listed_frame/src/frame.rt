@@ -16,7 +16,7 @@ use list_viterbi::{Codewords, ListDecoder};
 use symbol_path::{FrameFormat, PowerPlaces, REPEATED_SYMBOLS, Rate, format_of, gather_frame_into};
 use viterbi::Ends;
 
-/// The first codewords of a rate, for a frame's soft values in the sent order.
+/// The first `k` codewords of a rate, for a frame's soft values in the sent order.
 fn codewords_in(
     decoder: &mut ListDecoder,
     k: u8,
@@ -58,7 +58,7 @@ fn candidate(format: &FrameFormat<Rate>, codewords: &Codewords) -> Option<Decode
     None
 }
 
-/// A rate's candidate by its first codewords.
+/// A rate's candidate among its first `k` codewords.
 fn candidate_of(
     decoder: &mut ListDecoder,
     k: u8,
@@ -78,17 +78,17 @@ fn candidate_of(
     candidate(&format, &codewords)
 }
 
-/// Decodes a traffic frame of rate set 1 with the first `k` codewords of each rate that has a
-/// quality indicator, from 1 to 16.
+/// Decodes a traffic frame of rate set 1 with the first `k` codewords, 1 to 16, of each rate that
+/// has a quality indicator.
 ///
-/// `softs` has the soft values of a frame's 384 symbols in the sent order, with the scrambling
-/// removed, and `places` the places of the power control bits, whose soft values count as 0. Of
-/// 9,600 and of 4,800 bits a second the first `k` codewords are found, of those that start from
-/// eight zeros and end with eight zeros, and the first of them whose quality indicator is right is
-/// the rate's candidate, if there is one. The best codewords of 2,400 and 1,200 bits a second
-/// always are candidates. The candidate of the largest score is taken, the higher rate on a tie,
-/// and is good exactly if that score is above 0. If it isn't, the rate is 9,600, with the
-/// information bits of the best codeword at that rate. No memory is taken.
+/// `softs` contains the soft values of a frame's 384 symbols in the sent order, with the scrambling
+/// removed. `places` contains the places of the power control bits, whose soft values count as 0.
+/// At 9,600 and 4,800 bits a second, the first `k` codewords are found among those that start from
+/// eight zeros and end with eight zeros. The first of them with a right quality indicator, if any,
+/// is the rate's candidate. The best codewords at 2,400 and 1,200 bits a second are always
+/// candidates. The candidate with the largest score is taken, the higher rate on a tie, and is good
+/// exactly if that score is above 0. If it isn't, the rate is 9,600, with the information bits of
+/// the best codeword at that rate. No memory is allocated.
 ///
 /// TIA/EIA-95-B, 7.1.3.5: the bits of a frame at each rate; 7.1.3.1: they are encoded, each code
 /// symbol is sent 1, 2, 4 or 8 times, and the symbols are interleaved.

@@ -24,7 +24,7 @@ pub fn states_differ()
     ensures { (s t chips : ℕ) → IsState s → IsState t → after s chips ≡ after t chips → s ≡ t }
 {}
 
-/// The state n chips earlier, found by division by x, gives the state again n chips later.
+/// The state n chips earlier, computed by division by x, becomes the state again n chips later.
 pub fn division_goes_back()
     ensures state { (state chips : ℕ) → IsState state → IsState (before state chips) }
     ensures back { (state chips : ℕ) → IsState state → after (before state chips) chips ≡ state }

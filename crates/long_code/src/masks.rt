@@ -1,4 +1,4 @@
-//! The masks of the users of the long code.
+//! The long-code masks of paging and traffic channels.
 
 ghost use Rattle.std.specs.Prelude.{◌≡◌, ◌<◌, ◌≤◌, ◌^◌};
 ghost use Rattle.long_code.specs.LongCode.{paging_mask, traffic_mask};

@@ -49,7 +49,7 @@ impl State {
         self.value
     }
 
-    /// Moves the state one chip on.
+    /// Advances the state by one chip.
     pub fn step(&mut self)
         ensures later { self.new ≡ after self.old 1 }
         ensures state { IsState self.new }
@@ -57,7 +57,7 @@ impl State {
         self.value = times_x(self.value);
     }
 
-    /// Moves the state 64 chips on, to the first chip of the next symbol of a paging or traffic
+    /// Advances the state by 64 chips, to the first chip of the next symbol of a paging or traffic
     /// channel.
     ///
     /// TIA/EIA-95-B, 7.1.3.1.6: each symbol of these channels lasts 64 chips.
@@ -68,7 +68,7 @@ impl State {
         self.value = times_x64(self.value);
     }
 
-    /// Moves the state `chips` chips on, by squaring: a few thousand steps for any count.
+    /// Advances the state by `chips` chips, by squaring: a few thousand steps for any count.
     pub fn jump(&mut self, chips: u64)
         ensures later { self.new ≡ after self.old chips }
         ensures state { IsState self.new }
@@ -110,7 +110,7 @@ fn times_x(value: u64) -> u64
     }
 }
 
-/// Returns the product with a power of x, whose remainder is given.
+/// Returns the product with a power of x, whose remainder is `power`.
 fn product(value: u64, power: u64) -> u64
     requires value { value < 2 ^ 42 }
     requires power { power < 2 ^ 42 }

@@ -1,11 +1,11 @@
-//! Moves the generator by one symbol, with a table.
+//! Advances the generator by one symbol, with a table.
 
 ghost use Rattle.std.specs.Prelude.{◌≡◌, ◌<◌, ◌^◌};
 ghost use Rattle.long_code.specs.LongCode.{after};
 
-/// The table of what pairs of bits of a state become 64 chips later. Row k is for bits 2k and 2k +
-/// 1; its entry n is the product of n x^(2k) with x^64, where n = 0, 1, 2, 3 stands for 0, 1, x and
-/// x + 1.
+/// The contribution of each pair of a state's bits to the state 64 chips later. Row k is for bits
+/// 2k and 2k + 1; its entry n is the product of n x^(2k) with x^64, where n = 0, 1, 2, 3 represents
+/// 0, 1, x and x + 1.
 const PRODUCTS: [[u64; 4]; 21] = [
     [0, 0x1fb_7e89_7f03, 0x3f6_fd12_fe06, 0x20d_839b_8105],
     [0, 0x3e7_744a_f8e3, 0x3c4_66fa_f529, 0x023_12b0_0dca],

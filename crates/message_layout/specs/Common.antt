@@ -1,4 +1,4 @@
--- What the definitions of this crate cite of the crates below, and of its own types.
+-- Names that the definitions of this crate use, from other crates and of its own types.
 pub use Rattle.chip_core.specs.Fields.{AreWidths, FieldsFit, field, in_widths, spelled, total_width}
 pub use Rattle.chip_core.specs.Readings.{column_at, number_at, values_at}
 pub use Rattle.chip_core.specs.declared.field.Field.{Field}

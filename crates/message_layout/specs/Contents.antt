@@ -20,18 +20,18 @@ record_fields widths (suc n) columns =
 abbrev pub record_at : ℕ → List (List ℕ) → List ℕ
 record_at i columns = map (λ column. get_or column i 0) columns
 
--- how many records there are
+-- the number of records
 abbrev pub height : List (List ℕ) → ℕ
 height columns = length (get_or columns 0 [])
 
--- how many numbers column j has where there are n records of these fields
+-- the length of column j if there are n records of these fields
 abbrev pub share : List ℕ → ℕ → ℕ → ℕ
 share widths n j = if nat_lt j (length widths) then n else 0
 
 abbrev pub shares : List ℕ → ℕ → List ℕ
 shares widths n = share widths n 0 ∷ share widths n 1 ∷ share widths n 2 ∷ []
 
--- how many records fit into n bits
+-- the number of records that fit into `bits` bits
 abbrev pub count_in : List ℕ → ℕ → ℕ
 count_in [] bits = 0
 count_in (width ∷ widths) bits = bits / total_width (width ∷ widths)

@@ -27,7 +27,7 @@ plain_contents fixed columns rest = record {
   rest = rest;
 }
 
--- what stands at the places of fields, of as many records as fit after them, and after these
+-- the contents that bits spell: the fixed fields, as many records as fit, and the bits after them
 abbrev pub list_said : List ℕ → List ℕ → List Bool → Contents
 list_said fixed records bits =
     let w = drop (total_width fixed) bits in
@@ -35,8 +35,8 @@ list_said fixed records bits =
     plain_contents (values_at fixed bits) (columns_in records n w)
     (drop (n * total_width records) w)
 
--- whether n bits are contents of such a layout: the fixed fields, enough records, and no more bits
--- after them than the layout allows
+-- whether `count` bits can spell contents of such a layout: the fixed fields, enough records, and
+-- no more bits after them than the layout allows
 abbrev pub has_length : MessageShape → ℕ → Bool
 has_length s count =
     let left = count - total_width s.fixed in

@@ -11,12 +11,12 @@ abbrev pub ◌>>=◌ : {A B : Type 0} → Option A → (A → Option B) → Opti
 None >>= f = None
 (Some x) >>= f = f x
 
--- in a message
+-- the function applied to the value, if there is one
 abbrev pub mapped : {A B : Type 0} → (A → B) → Option A → Option B
 mapped f None = None
 mapped f (Some x) = Some (f x)
 
--- what was read, and the bits after it, which begin at a place of a list
+-- what was read, and the bits after it: those from the returned place of a list on
 abbrev pub following : {A : Type 0} → List Bool → Option (A × ℕ) → Option (A × List Bool)
 following bits None = None
 following bits (Some x) = Some (x.0, drop x.1 bits)
@@ -32,12 +32,12 @@ unfoldable pub part_at : ℕ → List Bool → Option (List Bool × List Bool)
 part_at count bits =
     if nat_le count (length bits) then Some (take count bits, drop count bits) else None
 
--- a number of that many bits
+-- a number of `width` bits
 unfoldable pub number_part : ℕ → List Bool → Option (ℕ × List Bool)
 number_part width bits =
     if nat_le width (length bits) then Some (number_at 0 width bits, drop width bits) else None
 
--- whether a group is there
+-- whether a group is present
 unfoldable pub presence_at : Presence → List Bool → Option (Bool × List Bool)
 presence_at Never bits = Some (false, bits)
 presence_at Flagged bits = do
@@ -56,7 +56,7 @@ group_at presence widths bits = do
   there ← presence_at presence bits
   present_at widths there.0 there.1
 
--- bits that are 0, a count of octets, and the octets
+-- zero bits, a count of octets, and the octets
 unfoldable pub octets_at : ℕ → ℕ → List Bool → Option (List Bool × List Bool)
 octets_at zeros width bits = do
   none ← number_part zeros bits
@@ -73,7 +73,7 @@ records_from widths least n bits =
 unfoldable pub records_at : List ℕ → ℕ → List Bool → Option (List (List ℕ) × List Bool)
 records_at widths least bits = records_from widths least (count_in widths (length bits)) bits
 
--- whether no more bits are left than may be
+-- whether at most the allowed number of bits is left
 abbrev pub is_few : Option ℕ → ℕ → Bool
 is_few None count = true
 is_few (Some most) count = nat_le count most
@@ -94,7 +94,7 @@ rest_at most fixed group octets columns rest =
       rest = rest;
     }) else None
 
--- the contents whose spelling the bits are
+-- the contents that the bits spell
 unfoldable pub reading : MessageShape → List Bool → Option Contents
 reading s bits = do
   fixed ← fields_at s.fixed bits

@@ -4,7 +4,7 @@ use Rattle.std.specs.Prelude.{ℕ, ◌≤◌, ◌&&◌, Bool, true, false, List,
 use Rattle.std.specs.Prelude.{nat_le, Option, None, Some}
 use Rattle.message_layout.specs.declared.layout.MessageLayout.{MessageLayout}
 
--- the widths of the fields, and what stands among them
+-- the widths of the fields, and the sizes and bounds of the other parts
 pub record MessageShape : Type 0 where
   pub fixed : List ℕ
   pub presence : Presence
@@ -15,7 +15,7 @@ pub record MessageShape : Type 0 where
   pub least : ℕ
   pub most : Option ℕ
 
--- those of a layout
+-- the shape of a layout
 abbrev pub shape : MessageLayout → MessageShape
 shape layout = record {
   fixed = map (λ row. row.1) layout.fixed.now;
@@ -28,7 +28,7 @@ shape layout = record {
   most = layout.most;
 }
 
--- the names in the line of such a body: its own, those of the fixed fields, and the list's
+-- the names in the line of such a body: its own, those of the fixed fields, and that of the list
 pub record LineNames : Type 0 where
   pub word : List ℕ
   pub fixed : List (List ℕ)
@@ -41,17 +41,17 @@ line_names layout = record {
   list = layout.records.name.now;
 }
 
--- each is 1 to n
+-- each width is 1 to `most`
 abbrev pub are_widths : ℕ → List ℕ → Bool
 are_widths most [] = true
 are_widths most (width ∷ widths) = nat_le 1 width && (nat_le width most && are_widths most widths)
 
--- each is at most 32
+-- each width is at most 32
 abbrev pub AreNarrow : List ℕ → Type 0
 AreNarrow [] = Unit {0}
 AreNarrow (width ∷ widths) = (width ≤ 32) × AreNarrow widths
 
--- the group has more bits than are left where it isn't there
+-- the group has more bits than are left if it is absent
 abbrev pub group_is_told : Presence → List ℕ → Bool
 group_is_told Never group = true
 group_is_told Flagged group = true
@@ -63,7 +63,7 @@ ends [] most = true
 ends (width ∷ widths) None = false
 ends (width ∷ widths) (Some most) = nat_lt most (total_width (width ∷ widths))
 
--- the widths are admitted, there is room for all values, and a body tells where each part ends
+-- the widths are allowed, all values have room, and a body determines where each of its parts ends
 unfoldable pub is_lawful : MessageShape → Bool
 is_lawful s =
     are_widths 64 s.fixed && (nat_le (length s.fixed) 48

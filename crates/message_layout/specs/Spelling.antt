@@ -6,7 +6,7 @@ use Rattle.std.specs.Prelude.{map, Option, None, Some}
 use Rattle.message_layout.specs.Contents.{height, record_fields, shares}
 use Rattle.message_layout.specs.Shapes.{MessageShape}
 
--- the bit that says whether the group is there, where there is one, and the group
+-- the bit that says whether the group is present, if the layout has one, and the group
 abbrev pub group_fields : Presence → List ℕ → Option (List ℕ) → List Field
 group_fields Never widths group = []
 group_fields Flagged widths None = field 1 0 ∷ []
@@ -14,7 +14,7 @@ group_fields Flagged widths (Some values) = field 1 1 ∷ in_widths widths value
 group_fields (UnlessLeft count) widths None = []
 group_fields (UnlessLeft count) widths (Some values) = in_widths widths values
 
--- bits that are 0, the number of octets, and the octets
+-- zero bits, the number of octets, and the octets
 abbrev pub octet_bits : ℕ → ℕ → List Bool → List Bool
 octet_bits zeros count octets =
     spelled (field zeros 0 ∷ field count (length octets / 8) ∷ []) ++ octets
@@ -22,7 +22,7 @@ octet_bits zeros count octets =
 abbrev pub records_of : MessageShape → Contents → List Field
 records_of s c = record_fields s.records (height c.columns) c.columns
 
--- after the group
+-- the bits after the group
 abbrev pub after_group : MessageShape → Contents → List Bool
 after_group s c = octet_bits s.zeros s.count c.octets ++ (spelled (records_of s c) ++ c.rest)
 
@@ -36,7 +36,7 @@ pub record HaveValues (widths values : List ℕ) : Type 0 where
   pub all : length values ≡ length widths
   pub fit : FieldsFit (in_widths widths values)
 
--- whether the group may be present or absent if n bits follow it
+-- whether the group may be present or absent if `following` bits follow it
 abbrev pub IsGroup : Presence → List ℕ → Option (List ℕ) → ℕ → Type 0
 IsGroup Never widths group following = group ≡ None
 IsGroup Flagged widths None following = Unit {0}
@@ -44,7 +44,7 @@ IsGroup Flagged widths (Some values) following = HaveValues widths values
 IsGroup (UnlessLeft count) widths None following = following ≡ count
 IsGroup (UnlessLeft count) widths (Some values) following = HaveValues widths values
 
--- no more bits are left than may be
+-- at most the allowed number of bits is left
 abbrev pub IsRest : Option ℕ → List Bool → Type 0
 IsRest None rest = Unit {0}
 IsRest (Some most) rest = length rest ≤ most

@@ -45,7 +45,7 @@ unfolding all_parts said spelling reading fields_at group_at presence_at octets_
     part_at records_at binary
 read = refl
 
--- three bits after a field of four are a rest, and no group
+-- with three bits left after a field of four bits, the group is absent
 unless_left : MessageShape
 unless_left =
     record {
@@ -72,7 +72,7 @@ unfolding unless_left reading fields_at group_at presence_at octets_at number_pa
     records_at
 no_group = refl
 
--- and four bits are neither
+-- with four bits left, the group is present, and they are too few for it
 too_short : reading unless_left
     (false ∷ true ∷ true ∷ false ∷ true ∷ true ∷ false ∷ true ∷ []) ≡ None
 unfolding unless_left reading fields_at group_at presence_at octets_at number_part part_at

@@ -11,13 +11,13 @@ use chip_core::{Bits, Numbers};
 pub struct Contents {
     /// The values of the fixed fields.
     pub fixed: FieldValues,
-    /// The values of the group's fields, if it is there.
+    /// The values of the group's fields, if the group is present.
     pub group: Option<FieldValues>,
-    /// The octets that are counted, bit by bit.
+    /// The counted octets, bit by bit.
     pub octets: Bits,
-    /// For each field of a record its value in each record; empty past the last field.
+    /// For each field of a record, its values in all records; empty past the last field.
     pub columns: [Numbers; 3],
-    /// The bits that are left.
+    /// The remaining bits.
     pub rest: Bits,
 }
 

@@ -2,15 +2,15 @@
 //!
 //! A [`MessageLayout`] has five parts, one after another, each of which may be empty:
 //!
-//! - fixed fields, which each body has;
-//! - a group of fields, which is there where a bit before it is 1, or where another number of bits
-//!   is left than one that is named;
-//! - bits that are 0, a count of octets, and as many octets;
-//! - records of the same fields, as many as fit, with a lower bound;
-//! - a rest of bits, with an upper bound.
+//! - fixed fields, which every body has;
+//! - a group of fields, which is present if a bit before it is 1, or unless exactly a stated number
+//!   of bits is left;
+//! - zero bits, a count of octets, and that number of octets;
+//! - records of the same fields, as many as fit, with a lower bound on their number;
+//! - the remaining bits, with an upper bound on their number.
 //!
-//! The message type, by which a layout is chosen, stands before all of them. The bodies of sync,
-//! paging and traffic channels are such layouts after their types:
+//! The message type, which selects the layout, precedes them all. The bodies of the messages of
+//! sync, paging and traffic channels have these layouts after their types:
 //!
 //! | Message | Fixed | Group | Octets | Records | Rest |
 //! |---|---|---|---|---|---|
@@ -24,12 +24,12 @@
 //! | Extended Handoff Direction | 3 fields | 5 fields | a count | of 9, 1 and 8 bits | at most 7 |
 //! | Of any other type | | | | | all |
 //!
-//! In an Extended Handoff Direction the group stands after SEARCH_INCLUDED, one bit 0 and a count
-//! of 3 bits stand before the octets, and the records are one or more.
+//! In an Extended Handoff Direction, the group follows SEARCH_INCLUDED, one zero bit and a count of
+//! 3 bits precede the octets, and there is at least one record.
 
 ghost use Rattle.std.specs.Prelude.{◌≡◌, ◌<◌, [], length, map, get_or};
 
-/// A field of a message: its name in lines of text, and in how many bits it is sent.
+/// A field of a message: its name in lines of text, and the number of bits in which it is sent.
 pub type FieldRow = (&'static str, u8);
 
 /// The fields of a body after its message type, in the order of transmission.
@@ -42,42 +42,42 @@ pub struct MessageLayout {
     pub name: &'static str,
     /// The fields that each body has.
     pub fixed: &'static [FieldRow],
-    /// The fields that may be there.
+    /// The fields that may be present.
     pub group: Group,
-    /// The octets that are counted.
+    /// The counted octets.
     pub octets: Octets,
     /// The records to the end.
     pub records: Records,
-    /// How many bits are left at most after all of these; `None` if any number may be left.
+    /// The greatest number of bits left after all of these; `None` if any number may be left.
     pub most: Option<u16>,
 }
 
 /// Fields that are in a body together or not at all.
 #[derive(Clone, Copy)]
 pub struct Group {
-    /// Where they are there.
+    /// When they are present.
     pub presence: Presence,
     /// The fields.
     pub fields: &'static [FieldRow],
 }
 
-/// Where a group is there.
+/// When a group is present.
 #[derive(Clone, Copy)]
 pub enum Presence {
-    /// Nowhere.
+    /// Never.
     Never,
-    /// After a bit that is 1; if that bit is 0 there is none.
+    /// After a bit that is 1; if that bit is 0, the group is absent.
     Flagged,
     /// Unless exactly this many bits are left, fewer than the group has.
     UnlessLeft(u16),
 }
 
-/// Octets, preceded by their number.
+/// Octets, preceded by their count.
 #[derive(Clone, Copy)]
 pub struct Octets {
-    /// How many zero bits precede the number, at most 64.
+    /// The number of zero bits before the count, at most 64.
     pub zeros: u8,
-    /// In how many bits the number is sent, at most 8; with 0 there are no octets.
+    /// The number of bits of the count, at most 8; 0 if there are no octets.
     pub width: u8,
 }
 
@@ -88,20 +88,20 @@ pub struct Records {
     pub name: &'static str,
     /// The fields of a record; none if there are no records.
     pub fields: &'static [FieldRow],
-    /// How many records there are at least.
+    /// The least number of records.
     pub least: u8,
 }
 
-/// For a layout without a group.
+/// The `group` of a layout without a group.
 pub const NO_GROUP: Group = Group {
     presence: Presence::Never,
     fields: &[],
 };
 
-/// For a layout without octets that are counted.
+/// The `octets` of a layout without counted octets.
 pub const NO_OCTETS: Octets = Octets { zeros: 0, width: 0 };
 
-/// For a layout without records.
+/// The `records` of a layout without records.
 pub const NO_RECORDS: Records = Records {
     name: "",
     fields: &[],

@@ -1,8 +1,8 @@
 //! Layouts of message bodies (TIA/EIA-95-B, 7.7): one table lists the fields of a body, and one
 //! reader and one writer use it.
 //!
-//! What is read is held in a fixed room ([`Contents`]), so nothing allocates. What is spelled so is
-//! read, what is read is spelled so, and no other list of bits is read.
+//! Contents that are read have a fixed size ([`Contents`]), so nothing allocates. Reading a list of
+//! bits returns contents exactly if the list is the spelling of these contents.
 #![tactic(auto)]
 
 mod contents;

@@ -1,7 +1,7 @@
 //! Bits read by a layout.
 //!
-//! Each function reads at a place of one slice, counted from 0, and returns the place after it, so
-//! only octets and a rest are copied.
+//! Each function reads from a place of one slice, counted from 0, and returns the place after what
+//! it read, so only octets and the remaining bits are copied.
 //!
 //! The larger functions are inlined: a layout known at the call needs no table, and what was read
 //! is not copied from call to call.
@@ -24,7 +24,7 @@ use crate::values::FieldValues;
 use chip_core::{Bits, Numbers};
 
 /// Returns the contents that bits spell by a layout, with at most 128 records; `None` exactly if
-/// they spell none.
+/// they spell no contents.
 pub fn read(layout: &MessageLayout, bits: &Bits) -> Option<Contents>
     requires lawful { is_lawful (shape layout.now) ≡ true }
     requires room { count_in (shape layout.now).records (length bits.now) ≤ 128 }
@@ -38,7 +38,7 @@ pub fn read(layout: &MessageLayout, bits: &Bits) -> Option<Contents>
 }
 
 /// Returns the contents that the bits from a place on spell by a layout, with at most 128 records;
-/// `None` exactly if they spell none.
+/// `None` exactly if they spell no contents.
 #[inline(always)]
 pub fn read_from(layout: &MessageLayout, bits: &BitSlice<'_>, from: u16) -> Option<Contents>
     requires lawful { is_lawful (shape layout.now) ≡ true }
@@ -53,7 +53,7 @@ pub fn read_from(layout: &MessageLayout, bits: &BitSlice<'_>, from: u16) -> Opti
     read_parts(layout, bits, from)
 }
 
-/// The message type, 8 bits, and the place after it; `None` exactly if there are fewer.
+/// The message type, 8 bits, and the place after it; `None` exactly if there are fewer bits.
 pub fn read_kind(bits: &BitSlice<'_>) -> Option<(u8, u16)>
     ensures kind { following bits.now result ≡ number_part 8 bits.now }
     ensures within { IfSome result (λ x. x.1 ≤ length bits.now) }
@@ -87,7 +87,7 @@ fn read_parts(layout: &MessageLayout, bits: &BitSlice<'_>, from: u16) -> Option<
     })
 }
 
-/// Whether no more bits are left than may be.
+/// Whether at most `most` bits are left; true if there is no bound.
 fn is_rest_of(most: Option<u16>, bits: &BitSlice<'_>, from: u16) -> bool
     requires { from ≤ length bits.now }
     ensures { result ≡ is_rest most (drop from bits.now) }
@@ -98,7 +98,7 @@ fn is_rest_of(most: Option<u16>, bits: &BitSlice<'_>, from: u16) -> bool
     }
 }
 
-/// The bits that are left.
+/// The remaining bits.
 fn rest_of(bits: &BitSlice<'_>, from: u16) -> Bits
     requires { from ≤ length bits.now }
     ensures { result ≡ drop from bits.now }
@@ -106,8 +106,8 @@ fn rest_of(bits: &BitSlice<'_>, from: u16) -> Bits
     bits.part(from, bits.len() - from)
 }
 
-/// The values of fields of a table from a place on, at most 48, and the place after them; `None`
-/// exactly if there are fewer bits.
+/// The values of the fields of a table, at most 48, from place `from` on, and the place after them;
+/// `None` exactly if there are too few bits.
 #[inline(always)]
 pub fn read_fields(rows: &[FieldRow], bits: &BitSlice<'_>, from: u16) -> Option<(FieldValues, u16)>
     requires widths { AreWidths (map (λ row. row.1) rows.now) }
@@ -127,7 +127,7 @@ pub fn read_fields(rows: &[FieldRow], bits: &BitSlice<'_>, from: u16) -> Option<
     Some((values, place))
 }
 
-/// Reads the values of a group, if it is there.
+/// Reads the values of a group, if it is present.
 #[tactic(auto, unfolding(crate::specs::Reading::group_at))]
 #[inline(always)]
 fn read_group(group: &Group, bits: &BitSlice<'_>, from: u16) -> Option<(Option<FieldValues>, u16)>
@@ -146,7 +146,7 @@ fn read_group(group: &Group, bits: &BitSlice<'_>, from: u16) -> Option<(Option<F
     Some((Some(values), from))
 }
 
-/// Whether a group is there.
+/// Reads whether a group is present.
 #[tactic(auto, unfolding(crate::specs::Reading::presence_at))]
 fn read_presence(presence: Presence, bits: &BitSlice<'_>, from: u16) -> Option<(bool, u16)>
     requires { from ≤ length bits.now }
@@ -163,7 +163,7 @@ fn read_presence(presence: Presence, bits: &BitSlice<'_>, from: u16) -> Option<(
     }
 }
 
-/// The octets that are counted.
+/// Reads the zero bits, the count of octets and the octets.
 #[tactic(auto, unfolding(crate::specs::Reading::octets_at))]
 #[inline(always)]
 fn read_octets(octets: Octets, bits: &BitSlice<'_>, from: u16) -> Option<(Bits, u16)>
@@ -198,7 +198,7 @@ fn read_number(width: u8, bits: &BitSlice<'_>, from: u16) -> Option<(u64, u16)>
     Some((number_from(bits, from, width), from + u16::from(width)))
 }
 
-/// The number that `width` bits from a place on spell.
+/// The number that the `width` bits from place `from` on spell.
 fn number_from(bits: &BitSlice<'_>, from: u16, width: u8) -> u64
     requires width { width ≤ 64 }
     requires within { from + width ≤ length bits.now }
@@ -228,7 +228,7 @@ fn read_part(count: u64, bits: &BitSlice<'_>, from: u16) -> Option<(Bits, u16)>
     Some((bits.part(from, count), from + count))
 }
 
-/// The numbers of as many records as fit, column by column.
+/// Reads the numbers of as many records as fit, column by column.
 #[tactic(auto, unfolding(crate::specs::Reading::records_at))]
 #[inline(always)]
 fn read_records(records: &Records, bits: &BitSlice<'_>, from: u16) -> Option<([Numbers; 3], u16)>
@@ -266,7 +266,7 @@ fn records_within(fields: &[FieldRow], count: u16) -> u16
     if size == 0 { 0 } else { count / size }
 }
 
-/// Returns how many bits fields have.
+/// Returns the number of bits of these fields.
 pub(crate) fn size_of(fields: &[FieldRow]) -> u16
     requires widths { AreWidths (map (λ row. row.1) fields.now) }
     requires few { length fields.now ≤ 3 }
@@ -280,8 +280,8 @@ pub(crate) fn size_of(fields: &[FieldRow]) -> u16
     size
 }
 
-/// Reads the numbers of field `j` of the first `count` records from bit `from` on; none past the
-/// last field.
+/// Reads the numbers of field `j` of the first `count` records from bit `from` on; no numbers past
+/// the last field.
 fn read_column(fields: &[FieldRow], j: usize, count: u8, bits: &BitSlice<'_>, from: u16) -> Numbers
     requires widths { AreWidths (map (λ row. row.1) fields.now) }
     requires narrow { AreNarrow (map (λ row. row.1) fields.now) }

@@ -1,6 +1,6 @@
 //! Tables of fields that a struct holds under the same names.
 //!
-//! A message lists its fields once, in a macro of its own that hands the list to one of these: for
+//! A message lists its fields once, in a macro of its own that passes the list to one of these: for
 //! each field, its place in the table, counted from 0, its name, and its number of bits.
 
 /// The table: for each field, its name and its number of bits.
@@ -19,7 +19,7 @@ macro_rules! values_of_fields {
     };
 }
 
-/// Makes the struct whose fields have these values, with further fields given next to them.
+/// Makes the struct whose fields have these values; the other fields take variables of their names.
 #[macro_export]
 macro_rules! fields_of_values {
     ([$type:ident, $values:expr, $($other:ident),*]

@@ -1,4 +1,4 @@
-//! Bits that lie together in a list, which aren't copied.
+//! Consecutive bits of a list, read without copying them.
 
 ghost use Rattle.std.specs.Prelude.{◌≡◌, ◌<◌, ◌≤◌, ◌+◌, length, take, drop, slice_get, Some};
 
@@ -42,7 +42,7 @@ impl<'a> BitSlice<'a> {
         BitSlice::of(bits, 0, bits.len())
     }
 
-    /// Returns how many bits there are.
+    /// Returns the number of bits.
     pub fn len(&self) -> u16
         ensures value { result ≡ length self.now }
         ensures most { result ≤ 1184 }

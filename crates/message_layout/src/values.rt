@@ -1,4 +1,4 @@
-//! The values of fields, in a fixed room.
+//! The values of fields, in a buffer of fixed size.
 
 ghost use Rattle.std.specs.Prelude.{◌≡◌, ◌↔◌, ◌<◌, ◌≤◌, ◌^◌, [], ◌∷◌, ◌++◌, length, get_or, map};
 ghost use Rattle.std.specs.Prelude.{IsTrue};
@@ -25,7 +25,7 @@ impl Model for FieldValues {
 }
 
 impl FieldValues {
-    /// No values.
+    /// The empty list of values.
     pub fn empty() -> FieldValues
         ensures { result ≡ [] }
     {
@@ -47,7 +47,7 @@ impl FieldValues {
         all
     }
 
-    /// Returns how many values there are.
+    /// Returns the number of values.
     pub fn len(&self) -> u8
         ensures value { result ≡ length self.now }
         ensures most { result ≤ 48 }
@@ -62,7 +62,7 @@ impl FieldValues {
         &self.places[..self.count as usize]
     }
 
-    /// Value `i`, counted from 0; 0 if there are fewer.
+    /// Value `i`, counted from 0; 0 if there are fewer values.
     pub fn get(&self, i: u8) -> u64
         ensures { result ≡ get_or self.now i 0 }
     {
@@ -88,7 +88,7 @@ impl FieldValues {
         true
     }
 
-    /// Adds a value at the end, if there is room.
+    /// Adds a value at the end; there must be room.
     pub(crate) fn append(&mut self, value: u64)
         requires { length self.old < 48 }
         ensures { self.new ≡ self.old ++ value ∷ [] }
@@ -98,7 +98,7 @@ impl FieldValues {
     }
 }
 
-/// Returns whether a value fits `width` bits.
+/// Whether `value` fits into `width` bits.
 fn has_width(value: u64, width: u8) -> bool
     requires { (1 ≤ width) × (width ≤ 64) }
     ensures { IsTrue result ↔ (value < 2 ^ width) }

@@ -1,4 +1,4 @@
-//! Contents of a layout added to a body.
+//! Appending the contents of a layout to a body.
 
 ghost use Rattle.message_layout.specs.Common.{in_widths, spelled, AreWidths, FieldsFit};
 ghost use Rattle.std.specs.Prelude.{◌≡◌, ◌≤◌, ◌<◌, ◌+◌, ◌/◌, ◌^◌, ◌++◌, true, length, map, IfSome};
@@ -13,8 +13,7 @@ use crate::layout::{FieldRow, Group, MessageLayout, Octets, Presence, width_in};
 use crate::values::FieldValues;
 use chip_core::{Bits, Numbers};
 
-/// Adds the bits that contents of a layout are sent as to the end of a body, if it is known to have
-/// room.
+/// Appends the spelling of a layout's contents to a body that is known to have room.
 pub fn append(layout: &MessageLayout, contents: &Contents, body: &mut Bits)
     requires lawful { is_lawful (shape layout.now) ≡ true }
     requires contents { IsOf (shape layout.now) contents.now }
@@ -43,7 +42,7 @@ fn append_values(body: &mut Bits, rows: &[FieldRow], values: &FieldValues)
     }
 }
 
-/// Adds a group at the end, and the bit before it if there is one.
+/// Appends a group, with the bit before it if the layout has one.
 fn append_group(body: &mut Bits, group: &Group, values: &Option<FieldValues>)
     requires widths { AreWidths (map (λ row. row.1) group.now.fields.now) }
     requires few { length group.now.fields.now ≤ 48 }
@@ -66,7 +65,7 @@ fn append_group(body: &mut Bits, group: &Group, values: &Option<FieldValues>)
     }
 }
 
-/// Adds the bits that are 0, the count of octets and the octets at the end.
+/// Appends the zero bits, the count of octets and the octets.
 fn append_octets(body: &mut Bits, layout: Octets, octets: &Bits)
     requires zeros { layout.zeros ≤ 64 }
     requires width { layout.width ≤ 8 }

@@ -1,9 +1,9 @@
-//! Tests of messages by what their crates make public, of what no clause says: the names of fields,
-//! and that a message of its own is read and written with only a layout. What a message's bits are,
-//! clauses and worked values say. `tools/bench` times what reads and writes a message of each kind
-//! many times.
+//! Tests of messages through the public items of their crates, for what no clause specifies: the
+//! names of fields, and that a new kind of message is read and written with only a layout. Clauses
+//! and worked values specify the bits of messages. `tools/bench` times the tests that read and
+//! write a message of each kind many times.
 //!
-//! They stand apart from the crates, so that each of those is proved once.
+//! They have a crate of their own, so that each of the other crates is proved once.
 #![tactic(auto)]
 
 #[cfg(test)]

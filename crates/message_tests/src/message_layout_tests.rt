@@ -1,4 +1,4 @@
-//! Layouts: a message of its own with each kind of part, read and written with only its table.
+//! Layouts: a new kind of message with each kind of part, read and written with only its table.
 
 ghost use Rattle.std.specs.Prelude.{◌≡◌, ◌<◌, IfSome};
 
@@ -6,8 +6,8 @@ use chip_core::{BitWriter, Bits, Full};
 use message_layout::{Contents, Group, MessageLayout, Octets, Presence, Records, append, read};
 use std::test::Fail;
 
-/// Two fields, two more after a bit, octets after two bits that are 0 and their count, records of
-/// three fields, and at most 7 bits.
+/// Two fields, two more after a flag bit, octets after two bits that are 0 and their count, records
+/// of three fields, and at most 7 bits.
 const ALL_PARTS: MessageLayout = MessageLayout {
     name: "all",
     fixed: &[("first", 5), ("second", 42)],
@@ -24,7 +24,7 @@ const ALL_PARTS: MessageLayout = MessageLayout {
     most: Some(7),
 };
 
-/// The fields of a body of that layout, with `records` records and `rest` bits that are 1.
+/// Makes a body of that layout, with `records` records and `rest` bits that are 1.
 fn body_with(zeros: u64, records: u8, rest: u8) -> Result<Bits, Full>
     requires { zeros < 4 }
 {
@@ -48,14 +48,14 @@ fn body_with(zeros: u64, records: u8, rest: u8) -> Result<Bits, Full>
     Ok(writer.done())
 }
 
-/// What a body says.
+/// Returns the contents of a body.
 #[tactic(auto, unfolding(message_layout::specs::Shapes::is_lawful))]
 fn told(body: &Bits) -> Option<Contents> {
     let _most = body.len();
     read(&ALL_PARTS, body)
 }
 
-/// A body of the layout, written as it was read.
+/// Reads a body of the layout and writes its contents again.
 #[tactic(auto, unfolding(message_layout::specs::Shapes::is_lawful))]
 fn written_again(body: &Bits) -> Option<Bits>
     ensures { IfSome result (λ again. again ≡ body.now) }

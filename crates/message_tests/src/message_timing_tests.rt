@@ -7,10 +7,10 @@ use std::test::Fail;
 use sync_message::{SyncFields, SyncMessage};
 use traffic_message::TrafficMessage;
 
-/// How many times each test reads or writes its message.
+/// The number of times that each test reads or writes its message.
 const TURNS: u32 = 10_000;
 
-/// In how many turns this is true, where a turn's number has this name.
+/// Counts the turns in which the expression is true; in it, `$turn` is the number of the turn.
 macro_rules! turns_with {
     ($turn:ident, $is_done:expr) => {{
         let mut done: u32 = 0;
@@ -32,8 +32,8 @@ macro_rules! is_read_as {
     };
 }
 
-/// In how many turns a message is read. Two capsules are read in turns, and what was read is
-/// compared, so that the compiler puts no reading before the loop and leaves none out.
+/// Counts the turns in which a message is read. Two capsules are read alternately, and the results
+/// are compared, so that the compiler moves no reading out of the loop and removes none.
 macro_rules! turns_reading {
     ($type:ident, $made:expr) => {{
         let message = $made;
@@ -115,7 +115,7 @@ fn write_traffic(rt: &impl Abort, kind: u8) {
     assert_eq!(rt; written, TURNS);
 }
 
-// `tools/bench` takes the time of this test off those of the others.
+// `tools/bench` subtracts the time of this test from those of the others.
 #[test]
 fn a_message_is_written(rt: HostRuntime) {
     assert_eq!(rt; sync_message(&rt).encode(CheckForm::Plain).len(), 208);

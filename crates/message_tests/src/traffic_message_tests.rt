@@ -1,4 +1,4 @@
-//! The names of fields as the standard has them, which no clause says.
+//! The names of fields as in the standard, which no clause specifies.
 
 use traffic_message::{
     HEAD_FIELDS, IN_TRAFFIC_FIELDS, SEARCH_FIELDS, TIME_FIELDS, head_name, in_traffic_name,

@@ -10,12 +10,12 @@ use Rattle.mobile_core.specs.TrafficReceiving.{HearsTraffic, traffic_left_of}
 use Rattle.mobile_core.specs.declared.paging_receiver.PagingReceiver.{PagingReceiver}
 use Rattle.mobile_core.specs.declared.soft_handoff.SoftHandoff.{SoftHandoff}
 
--- What is told by n samples leaves the mark, or sets one that lies after them.
+-- The events up to n samples leave the mark as it was, or set one that lies after these samples.
 abbrev pub SetsMark : ℕ → Option Mark → Option Mark → Type 0
 SetsMark n before after = (after ≡ before) ⊎ ((before ≡ None) × ForSome after (λ m. n < m.sample))
 
 -- THE PAGING CHANNEL
--- whether it is heard after a mark that may be set: its PRAT has to stand for a rate
+-- whether the channel is received: a mark is set, and its PRAT is not reserved
 abbrev pub is_paged : Option Mark → Bool
 is_paged None = false
 is_paged (Some m) = nat_lt m.prat 2
@@ -31,7 +31,7 @@ pub record FollowsPages (t : Tuning) (mark : Option Mark) (r : PagingReceiver)
   pub rate : nat_lt set.prat 2 ≡ true
   pub hears : HearsPaging t t.paging set r heard
 
--- the messages of these samples' end that it has still to give, and their events
+-- the messages at the end of these samples that it has not returned yet, and their events
 abbrev pub pages_left_after : Tuning → Option Mark → List Sample → PagingReceiver → List SpelledPage
 pages_left_after t None samples r = []
 pages_left_after t (Some m) samples r =
@@ -40,7 +40,7 @@ pages_left_after t (Some m) samples r =
 abbrev pub paging_left : Tuning → Option Mark → List Sample → PagingReceiver → List Event
 paging_left t mark samples r = map (page_event (length samples)) (pages_left_after t mark samples r)
 
--- how many bits of the frames that have come haven't been heard, where each frame counts as 192
+-- the number of bits that have come but are not decoded yet, counting 192 for each frame
 abbrev pub paging_due : PagingReceiver → ℕ
 paging_due r = 192 * r.received.clock.have - bits_heard r
 
@@ -50,13 +50,13 @@ pub record IsSoundAssignment (traffic : Traffic) : Type 0 where
   pub row : traffic.row < 64
   pub offset : traffic.offset ≤ 15
 
--- none is heard where none is assigned, or no mark is set
+-- no traffic channel is received: none is assigned, or no mark is set
 abbrev pub IsUnheard : Option Traffic → Option Mark → Type 0
 IsUnheard None mark = Unit {0}
 IsUnheard (Some traffic) mark = mark ≡ None
 
--- A receiver that follows the channel that is assigned from the mark on; the events `pages` of the
--- paging channel haven't been heard.
+-- A receiver that follows the assigned channel from the mark on. Its pilot sets have not noted the
+-- events `pages` of the paging channel yet.
 pub record FollowsTraffic (t : Tuning) (assigned : Option Traffic) (mark : Option Mark)
     (r : SoftHandoff) (heard : List Sample) (pages : List Event) : Type 0 where
   pub traffic : Traffic
@@ -65,7 +65,7 @@ pub record FollowsTraffic (t : Tuning) (assigned : Option Traffic) (mark : Optio
   pub set_is : mark ≡ Some set
   pub hears : HearsTraffic t traffic set r heard pages
 
--- the events of these samples' end that it has still to give
+-- the events at the end of these samples that it has not returned yet
 abbrev pub traffic_left : Tuning → Option Traffic → Option Mark → List Sample → SoftHandoff →
     List Event
 traffic_left t assigned mark samples r =

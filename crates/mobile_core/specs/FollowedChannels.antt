@@ -12,8 +12,7 @@ use Rattle.mobile_core.specs.declared.followed.Followed.{Followed}
 use Rattle.mobile_core.specs.declared.paging_receiver.PagingReceiver.{PagingReceiver}
 use Rattle.mobile_core.specs.declared.soft_handoff.SoftHandoff.{SoftHandoff}
 
--- what each receiver stands for; there is none where the channel isn't heard, nor a traffic
--- channel's where none is assigned
+-- the state of each receiver; there is no receiver if its channel is not received or not assigned
 abbrev pub HearsPages : Tuning → Option Mark → Option PagingReceiver → List Sample → Type 0
 HearsPages t mark receiver heard =
     MatchOption receiver (IsUnpaged mark) (λ r. FollowsPages t mark r heard)
@@ -24,7 +23,7 @@ HearsFrames t assigned mark receiver heard pages =
     MatchOption receiver (IsUnheard assigned mark)
     (λ r. FollowsTraffic t assigned mark r heard pages)
 
--- the events of these samples' end that each has still to give
+-- the events at the end of these samples that each receiver has not returned yet
 abbrev pub paging_events_left : Tuning → Option Mark → List Sample → Option PagingReceiver →
     List Event
 paging_events_left t mark samples receiver = option_map_or (paging_left t mark samples) receiver []
@@ -34,7 +33,7 @@ abbrev pub traffic_events_left : Tuning → Option Traffic → Option Mark → L
 traffic_events_left t assigned mark samples receiver =
     option_map_or (traffic_left t assigned mark samples) receiver []
 
--- they have taken these samples, in which the sync channel's messages set this mark, or none
+-- receivers that have taken these samples, in which sync messages set this mark, or none
 pub record HearsFollowed (t : Tuning) (f : Followed) (mark : Option Mark)
     (heard : List Sample) : Type 0 where
   pub channel_is : f.channel ≡ t.paging
@@ -46,23 +45,23 @@ pub record HearsFollowed (t : Tuning) (f : Followed) (mark : Option Mark)
   pub traffic :
       HearsFrames t t.traffic mark f.traffic heard (paging_events_left t mark heard f.paging)
 
--- the events of these samples' end that are still to be given: those of the paging channel first
+-- the events at the end of these samples that are not returned yet, first the paging channel's
 abbrev pub followed_events_left : Tuning → Option Mark → List Sample → Followed → List Event
 followed_events_left t mark samples f =
     paging_events_left t mark samples f.paging
     ++ traffic_events_left t t.traffic mark samples f.traffic
 
--- whether a frame of one of them is known that hasn't been heard whole, or a moment has come
+-- whether a known frame of one of the channels is not decoded completely, or a moment has come
 abbrev pub IsFollowedDue : ℕ → Followed → Type 0
 IsFollowedDue count f =
     IsSomeAnd f.paging (λ r. IsDueAt count r.received.clock) ⊎ IsSomeAnd f.traffic IsTrafficDue
 
--- how much has been heard: bits of the paging channel, frames of the traffic channel and what they
--- complete, and moments
+-- how much has been decoded: bits of the paging channel, frames of the traffic channel, the
+-- messages that they complete, and moments
 abbrev pub followed_heard : Followed → ℕ
 followed_heard f = option_map_or bits_heard f.paging 0 + option_map_or traffic_heard f.traffic 0
 
--- how much has come that hasn't been heard
+-- how much has come that is not decoded yet
 abbrev pub followed_due : Followed → ℕ
 followed_due f = option_map_or paging_due f.paging 0 + option_map_or traffic_due f.traffic 0
 
@@ -76,8 +75,8 @@ pub record EndFrom (n : ℕ) (f : Followed) : Type 0 where
   pub paging : ForSome f.paging (λ r. n ≤ r.received.clock.end)
   pub traffic : ForSome f.traffic (λ r. n ≤ next_end r)
 
--- one of the paging channels, a traffic channel that may be assigned, and the shape of paths that a
--- search gives
+-- a valid paging channel, an assignable traffic channel, and paths of the shape that a search
+-- returns
 pub record IsSoundFollowed (f : Followed) : Type 0 where
   pub first_channel : 1 ≤ f.channel
   pub last_channel : f.channel ≤ 7

@@ -12,13 +12,13 @@ use Rattle.heard_events.specs.Streams.{frame_own_bits}
 use Rattle.mobile_core.specs.declared.paging_receiver.PagingReceiver.{PagingReceiver}
 use Rattle.paging_message.specs.HalfFrames as half_frames
 
--- the bits of the next frame, some of which the framer took, are those of a frame that is due
+-- the next frame is due, and `frame` holds its bits, of which the framer has taken some
 pub record IsUnderWay (t : Tuning) (channel : ℕ) (m : Mark) (r : PagingReceiver)
     (heard : List Sample) : Type 0 where
   pub due : IsDueAt t.count r.received.clock
   pub own : r.frame ≡ frame_own_bits t.count heard (paging_stream t channel m) r.received.clock.next
 
--- what no step changes is that of the channel after the mark
+-- the parts that no step changes are those of the channel after the mark
 pub record IsOfChannel (channel : ℕ) (m : Mark) (scrambling : Scrambling) (rate : Rate)
     (size : ℕ) : Type 0 where
   pub state_is : scrambling.state ≡ m.state
@@ -26,8 +26,8 @@ pub record IsOfChannel (channel : ℕ) (m : Mark) (scrambling : Scrambling) (rat
   pub rate_is : rate ≡ paging_rate m.prat
   pub size_is : size ≡ half_frames.half_frame_body (paging_rate m.prat)
 
--- It has taken these samples, and its framer has taken the bits of the frames before the next one,
--- and the first bits of that one, as many as its place says.
+-- The receiver has taken these samples. Its framer has taken the bits of the frames before the next
+-- one, and the first `place` bits of that one.
 pub record HearsPaging (t : Tuning) (channel : ℕ) (m : Mark) (r : PagingReceiver)
     (heard : List Sample) : Type 0 where
   pub receives : Receives t.count (paging_stream t channel m) r.received heard
@@ -38,7 +38,7 @@ pub record HearsPaging (t : Tuning) (channel : ℕ) (m : Mark) (r : PagingReceiv
       ++ take r.place
       (frame_own_bits t.count heard (paging_stream t channel m) r.received.clock.next))
 
--- It has heard one bit of the frame that was due, and gives the message that the bit completes.
+-- The receiver has decoded one bit of the due frame, and returns the message that it completes.
 pub record HearsBit (t : Tuning) (channel : ℕ) (m : Mark) (heard : List Sample)
     (before after : PagingReceiver) (page : Option SpelledPage) : Type 0 where
   pub hears : HearsPaging t channel m after heard
@@ -46,7 +46,7 @@ pub record HearsBit (t : Tuning) (channel : ℕ) (m : Mark) (heard : List Sample
       ++ pages_left t channel m heard after.received.clock.next after.place
       ≡ pages_left t channel m heard before.received.clock.next before.place
 
--- one bit of the next frame has been heard; after its last one the frame has been heard
+-- the receiver after another bit of the next frame; the last bit completes the frame
 abbrev pub bit_passed : PagingReceiver → PagingReceiver
 bit_passed r =
     if nat_lt (r.place + 1) (length r.frame) then record r { place = r.place + 1 }
@@ -55,11 +55,11 @@ bit_passed r =
       place = 0;
     }
 
--- how many bits have been heard, where each frame counts as 192
+-- the number of bits that have been decoded, counting 192 for each frame
 abbrev pub bits_heard : PagingReceiver → ℕ
 bits_heard r = 192 * r.received.clock.next + r.place
 
--- frames of a paging channel; where one is under way, bits of it are left
+-- frames of a paging channel; if one is under way, some of its bits are left
 pub record IsSoundPaging (r : PagingReceiver) : Type 0 where
   pub channel : IsSoundChannel r.received
   pub form_is : r.received.clock.form ≡ Data

@@ -6,7 +6,7 @@ use Rattle.mobile_core.specs.SyncReceiving.{IsSoundSync}
 use Rattle.mobile_core.specs.declared.followed.Followed.{Followed}
 use Rattle.mobile_core.specs.declared.sync_receiver.SyncReceiver.{SyncReceiver}
 
--- the ring holds two frames, the decoder takes three, and no frame that has ended waits
+-- the ring holds two frames, the decoder takes three, and every frame that has ended has been taken
 pub record IsSound (count : ℕ) (ring : Held) (decoder : ℕ) (sync : SyncReceiver)
     (followed : Followed) : Type 0 where
   pub few : count ≤ 67108864

@@ -18,8 +18,8 @@ use Rattle.mobile_core.specs.declared.mobile.Step.{Step}
 use Rattle.mobile_core.specs.declared.followed.Followed.{Followed}
 use Rattle.mobile_core.specs.declared.sync_receiver.SyncReceiver.{SyncReceiver}
 
--- the events of these samples' end that are still to be given, of a handset whose pilot and
--- receivers these are
+-- the events at the end of these samples that a handset with this pilot and these receivers has not
+-- returned yet
 abbrev pub left_of : Tuning → Option Best → SyncReceiver → Followed → List Sample → List Event
 left_of t pilot sync followed heard =
     pilot_left pilot
@@ -29,8 +29,8 @@ left_of t pilot sync followed heard =
 abbrev pub events_left : Tuning → Mobile → List Sample → List Event
 events_left t m heard = left_of t m.pilot m.sync m.followed heard
 
--- A handset that carries these has taken these samples of a file, and given these events: the
--- pilot's before it took any sample, and it carries the pilot until then.
+-- A handset with these parts has taken these samples of a file and returned these events. It
+-- returns the pilot's event before it takes any sample, and keeps the pilot until then.
 pub record Stands (t : Tuning) (count : ℕ) (check : CheckForm) (pilot : Option Best) (kept : Held)
     (receiver : SyncReceiver) (others : Followed) (heard : List Sample)
     (given : List Event) : Type 0 where
@@ -46,7 +46,7 @@ pub record Stands (t : Tuning) (count : ℕ) (check : CheckForm) (pilot : Option
 abbrev pub StandsFor : Tuning → Mobile → List Sample → List Event → Type 0
 StandsFor t m heard given = Stands t m.count m.check m.pilot m.ring m.sync m.followed heard given
 
--- whether the pilot hasn't been told, or a frame is known that hasn't been heard
+-- whether the pilot's event is not returned yet, or something that has come is not decoded yet
 abbrev pub IsDueIn : ℕ → Option Best → SyncReceiver → Followed → Type 0
 IsDueIn count pilot sync followed =
     IsTrue (is_some pilot) ⊎ (IsDueAt count sync.received.clock ⊎ IsFollowedDue count followed)
@@ -54,38 +54,38 @@ IsDueIn count pilot sync followed =
 abbrev pub IsDueFor : Mobile → Type 0
 IsDueFor m = IsDueIn m.count m.pilot m.sync m.followed
 
--- whether the pilot hasn't been told, how many frames of the sync channel have come that haven't
--- been heard, and how much of the channels after the mark
+-- how much is due: the pilot's event, the frames of the sync channel that have come but are not
+-- decoded yet, and what is due in the channels after the mark
 abbrev pub due_parts : Mobile → ℕ
 due_parts mobile =
     length (pilot_left mobile.pilot)
     + ((mobile.sync.received.clock.have - mobile.sync.received.clock.next)
     + followed_due mobile.followed)
 
--- how many samples of the file are left
+-- the number of samples of the file that are left
 abbrev pub has_room : Mobile → ℕ
 has_room mobile = mobile.count - mobile.ring.taken
 
--- whether the pilot has been told, and how much has been heard
+-- how much has been decoded, counting 1 for the pilot's event
 abbrev pub heard_of : Mobile → ℕ
 heard_of mobile =
     (1 - length (pilot_left mobile.pilot))
     + (mobile.sync.received.clock.next + followed_heard mobile.followed)
 
--- a bound on the events that are still to be given
+-- a bound on the number of events that are not returned yet
 abbrev pub steps_left : Mobile → ℕ
 steps_left mobile = 2 ^ 63 - heard_of mobile
 
--- how many samples have been taken
+-- the number of samples that have been taken
 abbrev pub samples_taken : Mobile → ℕ
 samples_taken mobile = mobile.ring.taken
 
--- of how many samples the last are kept
+-- the number of most recent samples that are kept
 abbrev pub ring_room : Mobile → ℕ
 ring_room mobile = mobile.ring.room
 
--- From one state to another a handset took the first of these samples, as many as the step says,
--- and gave the event that it says, which ends at the last of them.
+-- Between these two states the handset took the first `taken` of these samples and returned the
+-- step's event, if any, which ends at the last sample taken.
 pub record Steps (before after : Mobile) (samples : List Sample) (step : Step) : Type 0 where
   pub most : step.taken ≤ length samples
   pub room : has_room after + step.taken ≡ has_room before
@@ -97,7 +97,7 @@ pub record Steps (before after : Mobile) (samples : List Sample) (step : Step) :
       StandsFor t before heard given →
       StandsFor t after (heard ++ take step.taken samples) (given ++ event_list step.event)
 
--- It took no sample, and gave this event, or none.
+-- The handset took no sample, and returned this event, or none.
 pub record Tells (before after : Mobile) (event : Option Event) : Type 0 where
   pub room : has_room after ≡ has_room before
   pub more : heard_of before + length (event_list event) ≤ heard_of after
@@ -106,7 +106,7 @@ pub record Tells (before after : Mobile) (event : Option Event) : Type 0 where
       IfSome event (λ event. at_of event ≡ length heard)
       × StandsFor t after heard (given ++ event_list event)
 
--- Where it gave none, it took all, and nothing that ends within them is left to give.
+-- If it returned none, it took all samples, and has returned every event that ends within them.
 pub record IsStep (before after : Mobile) (samples : List Sample) (step : Step) : Type 0 where
   pub steps : Steps before after samples step
   pub none : step.event ≡ None → (step.taken ≡ length samples)

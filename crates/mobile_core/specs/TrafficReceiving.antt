@@ -32,13 +32,13 @@ use Rattle.heard_events.specs.Close as closes
 abbrev pub beside : SetsKeeper → TrafficReceiver → SoftHandoff
 beside sets receiver = record { receiver = receiver; sets = sets }
 
--- at the mark they are new, and nothing has passed
+-- the sets at the mark: they are new, and no moment has passed
 abbrev pub first_keeper : Mark → ℕ → SetsKeeper
 first_keeper m row = record { sets = new_standing m.pilot row; mark = m; passed = 0; due = false }
 
 -- THE EVENTS THAT ARE LEFT
--- The events that a receiver has not returned yet, from what is kept after each moment: the message
--- that it keeps comes first.
+-- The events that a receiver has not returned yet, given the sets kept after each moment. The
+-- message that the receiver keeps comes first.
 abbrev pub told_left_with : Tuning → Traffic → Mark → List Sample → TrafficReceiver →
     (ℕ → Standing) → List Event
 told_left_with t traffic m samples r kept =
@@ -46,33 +46,31 @@ told_left_with t traffic m samples r kept =
     ++ (frames_left_of t traffic m (legs_by traffic m kept) samples r.frames.clock.next
     ++ messages_left_of t traffic m (legs_by traffic m kept) samples r.frames.clock.next)
 
--- what is kept after the moments that have passed
+-- the sets kept after the moments that have passed
 abbrev pub kept_in : Tuning → Traffic → Mark → SoftHandoff → List Sample → (ℕ → Standing)
 kept_in t traffic m r heard = kept_to t traffic m heard r.sets.passed
 
--- all that is still to be told, the moment last
+-- all events that are not returned yet, that of the moment last
 abbrev pub traffic_left_of : Tuning → Traffic → Mark → List Sample → SoftHandoff → List Event
 traffic_left_of t traffic m samples r =
     told_left_with t traffic m samples r.receiver (kept_in t traffic m r samples)
     ++ sets_left_of t traffic m samples r.sets.passed
 
 -- WHAT THEY STAND FOR
--- the fingers of the pilots that the frame is heard from which comes next
+-- the fingers of the pilots from which the next frame is received
 abbrev pub receiver_fingers : TrafficReceiver → List Finger
 receiver_fingers r = all_fingers r.phase (take r.near.count r.near.deltas) r.legs
 
--- how many samples have been taken when that frame ends, or at the next moment, where that comes
--- first
+-- the number of samples taken when that frame ends, or at the next moment if that is earlier
 abbrev pub next_end : SoftHandoff → ℕ
 next_end r = min r.receiver.frames.clock.end (coming_place r.sets)
 
--- the next frame ends after `taken` samples, and so does the next moment; one that has come is at
--- `taken`
+-- the next frame and the next moment end after `taken` samples; a moment that is due is at `taken`
 pub record WaitsAt (taken : ℕ) (r : SoftHandoff) : Type 0 where
   pub before : taken < next_end r
   pub due : r.sets.due ≡ true → taken ≡ moment_place r.sets.mark (r.sets.passed + 1)
 
--- what of a receiver never changes is that of this channel after this mark
+-- the parts of a receiver that never change are those of this channel after this mark
 pub record IsTunedIn (t : Tuning) (traffic : Traffic) (m mark : Mark) (phase : ℕ) (near : Near)
     (turns : Scrambling) : Type 0 where
   pub mark_is : mark ≡ m
@@ -82,8 +80,8 @@ pub record IsTunedIn (t : Tuning) (traffic : Traffic) (m mark : Mark) (phase : �
   pub mask_is : turns.mask ≡ traffic_mask traffic.esn
   pub offset : traffic.offset ≤ 15
 
--- where `taken` samples of a file are among its moments: `passed` moments have passed, and if the
--- next is due, it is at `taken`
+-- the position of `taken` samples among the moments of a file: `passed` moments have passed, and if
+-- the next is due, it is at `taken`
 pub record IsAmongMoments (m : Mark) (count taken passed : ℕ) (due : Bool) : Type 0 where
   pub within : taken ≤ count
   pub begun : 0 < passed → moment_place m passed ≤ taken
@@ -97,8 +95,8 @@ pub record HasCome (t : Tuning) (traffic : Traffic) (m : Mark) (legs : ℕ → L
   pub softs_are : values ≡ raw_softs t traffic m legs heard k
   pub power_is : summed_subchannels power ≡ all_sums t traffic m legs heard k
 
--- The frame that comes next begins there. Where a frame has come it is the one that is heard next;
--- the framer has taken the signaling of the frames before that one.
+-- Frame `have`, the next to come, begins at `start`. If a frame has come that is not decoded yet,
+-- it is frame `next`. The framer has taken the signaling of the frames before frame `next`.
 pub record HasReceived (t : Tuning) (traffic : Traffic) (m : Mark) (legs : ℕ → List Leg)
     (heard : List Sample) (next have start : ℕ) (values : List ℤ) (power : PowerSofts)
     (framer : Option (List Bool)) : Type 0 where
@@ -107,10 +105,10 @@ pub record HasReceived (t : Tuning) (traffic : Traffic) (m : Mark) (legs : ℕ �
   pub come : next < have → HasCome t traffic m legs heard next values power
   pub framed : CapsuleStandsFor framer (signals_before t traffic m legs heard next)
 
--- It has taken these samples, in which the events `pages` of the paging channel haven't been heard;
--- `kept` is what is kept after the moments that have passed, and those before moment `until` have
--- told the pilots of the frame that comes next. The sets are those of the definition, but for what
--- is still to be told, and a moment passes where nothing is.
+-- The receiver has taken these samples; its sets have not noted the events `pages` of the paging
+-- channel. `kept` are the sets kept after each moment that has passed; if a moment before moment
+-- `until` determines the pilots of the next frame, they are set. Once the sets have noted every
+-- event that is left, they are those of the definition. A moment passes only if no event is left.
 pub record HearsUpTo (until : ℕ) (t : Tuning) (traffic : Traffic) (m : Mark) (r : SoftHandoff)
     (heard : List Sample) (pages : List Event) (kept : ℕ → Standing) : Type 0 where
   pub tuned : IsTunedIn t traffic m r.sets.mark r.receiver.phase r.receiver.near
@@ -130,7 +128,7 @@ pub record HearsUpTo (until : ℕ) (t : Tuning) (traffic : Traffic) (m : Mark) (
       ≡ heard_from t traffic m kept heard r.sets.passed
       (length heard - moment_place m r.sets.passed)
 
--- all moments that have passed have told them, or all but the last
+-- all moments that have passed have set the pilots, or all but the last
 abbrev pub HearsWith : Tuning → Traffic → Mark → SoftHandoff → List Sample → List Event →
     (ℕ → Standing) → Type 0
 HearsWith t traffic m r = HearsUpTo (r.sets.passed + 1) t traffic m r
@@ -143,7 +141,7 @@ abbrev pub HearsUntuned : Tuning → Traffic → Mark → SoftHandoff → List S
 HearsUntuned t traffic m r heard pages =
     HearsUpTo r.sets.passed t traffic m r heard pages (kept_in t traffic m r heard)
 
--- What was due first is given, and the rest is left; of this the sets haven't taken `pages` yet.
+-- What was due first is returned, and the rest is left. The sets have not noted `pages` yet.
 abbrev pub GivesFirst : Tuning → Traffic → Mark → List Sample → SoftHandoff → SoftHandoff →
     List Event → List Event → Type 0
 GivesFirst t traffic m heard before after given pages =
@@ -151,35 +149,35 @@ GivesFirst t traffic m heard before after given pages =
     × (given ++ traffic_left_of t traffic m heard after
     ≡ traffic_left_of t traffic m heard before)
 
--- whether a message is kept, or a frame has come that hasn't been heard
+-- whether a message is kept, or a frame has come that is not decoded yet
 abbrev pub HasToTell : TrafficReceiver → Type 0
 HasToTell r = IsTrue (is_some r.kept) ⊎ (r.frames.clock.next < r.frames.clock.have)
 
--- or a moment has come that hasn't passed
+-- whether the receiver has something to return, or a moment has come that has not passed
 abbrev pub IsTrafficDue : SoftHandoff → Type 0
 IsTrafficDue r = HasToTell r.receiver ⊎ IsTrue r.sets.due
 
--- how many messages are kept
+-- the number of messages that are kept
 abbrev pub messages_kept : Option SpelledSignal → ℕ
 messages_kept None = 0
 messages_kept (Some message) = 1
 
--- how much has been heard of the frames, where each counts as two, itself and what it completes;
--- and how much has come that hasn't been heard
+-- how much has been decoded, and how much has come that is not decoded yet; each frame counts as
+-- two, itself and the message that it completes
 abbrev pub told_heard : TrafficReceiver → ℕ
 told_heard r = 2 * r.frames.clock.next + 1 - messages_kept r.kept
 
 abbrev pub told_due : TrafficReceiver → ℕ
 told_due r = 2 * (r.frames.clock.have - r.frames.clock.next) + messages_kept r.kept
 
--- and with the moments
+-- the same, including the moments
 abbrev pub traffic_heard : SoftHandoff → ℕ
 traffic_heard r = told_heard r.receiver + r.sets.passed
 
 abbrev pub traffic_due : SoftHandoff → ℕ
 traffic_due r = told_due r.receiver + (if r.sets.due then 1 else 0)
 
--- the sets have taken what an event tells
+-- the sets after they have noted an event
 abbrev pub noted_by : Event → SoftHandoff → SoftHandoff
 noted_by event r =
     record r {
@@ -189,7 +187,7 @@ noted_by event r =
       };
     }
 
--- other pilots for the frame that comes next, with its end on their fingers
+-- the receiver with other pilots for the next frame, and that frame's end on their fingers
 abbrev pub tuned_to : List Leg → ℕ → List Finger → TrafficReceiver → TrafficReceiver
 tuned_to legs end fingers r =
     record r {
@@ -200,7 +198,7 @@ tuned_to legs end fingers r =
       legs = legs;
     }
 
--- the frame whose soft values these are has come
+-- the receiver after the frame with these soft values has come
 abbrev pub frame_taken : List ℤ → PowerSofts → TrafficReceiver → TrafficReceiver
 frame_taken softs power r =
     record r {
@@ -209,7 +207,7 @@ frame_taken softs power r =
       power = power;
     }
 
--- one to six pilots, which have room for their fingers
+-- one to six pilots, whose fingers fit into eight places
 pub record HasSoundLegs (legs : List Leg) : Type 0 where
   pub some : 1 ≤ length legs
   pub few : places_in legs ≤ 8
@@ -223,7 +221,7 @@ pub record IsSoundlySet (near : Near) : Type 0 where
   pub path_some : 1 ≤ length (take near.count near.deltas)
   pub paths : paths_close (take near.count near.deltas) ≡ true
 
--- fingers of these pilots, and soft values that a decoder takes
+-- the fingers are those of the pilots, and the soft values are small enough for a decoder
 pub record IsSoundTraffic (r : TrafficReceiver) : Type 0 where
   pub set : IsSoundlySet r.near
   pub frames : IsSoundReceiver r.frames
@@ -235,7 +233,7 @@ pub record IsSoundTraffic (r : TrafficReceiver) : Type 0 where
   pub small : sum_by unsigned_abs r.softs ≤ 3 * 2 ^ 60
   pub subchannels : r.power.count ≤ 6
 
--- and sets, from whose mark on the frames lie
+-- a sound receiver and sound sets; the frames begin at the mark of the sets or later
 pub record IsSoundHandoff (r : SoftHandoff) : Type 0 where
   pub receiver : IsSoundTraffic r.receiver
   pub keeper : IsSoundKeeper r.sets

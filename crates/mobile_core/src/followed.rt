@@ -16,13 +16,13 @@ use viterbi::Decoder;
 pub(crate) struct Followed {
     /// The number of the paging channel, 1 to 7.
     channel: u8,
-    /// The traffic channel that is assigned, if one is.
+    /// The assigned traffic channel, if any.
     assigned: Option<Traffic>,
     /// The phase of the base station's codes.
     phase: Phase,
     /// The paths near it.
     near: Near,
-    /// How the checks of the traffic channel's messages are sent.
+    /// The form of the checks of the traffic channel's messages.
     check: CheckForm,
     /// The paging channel's receiver, if a mark is set and its PRAT is not reserved.
     paging: Option<PagingReceiver>,
@@ -49,8 +49,8 @@ impl Followed {
     ghost use Rattle.heard_events.specs.declared.event.Event.{Event as TheEvent};
     ghost use Rattle.heard_events.specs.declared.mark.Mark.{Mark as TheMark};
 
-    /// The channels of these settings before a mark is set, for a base station at a phase and near
-    /// it.
+    /// Makes the channels of `settings` before a mark is set, given the phase of the base station
+    /// and the paths near it.
     pub(crate) fn new(settings: &Settings, phase: Phase, near: Near) -> Followed
         requires first_channel { 1 ≤ settings.now.paging }
         requires last_channel { settings.now.paging ≤ 7 }
@@ -112,7 +112,7 @@ impl Followed {
         taken < mark.sample && self.paging.is_none() && self.traffic.is_none()
     }
 
-    /// Updates the pilot sets of a traffic channel by an event of the paging channel.
+    /// Updates the pilot sets of a traffic channel with an event of the paging channel.
     fn note(traffic: &mut Option<SoftHandoff>, event: &Option<Event>)
         requires { ForSome traffic.old IsSoundHandoff }
         ensures sound { ForSome traffic.new IsSoundHandoff }
@@ -173,8 +173,8 @@ impl Receive for Followed {
         self.traffic.take_ended(ring, codes);
     }
 
-    /// Hears the paging channel first: a bit of it, or a frame of the traffic channel, its message,
-    /// or a moment. The check is that of the paging channel.
+    /// Takes one bit of the paging channel if a frame of it is due; otherwise a frame of the
+    /// traffic channel, its message, or a moment. `check` is for the paging channel.
     fn hear_next(
         &mut self,
         decoder: &mut Decoder,

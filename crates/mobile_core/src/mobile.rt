@@ -15,14 +15,14 @@ use short_code::Codes;
 use std::alloc::Global;
 use viterbi::Decoder;
 
-/// How many samples the ring holds: two frames, so that each finger's samples of a frame are there
-/// when the last of them has come.
+/// The number of samples that the ring holds: two frames, so that it still has each finger's
+/// samples of a frame when the last of them has come.
 const RING_ROOM: u32 = 65536;
 
-/// How many samples a step took, and its event.
+/// The number of samples that a step took, and its event.
 #[derive(Clone, Copy, PartialEq, Eq, Debug)]
 pub struct Step {
-    /// How many of the samples were taken.
+    /// The number of samples that were taken.
     pub taken: usize,
     /// The event that ends with the last sample taken; `None` if all samples were taken and no
     /// event is left.
@@ -32,7 +32,7 @@ pub struct Step {
 /// The state that a handset hands over to a receiver of the following samples.
 #[derive(Drop)]
 pub struct HeardRing {
-    /// How many samples the file has.
+    /// The number of samples in the file.
     pub count: u64,
     /// The last samples that were taken.
     pub ring: SampleRing,
@@ -40,20 +40,20 @@ pub struct HeardRing {
     pub codes: Codes,
 }
 
-/// A handset: it takes the samples of a file in pieces of any size and returns events: first the
-/// pilot that the search found, before it takes a sample, then each other event when its last
-/// sample has been taken.
+/// A handset: it takes the samples of a file in pieces of any size and returns events. The first is
+/// the pilot that the search found, before it takes a sample; each other event is returned when its
+/// last sample has been taken.
 ///
-/// It decodes each frame of the sync channel together with the frame before it and the frame after
-/// it, where these lie in the file, and so knows a frame one frame later (TIA/EIA-95-B, 7.7.1). If
-/// a message sets a mark it follows one paging channel from there on, in the same way (7.7.2), and
-/// a traffic channel where one is assigned, whose frames are known when they end (7.1.3.5), and
+/// It decodes each frame of the sync channel together with the frames before and after it, if they
+/// lie in the file, and so knows a frame one frame later (TIA/EIA-95-B, 7.7.1). If a message sets a
+/// mark, it follows one paging channel from there on, in the same way (7.7.2), and a traffic
+/// channel if one is assigned. Frames of the traffic channel are known when they end (7.1.3.5), and
 /// with them the messages that they complete (7.7.3).
 #[derive(Drop)]
 pub struct Mobile {
-    /// How many samples the file has.
+    /// The number of samples in the file.
     count: u64,
-    /// How the checks of 30 bits are sent.
+    /// The form of the 30-bit checks of messages.
     check: CheckForm,
     /// The pilot that the search found, until its event has been returned.
     pilot: Option<Best>,
@@ -126,8 +126,8 @@ impl Mobile {
         })
     }
 
-    /// Returns the form in which the checks of 30 bits are sent, by the settings that the handset
-    /// was made with.
+    /// Returns the form of the 30-bit checks of messages, from the settings that the handset was
+    /// made with.
     pub fn check30(&self) -> CheckForm
         ensures { (t : Tuning) (heard : List Sample) (given : List TheEvent) →
             StandsFor t self.now heard given → result ≡ t.check30 }
@@ -146,11 +146,11 @@ impl Mobile {
         self.sync.mark().is_some()
     }
 
-    /// The mark that a message of the sync channel set, the first with a long-code state that isn't
-    /// 0; `None` exactly if none is set.
+    /// Returns the mark that the first sync message with a nonzero long-code state set; `None`
+    /// exactly if no mark is set.
     ///
-    /// After the step that returns this message's event the mark lies ahead: no sample after it has
-    /// been taken.
+    /// After the step that returns this message's event, the mark lies ahead: no sample after it
+    /// has been taken.
     pub fn mark(&self) -> Option<Mark>
         ensures given { (t : Tuning) (heard : List Sample) (given : List TheEvent) →
             StandsFor t self.now heard given → is_some result ≡ list_any sets_mark given }
@@ -190,14 +190,14 @@ impl Mobile {
         HeardRing { count, ring, codes }
     }
 
-    /// Whether the pilot's event is not returned yet, or a complete frame is not decoded yet.
+    /// Whether the pilot's event is not returned, or something that has come is not decoded yet.
     fn is_due(&self) -> bool
         ensures { IsTrue result ↔ IsDueFor self.now }
     {
         self.pilot.is_some() || self.sync.is_due(self.count) || self.followed.is_due(self.count)
     }
 
-    /// Gives the pilot's event.
+    /// Returns the pilot's event.
     fn tell_pilot(&mut self) -> Option<Event>
         requires { IsTrue (is_some self.old.pilot) }
         ensures steps { Tells self.old self.new result }
@@ -209,7 +209,7 @@ impl Mobile {
 
     /// Decodes the due frame of the sync channel and returns the event that it completes. If that
     /// sets a mark, the other channels are followed from there on.
-    // Its frame holds several events, and is not to lie beneath that of another channel.
+    // Not inlined: its stack frame holds several events.
     #[inline(never)]
     fn hear_sync(&mut self) -> Option<Event>
         requires told { self.old.pilot ≡ None }
@@ -230,8 +230,8 @@ impl Mobile {
         event
     }
 
-    /// Decodes what is due of the channels after the mark and returns the event that it completes.
-    // Its frame holds several events, and is not to lie beneath that of another channel.
+    /// Decodes what is due in the channels after the mark and returns the event that it completes.
+    // Not inlined: its stack frame holds several events.
     #[inline(never)]
     fn hear_followed(&mut self) -> Option<Event>
         requires told { self.old.pilot ≡ None }
@@ -268,7 +268,7 @@ impl Mobile {
         self.hear_followed()
     }
 
-    /// Hears what is due, up to the first event.
+    /// Decodes what is due, up to the first event.
     fn hear_due(&mut self) -> Option<Event>
         ensures steps { (samples : List Sample) →
             Steps self.old self.new samples (record { taken = 0; event = result }) }
@@ -282,7 +282,7 @@ impl Mobile {
         None
     }
 
-    /// Returns how many samples have been taken when the next frame ends, of all receivers.
+    /// Returns the number of samples taken at the next moment or end of a frame of any receiver.
     fn least_end(&self) -> u64
         ensures sync { result ≤ self.now.sync.received.clock.end }
         ensures ends { (n : ℕ) → n ≤ result → EndFrom n self.now.followed }
@@ -291,7 +291,7 @@ impl Mobile {
         self.followed.end_before(self.sync.end())
     }
 
-    /// Takes samples up to the end of the next frame, or all.
+    /// Takes samples up to the end of the next frame or moment, or all; returns their number.
     fn advance(&mut self, samples: &[Sample]) -> usize
         requires some { 0 < length samples.now }
         requires room { length samples.now ≤ has_room self.old }
@@ -317,12 +317,12 @@ impl Mobile {
 
     /// Takes samples up to the end of the next event.
     ///
-    /// The first event is the pilot, for which no sample is taken, be there any or none.
+    /// The first event is the pilot, for which no sample is needed or taken.
     ///
     /// `samples` are the next ones of the file. If the step returns an event, it took exactly the
-    /// samples up to the event's end, and the caller passes the others again; an event may end
-    /// where the previous one ended, and then no sample is taken. If it returns none, all samples
-    /// were taken, and every event that ends within them has been returned.
+    /// samples up to the event's end, and the caller passes the others again. An event may end
+    /// where the previous one ended; then no sample is taken. If it returns none, all samples were
+    /// taken, and every event that ends within them has been returned.
     pub fn step(&mut self, samples: &[Sample]) -> Step
         requires { length samples.now ≤ has_room self.old }
         ensures { IsStep self.old self.new samples.now result }

@@ -24,7 +24,7 @@ pub(crate) struct PagingReceiver {
     framer: HalfFramer,
     /// The bits of the frame that is being decoded, if any.
     frame: Bits,
-    /// How many of them the framer has taken, 0 if none is under way.
+    /// The number of these bits that the framer has taken, 0 if no frame is under way.
     place: u16,
 }
 
@@ -79,7 +79,7 @@ impl PagingReceiver {
     /// Takes the next bit of the due frame and returns the message that it completes.
     ///
     /// A frame stays due up to its last bit, since several messages may end in one.
-    // Its frame holds several messages, and is not to lie beneath that of another channel.
+    // Not inlined: its stack frame holds several messages.
     #[inline(never)]
     fn hear_bit(
         &mut self,
@@ -125,7 +125,7 @@ impl PagingReceiver {
             .own_bits(decoder, FrameKind::Paging(self.rate))
     }
 
-    /// Goes on after a bit of the next frame.
+    /// Advances to the next bit of the due frame, or to the next frame after the last bit.
     fn pass_bit(&mut self)
         requires sound { IsSoundPaging self.old }
         requires come { self.old.received.clock.next < self.old.received.clock.have }

@@ -40,36 +40,36 @@ pub(crate) trait Receive {
     /// How much has come that is not decoded yet.
     ghost unheard: { Self → ℕ };
 
-    /// How the checks of its messages are sent.
+    /// The form of the checks of its messages.
     ghost form: { Tuning → TheForm };
 
-    /// Nothing is received after a mark, unless the mark opens a receiver; that of a traffic
-    /// channel opens if one is assigned.
+    /// The mark, if any, opens no receiver. By default each mark opens one; a traffic channel's
+    /// receiver opens only if a channel is assigned.
     ghost silent: { Option Traffic → Option Mark → Type 0 } = { λ _ mark. mark ≡ None };
 
-    /// It has taken these samples, in which the sync channel's messages set this mark, or none, and
-    /// the events of the paging channel haven't been heard that it takes as told. If it receives a
-    /// traffic channel, that is the one that is assigned.
+    /// It has taken these samples, in which the sync channel's messages set this mark, or none. If
+    /// it has pilot sets, they have not noted these events of the paging channel yet. If it
+    /// receives a traffic channel, that is the assigned one.
     ghost stands: { Tuning → Option Traffic → Option Mark → Self → List Sample →
         List TheEvent → Type 0 };
 
     /// The events at the end of these samples that are not returned yet.
     ghost left: { Tuning → Option Traffic → Option Mark → List Sample → Self → List TheEvent };
 
-    /// The smallest of a number of samples and that at which what comes next ends.
+    /// Returns the smaller of `end` and the number of samples at which what comes next ends.
     fn end_before(&self, end: u64) -> u64
         requires { sound self.now }
         ensures most { result ≤ end }
         ensures ends { (n : ℕ) → n ≤ result → ends n self.now }
         ensures one { (n : ℕ) → n < end → waits n self.now → n < result };
 
-    /// Whether something has come that is not decoded yet, in a file of this many samples.
+    /// Whether something has come that is not decoded yet, in a file of `count` samples.
     fn is_due(&self, count: u64) -> bool
         requires { sound self.now }
         ensures { IsTrue result ↔ due count self.now };
 
-    /// Takes the soft values of a frame whose last sample has come, if any, and notes the moment
-    /// that lies there.
+    /// Takes the soft values of a frame whose last sample has come, if any, and notes a moment that
+    /// lies at this sample.
     fn take_ended(&mut self, ring: &SampleRing, codes: &Codes)
         requires sound { sound self.old }
         requires idle { (count : ℕ) × ¬ due count self.old }
@@ -85,7 +85,7 @@ pub(crate) trait Receive {
             stands t assigned mark self.new samples pages
             × (left t assigned mark samples self.new ≡ left t assigned mark samples self.old) };
 
-    /// Decodes what is due next in a file of this many samples, and returns the event that this
+    /// Decodes what is due next in a file of `count` samples, and returns the event that this
     /// completes.
     fn hear_next(
         &mut self,
@@ -115,7 +115,7 @@ pub(crate) trait Receive {
             ≡ left t assigned mark samples self.old) };
 }
 
-// A receiver that a mark opens: there is none before it, nor where the channel isn't heard.
+// A receiver that a mark opens: `None` before the mark, or if the channel is not received.
 impl<R: Receive> Receive for Option<R> {
     ghost use Rattle.std.specs.Prelude.{[]};
     ghost use Rattle.std.specs.Option.{ForSome, IsSomeAnd, MatchOption, option_map_or};

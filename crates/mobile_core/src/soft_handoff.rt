@@ -9,8 +9,8 @@ use rake_finger::SampleRing;
 use short_code::Codes;
 use viterbi::Decoder;
 
-/// A traffic channel that is followed from the mark on, in soft handoff: the receiver of its
-/// frames, and the pilot sets, which determine from which pilots they are received.
+/// A traffic channel that is followed in soft handoff from the mark on: the receiver of its frames,
+/// and the pilot sets, which determine the pilots that the frames are received from.
 ///
 /// TIA/EIA-95-B, 6.6.6.2: a frame is received from the pilots that are active after the last moment
 /// at or before its first sample. Received messages change the sets, and pilots move between them
@@ -89,8 +89,8 @@ impl SoftHandoff {
         self.tune();
     }
 
-    /// Takes the active pilots for the next frame, if the last moment that has passed determines
-    /// them.
+    /// Tunes the receiver to the active pilots for the next frame, if the last moment that has
+    /// passed determines them.
     fn tune(&mut self)
         requires sound { IsSoundHandoff self.old }
         ensures same { self.new ≡ beside self.old.sets
@@ -117,7 +117,7 @@ impl SoftHandoff {
     }
 
     /// Performs the moment that has come and returns its event, if any.
-    // Its frame holds pilot sets, and is not to lie beneath that of who hears a frame.
+    // Not inlined: its stack frame holds pilot sets.
     #[inline(never)]
     fn pass_moment(&mut self, ring: &SampleRing, codes: &Codes) -> Option<Event>
         requires sound { IsSoundHandoff self.old }
@@ -182,7 +182,8 @@ impl Receive for SoftHandoff {
         self.sets.come(ring.taken());
     }
 
-    /// Hears the message that is kept first, then the frame, then the moment.
+    /// Returns the kept message if there is one; otherwise decodes the frame if one has come;
+    /// otherwise performs the moment.
     fn hear_next(
         &mut self,
         decoder: &mut Decoder,

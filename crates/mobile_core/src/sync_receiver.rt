@@ -19,13 +19,13 @@ use short_code::Codes;
 use sync_message::{CapsuleFramer, SyncMessage};
 use viterbi::Decoder;
 
-/// The receiver of the sync channel: frames, the message under way, and the mark that messages set
-/// (TIA/EIA-95-B, 7.7.1).
+/// The receiver of the sync channel: its frames, the message under way, and the mark that messages
+/// set (TIA/EIA-95-B, 7.7.1).
 #[derive(Drop)]
 pub(crate) struct SyncReceiver {
     received: Continued,
     framer: CapsuleFramer,
-    /// How many frames the message under way has, 0 if there is none.
+    /// The number of frames of the message under way, 0 if there is none.
     message_frames: u64,
     mark: Option<Mark>,
 }
@@ -64,21 +64,21 @@ impl SyncReceiver {
         }
     }
 
-    /// Returns how many samples have been taken when the frame ends that comes next.
+    /// Returns the number of samples taken when the next frame ends.
     pub(crate) fn end(&self) -> u64
         ensures { result ≡ self.now.received.clock.end }
     {
         self.received.clock.end
     }
 
-    /// The mark that a message set.
+    /// Returns the mark that a message set, if any.
     pub(crate) fn mark(&self) -> Option<Mark>
         ensures { result ≡ self.now.mark }
     {
         self.mark
     }
 
-    /// Whether a complete frame is not decoded yet, in a file of this many samples.
+    /// Whether a complete frame is not decoded yet, in a file of `count` samples.
     pub(crate) fn is_due(&self, count: u64) -> bool
         requires { IsSoundSync self.now }
         ensures { IsTrue result ↔ IsDueAt count self.now.received.clock }
@@ -144,7 +144,7 @@ impl SyncReceiver {
     }
 }
 
-/// Returns how many frames the message under way has with one frame more.
+/// Returns how many frames the message under way has after another frame, its first if `begins`.
 fn with_frame(begins: bool, message_frames: u64) -> u64
     requires { message_frames < 2 ^ 63 }
     ensures { result ≡ frames_with begins message_frames }
@@ -192,7 +192,7 @@ fn mark_of(first: u64, told: &Option<Spelled<SyncMessage>>) -> Option<Mark>
     })
 }
 
-/// Returns the mark that is set, otherwise that of the message.
+/// Returns `mark` if it is set, otherwise the mark of the message.
 fn mark_with(mark: Option<Mark>, first: u64, told: &Option<Spelled<SyncMessage>>) -> Option<Mark>
     requires first { first ≤ 2 ^ 28 }
     requires sound { ForSome mark IsSoundMark }

@@ -14,14 +14,14 @@ use symbol_path::power_places;
 use traffic_message::{SignalFramer, TrafficMessage};
 use viterbi::Decoder;
 
-/// The receiver of a traffic channel's frames from the mark on, each from given pilots.
+/// The receiver of a traffic channel's frames from the mark on, each from its own set of pilots.
 ///
 /// TIA/EIA-95-B, 7.1.3.5: each frame is encoded by itself, so it is decoded at its own end. A
 /// message is complete after the frame that ends it (7.7.3).
 #[derive(Drop)]
 pub(crate) struct TrafficReceiver {
-    /// Its frames: where they lie, and the fingers of the next one to come. The frame to be decoded
-    /// next is that one, or the one before it if that has come.
+    /// The frames: their positions, and the fingers of the next one to come. The next frame to be
+    /// decoded is that one, or the one before it if it has come but is not decoded yet.
     pub(crate) frames: FrameReceiver,
     /// The pilots from which the next frame is received, once they are known.
     legs: Legs,
@@ -29,9 +29,9 @@ pub(crate) struct TrafficReceiver {
     phase: Phase,
     /// The paths near it.
     near: Near,
-    /// The soft values of the frame that is decoded next, if it has come, without descrambling.
+    /// The raw soft values of the next frame to be decoded, if it has come.
     softs: FrameSofts,
-    /// Those of its power control bits, by subchannels.
+    /// The soft values of that frame's power control bits, by subchannel.
     power: PowerSofts,
     framer: SignalFramer,
     /// The message that the last decoded frame completes, until it is returned.
@@ -144,8 +144,8 @@ impl TrafficReceiver {
         frames.advance();
     }
 
-    /// Returns the event of the kept message; otherwise decodes the due frame, keeps the message
-    /// that it completes, and returns the frame's event, at `at` samples.
+    /// Returns the kept message's event. If none is kept, decodes the due frame, keeps the message
+    /// that it completes, and returns the frame's event. Each event is at `at` samples.
     pub(crate) fn hear_told(&mut self, decoder: &mut Decoder, check: CheckForm, at: u64) -> Event
         requires sound { IsSoundTraffic self.old }
         requires due { HasToTell self.old }
@@ -175,7 +175,7 @@ impl TrafficReceiver {
         frame_event(&frame, power_bits, at)
     }
 
-    /// Takes other pilots for the frame that comes next.
+    /// Sets the pilots from which the next frame is received.
     pub(crate) fn tune(&mut self, legs: Legs)
         requires sound { IsSoundTraffic self.old }
         requires legs { HasSoundLegs legs }
@@ -190,7 +190,7 @@ impl TrafficReceiver {
     }
 
     /// Decodes the due frame and its power control bits.
-    // Its frame holds soft values, and is not to lie beneath that of a message.
+    // Not inlined: its stack frame holds soft values.
     #[inline(never)]
     fn next_frame(&self, decoder: &mut Decoder) -> (Decoded, PowerBits)
         requires sound { IsSoundTraffic self.now }

@@ -5,7 +5,7 @@ use Rattle.paging_message.specs.Layouts.{paging_shape_of}
 use Rattle.paging_message.specs.Messages.{message_body, IsPagingMessage}
 use Rattle.paging_message.specs.declared.message.PagingMessage.{PagingMessage}
 
--- whether a body of this type may have n bits: the type, and what the type's layout has
+-- whether a body of this type may have `count` bits: the type, and what the type's layout admits
 unfoldable pub admits : ℕ → ℕ → Bool
 admits kind count = nat_le 8 count && has_length (paging_shape_of kind) (count - 8)
 

@@ -11,7 +11,7 @@ channel_widths = 9 ∷ 6 ∷ []
 abbrev pub channel_names : List (List ℕ)
 channel_names = codes "pn" ∷ codes "seq" ∷ []
 
--- after them as many frequencies as fit
+-- the layout: these fields, then as many frequencies as fit
 abbrev pub channel_shape : MessageShape
 channel_shape = plain_shape channel_widths (11 ∷ []) 0 (Some 7)
 
@@ -19,14 +19,14 @@ channel_shape = plain_shape channel_widths (11 ∷ []) 0 (Some 7)
 abbrev pub channel_values : ChannelFields → List ℕ
 channel_values m = m.pn ∷ m.seq ∷ []
 
--- what the message says
+-- the content of the message
 abbrev pub channel_contents : ChannelFields → Contents
 channel_contents m = plain_contents (channel_values m) (m.freqs ∷ [] ∷ [] ∷ []) m.rest
 
 abbrev pub IsChannelList : ChannelFields → Type 0
 IsChannelList m = IsSpelled 4 channel_shape (channel_contents m)
 
--- the message that says so
+-- the message with this content
 abbrev pub channels_from : Contents → ChannelFields
 channels_from c = record {
   pn = get_or c.fixed 0 0;

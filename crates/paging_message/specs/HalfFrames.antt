@@ -17,19 +17,19 @@ IsPagingRate R4800 = Unit {0}
 IsPagingRate R2400 = ⊥
 IsPagingRate R1200 = ⊥
 
--- the body bits of a half-frame
+-- the number of body bits of a half-frame
 abbrev pub half_frame_body : Rate → ℕ
 half_frame_body R9600 = 95
 half_frame_body R4800 = 47
 half_frame_body R2400 = 23
 half_frame_body R1200 = 11
 
--- how many body bits of its half-frame are left, n body bits after a start
+-- how many body bits of the current half-frame are left, `count` body bits after a start
 unfoldable pub bits_left : ℕ → ℕ → ℕ
 bits_left size count = (size - count % size) % size
 
--- The capsule that ends with the last of the bits, where capsules follow one another from the
--- start: after a capsule another one follows where 8 bits of its last half-frame are left. `count`
+-- The capsule that ends with the last of the bits, if capsules follow one another from the start.
+-- After a capsule another one follows if at least 8 bits of its last half-frame are left. `count`
 -- is the number of bits before, and the fuel is a number of capsules.
 unfoldable pub ends_chain : ℕ → ℕ → ℕ → List Bool → Option (List Bool)
 ends_chain zero size count bits = None
@@ -59,8 +59,8 @@ capsules_in size bits =
     flat_map (λ i. option_to_list (half_frame_capsule_ending size (take (i + 1) bits)))
     (places (length bits))
 
--- The bits of the capsule that is under way after these, where more bits may complete it: no bits
--- yet after a capsule that another one may follow.
+-- The bits of the capsule that is open after these, if more bits may complete it. They are the
+-- empty list right after a capsule that another one may follow.
 unfoldable pub open_chain : ℕ → ℕ → ℕ → List Bool → Option (List Bool)
 open_chain zero size count bits = None
 open_chain (suc fuel) size count bits =
@@ -78,14 +78,14 @@ opened size (p ∷ pieces) =
 unfoldable pub half_under_way : ℕ → List Bool → Option (List Bool)
 half_under_way size bits = opened size (from_last_start (half_frames size bits))
 
--- a framer: its half-frames' body bits, how many bits of its half-frame it took, and the bits of
--- its open capsule
+-- a framer: a half-frame's number of body bits, the number of bits taken of the current one, and
+-- the bits of the open capsule
 pub record Framing : Type 0 where
   pub size : ℕ
   pub place : ℕ
   pub open_bits : Option (List Bool)
 
--- a framer that took these bits
+-- a framer that has taken these bits
 pub record HalfFramesStandFor (framer : Framing) (bits : List Bool) : Type 0 where
   pub placed : framer.place ≡ length bits % (framer.size + 1)
   pub under_way : framer.open_bits ≡ half_under_way framer.size bits

@@ -13,14 +13,14 @@ pub record Laid : Type 0 where
 abbrev pub nothing_laid : Laid
 nothing_laid = record { body = []; starts = [] }
 
--- the number of zeros that complete the last half-frame of n body bits
+-- the number of zeros that complete the last half-frame of `count` body bits
 unfoldable pub fill : ℕ → ℕ → ℕ
 fill size count = (size - count % size) % size
 
 abbrev pub padded_to : ℕ → List Bool → List Bool
 padded_to size bits = bits ++ replicate (fill size (length bits)) false
 
--- One capsule more: right after the bits so far if it follows, otherwise in the next half-frame.
+-- Another capsule: right after the bits so far if `follow`, otherwise in the next half-frame.
 unfoldable pub laid_on : ℕ → Laid → Bool → List Bool → Laid
 laid_on size l follow capsule =
     if follow then record { body = l.body ++ capsule; starts = l.starts }
@@ -36,48 +36,48 @@ unfoldable pub framed : ℕ → Laid → List Bool
 framed size l =
     flat_map (half_frame size l.starts l.body) (places ((length l.body + size - 1) / size))
 
--- those half-frames, whole
+-- those half-frames, the last padded with zeros
 unfoldable pub half_frames_of : ℕ → Laid → List Bool
 half_frames_of size l = framed size (record { body = padded_to size l.body; starts = l.starts })
 
--- a layout: the body bits of its half-frames, and how many bits of the half-frame under way are
--- laid, none where it is full
+-- a layout: a half-frame's number of body bits, and how many bits of the current half-frame are
+-- laid, 0 if it is full
 pub record Place : Type 0 where
   pub size : ℕ
   pub place : ℕ
 
--- how many bits of their last half-frame n body bits fill, including its SCI bit
+-- how many bits of their last half-frame `count` body bits fill, including its SCI bit
 unfoldable pub place_of : ℕ → ℕ → ℕ
 place_of size count = if count % size == 0 then 0 else 1 + count % size
 
--- a layout's numbers
+-- the ranges of a layout's numbers
 pub record IsPlace (layout : Place) : Type 0 where
   pub within : layout.place ≤ layout.size
   pub least : 47 ≤ layout.size
   pub most : layout.size ≤ 95
 
--- how many body bits of the half-frame under way are left
+-- how many body bits of the current half-frame are left
 abbrev pub left_in : Place → ℕ
 left_in layout = if layout.place == 0 then 0 else layout.size + 1 - layout.place
 
--- one body bit more; where a half-frame begins with it, its SCI bit may be 1
+-- another body bit; if `sci`, the SCI bit of its half-frame is 1
 abbrev pub bit_on : ℕ → Laid → Bool → Bool → Laid
 bit_on size l sci bit = record {
   body = l.body ++ bit ∷ [];
   starts = if sci then l.starts ++ length l.body / size ∷ [] else l.starts;
 }
 
--- what was laid, and zeros up to where the next capsule begins
+-- what is laid, and zeros up to the beginning of the next capsule
 abbrev pub way_for : ℕ → Laid → Bool → Laid
 way_for size l follow =
     record { body = if follow then l.body else padded_to size l.body; starts = l.starts }
 
--- half-frames whose first body bits are among the first n
+-- half-frames whose first body bits are among the first `count`
 abbrev pub HaveBegun : ℕ → ℕ → List ℕ → Type 0
 HaveBegun size count [] = Unit {0}
 HaveBegun size count (s ∷ starts) = (s * size < count) × HaveBegun size count starts
 
--- a layout that laid this as these bits
+-- a layout that has laid this as these bits
 pub record HasLaid (layout : Place) (l : Laid) (bits : List Bool) : Type 0 where
   pub placed : layout.place ≡ place_of layout.size (length l.body)
   pub spelled : bits ≡ framed layout.size l
@@ -93,7 +93,7 @@ abbrev pub laid_all : ℕ → Laid → List Put → Laid
 laid_all size l [] = l
 laid_all size l (p ∷ puts) = laid_all size (laid_on size l p.follows p.capsule) puts
 
--- each is a whole capsule, and one follows only where another one fits
+-- each is a whole capsule, and one follows at once only if at least 8 body bits are left
 abbrev pub AreLawful : ℕ → Laid → List Put → Type 0
 AreLawful size l [] = Unit {0}
 AreLawful size l (p ∷ puts) =

@@ -1,4 +1,4 @@
--- The message types that have fields of their own: the table of their layouts.
+-- The table of layouts of the message types that have fields of their own.
 use Rattle.paging_message.specs.Common.{LineNames, MessageShape}
 use Rattle.std.specs.Prelude.{ℕ, ◌≡◌, ◌==◌, if◌then◌else◌, Bool, false, List, [], ◌∷◌, codes}
 use Rattle.std.specs.List.{list_any}
@@ -9,7 +9,7 @@ use Rattle.paging_message.specs.Spelling.{IsSpelled}
 use Rattle.paging_message.specs.System.{system_names, system_shape}
 use Rattle.paging_message.specs.declared.other.OtherFields.{OtherFields}
 
--- a message type: its number, the names in its line, and the layout of what stands after the type
+-- a message type: its number, the names in its line, and the layout of the content after the type
 pub record MessageType : Type 0 where
   pub kind : ℕ
   pub names : LineNames
@@ -22,7 +22,7 @@ message_type kind word fixed list shape = record {
   shape = shape;
 }
 
--- those with fields of their own
+-- the message types with fields of their own
 abbrev pub own_types : List MessageType
 own_types =
     message_type 1 (codes "system") system_names [] system_shape
@@ -30,7 +30,7 @@ own_types =
     ∷ message_type 4 (codes "channels") channel_names (codes "freqs") channel_shape
     ∷ []
 
--- and any other, which has neither fields nor names
+-- any other message type, which has neither fields nor names
 abbrev pub other_type : ℕ → MessageType
 other_type kind = message_type kind [] [] [] other_shape
 
@@ -42,14 +42,14 @@ abbrev pub type_in : List MessageType → ℕ → MessageType
 type_in [] kind = other_type kind
 type_in (row ∷ types) kind = if kind == row.kind then row else type_in types kind
 
--- for each message type, its layout and the names in its line
+-- the layout of a message type, and the names in its line
 abbrev pub paging_shape_of : ℕ → MessageShape
 paging_shape_of kind = (type_in own_types kind).shape
 
 abbrev pub paging_names_of : ℕ → LineNames
 paging_names_of kind = (type_in own_types kind).names
 
--- a message without fields of its own has none of the types that have such
+-- a message without fields of its own, whose type is not in the table
 pub record IsOther (m : OtherFields) : Type 0 where
   pub spelled : IsSpelled m.kind other_shape (other_contents m)
   pub other : has_type own_types m.kind ≡ false

@@ -10,7 +10,7 @@ use Rattle.paging_message.specs.System.{system_contents, system_from}
 use Rattle.paging_message.specs.declared.message.PagingMessage.{PagingMessage}
 use Rattle.paging_message.specs.declared.message.PagingMessage.TheVariants as messages
 
--- the type of a message, what it says, and the message that says so
+-- the type of a message, its content, and the message with this type and content
 abbrev pub paging_kind_of : PagingMessage → ℕ
 paging_kind_of (messages.System m) = 1
 paging_kind_of (messages.Neighbors m) = 3
@@ -30,7 +30,7 @@ message_from kind c =
     else (if kind == 4 then messages.Channels (channels_from c)
     else messages.Other (other_from kind c)))
 
--- the type, and what the message says by the type's layout
+-- the type, then the content by the type's layout
 unfoldable pub message_body : PagingMessage → List Bool
 message_body m = body_of (paging_kind_of m) (paging_shape_of (paging_kind_of m)) (contents_of m)
 

@@ -11,7 +11,7 @@ neighbor_widths = 9 ∷ 6 ∷ 4 ∷ []
 abbrev pub neighbor_names : List (List ℕ)
 neighbor_names = codes "pn" ∷ codes "seq" ∷ codes "inc" ∷ []
 
--- after them as many neighbors as fit, of each its configuration and its offset
+-- the layout: these fields, then the configuration and the offset of as many neighbors as fit
 abbrev pub neighbor_shape : MessageShape
 neighbor_shape = plain_shape neighbor_widths (3 ∷ 9 ∷ []) 0 (Some 7)
 
@@ -19,14 +19,14 @@ neighbor_shape = plain_shape neighbor_widths (3 ∷ 9 ∷ []) 0 (Some 7)
 abbrev pub neighbor_values : NeighborFields → List ℕ
 neighbor_values m = m.pn ∷ m.seq ∷ m.inc ∷ []
 
--- what the message says
+-- the content of the message
 abbrev pub neighbor_contents : NeighborFields → Contents
 neighbor_contents m = plain_contents (neighbor_values m) (m.configs ∷ m.pns ∷ [] ∷ []) m.rest
 
 abbrev pub IsNeighborList : NeighborFields → Type 0
 IsNeighborList m = IsSpelled 3 neighbor_shape (neighbor_contents m)
 
--- the message that says so
+-- the message with this content
 abbrev pub neighbors_from : Contents → NeighborFields
 neighbors_from c = record {
   pn = get_or c.fixed 0 0;

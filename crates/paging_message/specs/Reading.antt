@@ -9,7 +9,7 @@ use Rattle.paging_message.specs.Layouts.{paging_shape_of}
 use Rattle.paging_message.specs.Messages.{message_from, paging_capsule}
 use Rattle.paging_message.specs.declared.message.PagingMessage.{PagingMessage}
 
--- what stands after a message type
+-- the message of this type with these bits after the type
 unfoldable pub message_at : ℕ → List Bool → PagingMessage
 message_at kind bits =
     message_from kind (list_said (paging_shape_of kind).fixed (paging_shape_of kind).records bits)
@@ -19,12 +19,12 @@ unfoldable pub is_body : List Bool → Bool
 is_body body =
     length body % 8 == 2 && (nat_le (length body) 1146 && admits (number_at 0 8 body) (length body))
 
--- the message whose body the list is
+-- the message whose body is this list
 unfoldable pub body_reading : List Bool → Option PagingMessage
 body_reading body = if is_body body then Some
     (message_at (number_at 0 8 body) (drop 8 body)) else None
 
--- the message whose capsule the list is
+-- the message whose capsule is this list
 unfoldable pub paging_reading : CheckForm → List Bool → Option PagingMessage
 paging_reading form capsule =
     if_spelled (paging_capsule form) capsule

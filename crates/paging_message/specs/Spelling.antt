@@ -6,7 +6,7 @@ use Rattle.message_layout.specs.Spelling.{spelling, IsOf}
 abbrev pub body_of : ℕ → MessageShape → Contents → List Bool
 body_of kind s c = binary 8 kind ++ spelling s c
 
--- the contents are those of the layout, the type fits its width, and the body fills a capsule
+-- the contents have a spelling by the layout, the type fits its width, and the body fills a capsule
 pub record IsSpelled (kind : ℕ) (s : MessageShape) (c : Contents) : Type 0 where
   pub typed : kind < 2 ^ 8
   pub said : IsOf s c

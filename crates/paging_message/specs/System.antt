@@ -21,7 +21,7 @@ system_names =
     ∷ codes "pframes" ∷ codes "pthen" ∷ codes "pperen" ∷ codes "pdelay" ∷ codes "rescan"
     ∷ codes "tadd" ∷ codes "tdrop" ∷ codes "tcomp" ∷ codes "ttdrop" ∷ []
 
--- all bits after the fields
+-- the layout: the fields, then all remaining bits
 abbrev pub system_shape : MessageShape
 system_shape = plain_shape system_widths [] 0 None
 
@@ -33,14 +33,14 @@ system_values m =
     ∷ m.lat ∷ m.long ∷ m.dist ∷ m.wina ∷ m.winn ∷ m.winr ∷ m.age ∷ m.pthresh ∷ m.pframes
     ∷ m.pthen ∷ m.pperen ∷ m.pdelay ∷ m.rescan ∷ m.tadd ∷ m.tdrop ∷ m.tcomp ∷ m.ttdrop ∷ []
 
--- what the message says
+-- the content of the message
 abbrev pub system_contents : SystemFields → Contents
 system_contents m = plain_contents (system_values m) ([] ∷ [] ∷ [] ∷ []) m.rest
 
 abbrev pub IsSystem : SystemFields → Type 0
 IsSystem m = IsSpelled 1 system_shape (system_contents m)
 
--- the fields of these values
+-- the fields with these values
 unfoldable pub system_of : List ℕ → List Bool → SystemFields
 system_of values rest = record {
   pn = get_or values 0 0;
@@ -83,6 +83,6 @@ system_of values rest = record {
   rest = rest;
 }
 
--- the message that says so
+-- the message with this content
 abbrev pub system_from : Contents → SystemFields
 system_from c = system_of c.fixed c.rest

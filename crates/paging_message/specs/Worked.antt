@@ -26,7 +26,7 @@ channel_spelled :
 unfolding one_channel message_body spelling binary
 channel_spelled = refl
 
--- a Neighbor List of two neighbors, and three bits after them
+-- a Neighbor List of two neighbors, followed by three bits
 two_neighbors : NeighborFields
 two_neighbors =
     record {
@@ -43,7 +43,7 @@ neighbors_spelled :
 unfolding two_neighbors message_body spelling binary
 neighbors_spelled = refl
 
--- a System Parameters Message whose fields are the places of the table, as far as they have room
+-- a System Parameters Message in which the value of each field is its place in the table, or less
 places_in_order : List ℕ
 places_in_order =
     0 ∷ 1 ∷ 2 ∷ 3 ∷ 4 ∷ 5 ∷ 6 ∷ 1 ∷ 0 ∷ 9 ∷ 10 ∷ 3 ∷ 4 ∷ 1 ∷ 0 ∷ 1 ∷ 0 ∷ 1 ∷ 0 ∷ 19 ∷ 20 ∷ 21 ∷ 22
@@ -60,7 +60,7 @@ channel_octets : (length (paging_capsule Plain (Channels one_channel)) ≡ 72) �
 unfolding one_channel paging_capsule message_body spelling capsule check_bits binary places
 channel_octets = (refl, refl)
 
--- what is read is what was spelled
+-- reading returns the message that was spelled
 channel_read :
     paging_reading Plain (paging_capsule Plain (Channels one_channel)) ≡ Some (Channels one_channel)
 unfolding one_channel paging_reading body_reading is_body admits message_at
@@ -73,8 +73,8 @@ longest : length (paging_capsule Plain (Other (record { kind = 9; bits = replica
 unfolding paging_capsule message_body spelling capsule check_bits binary places
 longest = refl
 
--- A capsule of 94 octets fills eight half-frames but for 8 bits, and another one of 6 octets
--- follows it. The check of the first is written out, so that it is worked out once.
+-- A capsule of 94 octets fills eight half-frames except for 8 bits, and one of 6 octets follows it.
+-- The check of the first is written out, so that it is computed only once.
 first : List Bool
 unfolding binary
 first = binary 16 0x5e09 ++ replicate 706 false ++ binary 30 0x04447c6e
@@ -115,8 +115,8 @@ unfolding stream both first second laid_on half_frames_of framed fill capsule ch
     places half_frame_capsule_ending half_frames ends_chain bits_left is_stated
 nothing_earlier = refl
 
--- 8 body bits of the eighth half-frame are left after the first, and 7 of the first one after a
--- capsule of 11 octets
+-- after the first capsule, 8 body bits of the eighth half-frame are left; after a capsule of 11
+-- octets, 7 of the first half-frame
 left_after_capsules : (bits_left 95 (length first) ≡ 8) × (bits_left 95 88 ≡ 7)
 unfolding first bits_left binary places
 left_after_capsules = (refl, refl)

@@ -1,4 +1,4 @@
-//! A long list of bits that is not allocated.
+//! A long list of bits that is stored without allocation.
 
 ghost use Rattle.std.specs.Prelude.{◌≡◌, ◌<◌, ◌≤◌, [], ◌∷◌, ◌++◌, length, slice_get, Some, IsOk};
 ghost use Rattle.std.specs.Prelude.{OnOk, OnErr, ◌↔◌, IsTrue};
@@ -52,7 +52,7 @@ impl HalfBits {
         self.bits[i as usize]
     }
 
-    /// Whether there are none.
+    /// Whether the list is empty.
     pub fn is_empty(&self) -> bool
         ensures { IsTrue result ↔ (self.now ≡ []) }
     {

@@ -14,8 +14,8 @@ use std::marker::Model;
 /// TIA/EIA-95-B, 7.7.2.1: a half-frame has an SCI bit and 95 bits of body at 9600 bits per second,
 /// or 47 at 4800. SCI 1 means that a capsule begins right after it; an incomplete capsule is then
 /// dropped. After a capsule, another one begins at once if at least 8 body bits of its half-frame
-/// are left. Contracts see the half-frame's width, the bits taken of it and the bits of the open
-/// capsule, and state which bits the framer has taken.
+/// are left. Contracts see a half-frame's number of body bits, the number of bits taken of the
+/// current one, and the bits of the open capsule. They state which bits the framer has taken.
 #[derive(Clone, Copy, PartialEq, Eq, Debug)]
 pub struct HalfFramer {
     size: u16,

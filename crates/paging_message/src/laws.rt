@@ -12,15 +12,15 @@ ghost use Rattle.paging_message.specs.Messages.{message_body, paging_capsule, Is
 ghost use Rattle.paging_message.specs.Reading.{body_reading, paging_reading};
 ghost use Rattle.paging_message.specs.declared.message.PagingMessage.{PagingMessage as TheMessage};
 
-/// Two messages with one spelling are the same.
+/// Two messages with the same spelling are equal.
 pub fn spelling_has_one_message()
     ensures { (form : TheForm) (m n : TheMessage) →
         IsPagingMessage m → IsPagingMessage n → paging_capsule form m ≡ paging_capsule form n →
         m ≡ n }
 {}
 
-/// Reading a list by the places of the fields gives a message exactly if the list is the message's
-/// capsule, and likewise for its body.
+/// Reading a list by the places of the fields returns a message exactly if the list is the
+/// message's capsule, and likewise for its body.
 pub fn reading_turns_spelling_back()
     ensures capsule { (form : TheForm) (capsule : List Bool) (m : TheMessage) →
         (paging_reading form capsule ≡ Some m)
@@ -29,8 +29,8 @@ pub fn reading_turns_spelling_back()
         (body_reading body ≡ Some m) ↔ (IsPagingMessage m × (body ≡ message_body m)) }
 {}
 
-/// A body that fills a capsule is that of a message exactly if its type admits its length; no other
-/// body is.
+/// A body that fills a capsule is that of a message exactly if its type admits its length. Every
+/// message's body fills a capsule.
 pub fn type_and_length_admit()
     ensures fills { (m : TheMessage) → IsPagingMessage m → FillsCapsule M30 (message_body m) }
     ensures admitted { (body : List Bool) →
@@ -39,8 +39,8 @@ pub fn type_and_length_admit()
 {}
 
 /// The bits that are laid, padded with zeros to a whole half-frame, carry exactly the capsules that
-/// were put, in order, provided that each is whole and follows another at once only if at least 8
-/// body bits of its half-frame are left.
+/// were put, in order. The condition is that each is whole and follows another at once only if at
+/// least 8 body bits of its half-frame are left.
 pub fn laid_capsules_are_carried()
     ensures padded { (layout : Place) (l : Laid) (bits : List Bool) →
         0 < layout.size →

@@ -14,8 +14,8 @@ use std::marker::Model;
 
 /// Lays capsules in the half-frames of a paging channel.
 ///
-/// TIA/EIA-95-B, 7.7.2.1. Contracts see the half-frame's width and how much of the current
-/// half-frame is laid, and state which capsules the layout has laid.
+/// TIA/EIA-95-B, 7.7.2.1. Contracts see a half-frame's number of body bits and how many bits of the
+/// current one are laid. They state which capsules the layout has laid.
 #[derive(Clone, Copy, PartialEq, Eq, Debug)]
 pub struct Layout {
     size: u16,
@@ -133,8 +133,8 @@ impl Layout {
     }
 }
 
-/// Returns how many bits of a half-frame are laid after another body bit: 0, in the next one, if it
-/// is full.
+/// Returns how many bits of the current half-frame are laid after another body bit, 0 if that bit
+/// fills it.
 fn next_place(place: u16, size: u16) -> u16
     requires { place < 65535 }
     ensures { result ≡ (if place == size then 0 else place + 1) }

@@ -1,5 +1,5 @@
-//! The messages of the paging channel (TIA/EIA-95-B, 7.7.2.3), spelled and read; the framer that
-//! cuts their capsules out of half-frames (7.7.2.1), and the layout that puts them there.
+//! The messages of the paging channel (TIA/EIA-95-B, 7.7.2.3), the framer that cuts their capsules
+//! out of half-frames (7.7.2.1), and the layout that lays them there.
 #![tactic(auto)]
 
 mod channels;

@@ -45,7 +45,7 @@ impl PagingMessage {
         PagingMessage::read(&BitSlice::whole(body))
     }
 
-    /// The capsule that spells the message.
+    /// Returns the capsule that spells the message.
     pub fn encode(&self, form: CheckForm) -> Bits
         ensures { result ≡ paging_capsule form self.now }
     {
@@ -66,7 +66,7 @@ impl PagingMessage {
         PagingMessage::read(&body).ok_or(MessageFault::BadBody)
     }
 
-    /// The message that a body spells.
+    /// Returns the message that a body spells, if any.
     fn read(body: &BitSlice<'_>) -> Option<PagingMessage>
         ensures { result ≡ body_reading body.now }
     {
@@ -91,7 +91,7 @@ impl PagingMessage {
         }
     }
 
-    /// The body that spells the message.
+    /// Returns the body that spells the message.
     fn body(&self) -> Bits
         ensures value { result ≡ message_body self.now }
         ensures fills { FillsCapsule M30 result }

@@ -13,7 +13,7 @@ use std::marker::Model;
 pub struct OtherFields {
     /// The message type, 8 bits: not 1, 3 or 4, which have fields of their own.
     pub kind: u8,
-    /// All bits after it.
+    /// All bits after the type.
     pub bits: Bits,
 }
 

@@ -12,7 +12,7 @@ use message_layout::{
 };
 use std::marker::Model;
 
-/// Passes a macro the fields of the System Parameters Message in the order of transmission: each
+/// Passes the fields of the System Parameters Message to a macro in the order of transmission, each
 /// with its place, its name and its number of bits.
 macro_rules! system_fields {
     ($made:ident $(, $($with:tt)+)?) => {
@@ -67,11 +67,11 @@ pub struct SystemFields {
     pub zone: u16,
     /// TOTAL_ZONES: how many registration zones a mobile station keeps.
     pub zones: u8,
-    /// ZONE_TIMER: how long it keeps one.
+    /// ZONE_TIMER: how long a mobile station keeps a registration zone.
     pub ztimer: u8,
-    /// MULT_SIDS: whether it keeps several systems.
+    /// MULT_SIDS: whether a mobile station keeps several systems.
     pub msids: u8,
-    /// MULT_NIDS: whether it keeps several networks.
+    /// MULT_NIDS: whether a mobile station keeps several networks.
     pub mnids: u8,
     /// BASE_ID: the base station's number.
     pub base: u16,
@@ -83,15 +83,15 @@ pub struct SystemFields {
     pub cycle: u8,
     /// HOME_REG: whether a mobile station at home registers.
     pub home: u8,
-    /// FOR_SID_REG: whether one roaming from another system does.
+    /// FOR_SID_REG: whether one that roams from another system registers.
     pub fsid: u8,
-    /// FOR_NID_REG: whether one roaming from another network does.
+    /// FOR_NID_REG: whether one that roams from another network registers.
     pub fnid: u8,
-    /// POWER_UP_REG: whether it registers at power up.
+    /// POWER_UP_REG: whether a mobile station registers at power up.
     pub up: u8,
-    /// POWER_DOWN_REG: whether it registers at power down.
+    /// POWER_DOWN_REG: whether a mobile station registers at power down.
     pub down: u8,
-    /// PARAMETER_REG: whether it registers when its parameters change.
+    /// PARAMETER_REG: whether a mobile station registers when its parameters change.
     pub param: u8,
     /// REG_PRD: the period of registrations.
     pub prd: u8,
@@ -109,23 +109,23 @@ pub struct SystemFields {
     pub winr: u8,
     /// NGHBR_MAX_AGE: how long a pilot stays a neighbor.
     pub age: u8,
-    /// PWR_REP_THRESH: the bad frames at which power is reported.
+    /// PWR_REP_THRESH: the number of bad frames at which power is reported.
     pub pthresh: u8,
-    /// PWR_REP_FRAMES: the frames over which they are counted.
+    /// PWR_REP_FRAMES: the frames over which bad ones are counted.
     pub pframes: u8,
     /// PWR_THRESH_ENABLE: whether power is reported at a threshold.
     pub pthen: u8,
     /// PWR_PERIOD_ENABLE: whether power is reported at intervals.
     pub pperen: u8,
-    /// PWR_REP_DELAY: the frames without a count after a report.
+    /// PWR_REP_DELAY: the frames after a report that are not counted.
     pub pdelay: u8,
-    /// RESCAN: whether a mobile station starts again from its choice of a system.
+    /// RESCAN: whether a mobile station starts again with the choice of a system.
     pub rescan: u8,
     /// T_ADD: the strength at which a pilot becomes a candidate.
     pub tadd: u8,
-    /// T_DROP: the strength below which its timer runs.
+    /// T_DROP: the strength below which a pilot's timer runs.
     pub tdrop: u8,
-    /// T_COMP: by how much a candidate has to exceed an active pilot.
+    /// T_COMP: the amount by which a candidate has to exceed an active pilot.
     pub tcomp: u8,
     /// T_TDROP: how long a pilot's timer runs.
     pub ttdrop: u8,
@@ -189,7 +189,7 @@ impl SystemParameters {
     }
 }
 
-/// The fields of these values.
+/// Returns the fields with these values.
 #[tactic(auto, unfolding(crate::specs::System::system_of))]
 fn fields_of(values: &FieldValues, rest: Bits) -> SystemFields
     requires { FieldsFit (in_widths system_widths (system_values (system_of values.now rest))) }

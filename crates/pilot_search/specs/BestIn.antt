@@ -3,8 +3,7 @@ use Rattle.pilot_search.specs.Common.{Sample}
 use Rattle.std.specs.Prelude.{ℕ, ◌<◌, ◌≤◌, ◌≡◌, List}
 use Rattle.pilot_search.specs.Search.{energy}
 
--- the phase of greatest energy of those from one to before another, the least on a tie, with its
--- energy
+-- the phase with the greatest energy from `from` to before `to`, the least on a tie, and its energy
 pub record IsBestIn (samples : List Sample) (from to phase most : ℕ) : Type 0 where
   pub not_below : from ≤ phase
   pub below : phase < to

@@ -1,4 +1,4 @@
--- How large the energy of a phase can still become, after some of the samples.
+-- The largest energy that a phase can still reach after some of the samples.
 use Rattle.pilot_search.specs.Common.{Pair, Sample}
 use Rattle.std.specs.Prelude.{◌≡◌, ◌<◌, ◌≤◌, ℕ, ◌+◌, ◌*◌, List, [], ◌∷◌, length, take, drop}
 use Rattle.std.specs.Prelude.{unsigned_abs, slice_index}
@@ -8,7 +8,7 @@ use Rattle.pilot_search.specs.Search.{phase_correlation, energy, best_phase}
 abbrev pub greatest : List Sample → ℕ
 greatest samples = energy samples (best_phase samples)
 
--- what a sum of samples can gain at most, in either part
+-- the most that these samples can add to either part of a sum
 abbrev pub magnitudes : List Sample → ℕ
 magnitudes [] = 0
 magnitudes (s ∷ samples) = unsigned_abs s.i + unsigned_abs s.q + magnitudes samples
@@ -16,7 +16,7 @@ magnitudes (s ∷ samples) = unsigned_abs s.i + unsigned_abs s.q + magnitudes sa
 abbrev pub square_of : ℕ → ℕ
 square_of x = x * x
 
--- no more than this can the energy become, whatever the samples after the first `done` add
+-- the most that the energy can become, whatever the samples after the first `done` add
 abbrev pub bound : List Sample → ℕ → ℕ → ℕ
 bound samples phase done =
     let partial = phase_correlation (take done samples) phase in
@@ -32,7 +32,7 @@ abbrev pub HasNoBoundBelow : List Sample → ℕ → ℕ → Type 0
 HasNoBoundBelow samples phase limit =
     (j : ℕ) → 64 * j < length samples → limit ≤ bound samples phase (64 * j)
 
--- the magnitudes of the samples from every 64th on
+-- the magnitudes of the samples from each multiple of 64 on
 abbrev pub AreTails : List Sample → List ℕ → Type 0
 AreTails samples tails =
     (j : ℕ) → j < 512 → slice_index tails j ≡ magnitudes (drop (64 * j) samples)

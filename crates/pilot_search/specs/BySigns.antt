@@ -12,6 +12,6 @@ pub record IsSumBy (samples : List Sample) (signs : List (ℤ × ℤ)) (sum : Pa
   pub i_bound : unsigned_abs sum.i ≤ 65536 * length samples
   pub q_bound : unsigned_abs sum.q ≤ 65536 * length samples
 
--- the signs of a chip turned: what I and Q of a sample are multiplied by for the imaginary part
+-- the turned signs of a chip, by which I and Q of a sample are multiplied for the imaginary part
 abbrev pub across : ℤ × ℤ → ℤ × ℤ
 across signs = (neg_ℤ signs.1, signs.0)

@@ -1,4 +1,4 @@
--- What the definitions of this crate cite of the crates below, and of its own types.
+-- Names from other crates that the definitions of this crate use.
 pub use Rattle.chip_core.specs.Complex.{norm, plus, sum_of}
 pub use Rattle.chip_core.specs.Sums.{first_greatest, first_places, total}
 pub use Rattle.chip_core.specs.declared.sample.Pair.{Pair}

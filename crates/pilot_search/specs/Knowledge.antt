@@ -23,6 +23,6 @@ knowledge_coded =
       ceiling = (e i).1.1.1.1;
     })
 
--- the seat is one of this word's, and isn't spent
+-- a seat of this word that isn't spent
 abbrev pub IsHeld : Knowledge → TableId → Type 0
 IsHeld seat word = (seat.word ≡ word) × (seat.spent ≡ false)

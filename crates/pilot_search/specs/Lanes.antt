@@ -70,8 +70,8 @@ pub record LanesAreNear (groups : ℕ) (real imaginary : List ℤ) : Type 0 wher
   pub real_bound : Each1 (λ x. unsigned_abs x ≤ 65536 * groups) real
   pub imaginary_bound : Each1 (λ x. unsigned_abs x ≤ 65536 * groups) imaginary
 
--- sums of the products of the first `groups` groups of eight samples: with the products of the
--- samples that are left they are the whole sum
+-- sums of the products of the first `groups` groups of eight samples: together with the products of
+-- the remaining samples they are the whole sum
 pub record AreSums (samples : List Sample) (signs : List (ℤ × ℤ)) (groups : ℕ)
     (real imaginary : List ℤ) : Type 0 where
   pub near : LanesAreNear groups real imaginary

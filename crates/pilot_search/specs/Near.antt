@@ -4,8 +4,8 @@ use Rattle.std.specs.Prelude.{ℕ, ◌+◌, ◌-◌, ◌%◌, if◌then◌else�
 use Rattle.std.specs.Prelude.{◌-ℤ◌}
 use Rattle.pilot_search.specs.Search.{energy}
 
--- The 65 phases round a phase, modulo the period: how far after the first of them a phase lies. 64
--- is the last.
+-- the place of a phase, modulo the period: 0 to 64 for the 65 phases around the best one, greater
+-- for all others
 abbrev pub near_place : ℕ → ℕ → ℕ
 near_place best phase = (phase + 32800 - best) % 32768
 
@@ -13,13 +13,13 @@ near_place best phase = (phase + 32800 - best) % 32768
 abbrev pub near_phase_at : ℕ → ℕ → ℕ
 near_phase_at best place = (best + 32736 + place) % 32768
 
--- the energy of one of these phases, and less than any energy of another phase
+-- the energy of one of these phases; for any other phase -1, which is less than any energy
 abbrev pub near_value : List Sample → ℕ → ℕ → ℤ
 near_value samples best phase =
     if nat_le (near_place best phase) 64 then pos (energy samples phase) else negsuc 0
 
--- the first n of these phases by greater energy, then by lesser phase, as deltas from the best
--- phase
+-- the first `count` of these phases, by greater energy, then by lesser phase, as deltas from the
+-- best phase
 unfoldable pub near_deltas : List Sample → ℕ → ℕ → List ℤ
 near_deltas samples best count =
     map (λ phase. pos (near_place best phase) -ℤ pos 32)

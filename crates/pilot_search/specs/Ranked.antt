@@ -5,7 +5,7 @@ use Rattle.pilot_search.specs.Near.{near_phase_at}
 use Rattle.pilot_search.specs.Search.{energy}
 use Rattle.pilot_search.specs.declared.sweeping.Best.{Best}
 
--- one comes before the other, where the phases are below 32,768
+-- the first comes before the second, if both phases are below 32,768
 abbrev pub RanksBefore : Best → Best → Type 0
 RanksBefore x y = 32768 * y.energy + x.phase < 32768 * x.energy + y.phase
 
@@ -20,7 +20,7 @@ pub record IsRound (samples : List Sample) (best count : ℕ) (round : List Best
   pub measured : (place : ℕ) (d : Best) → place < count →
       get_or round place d ≡ measured_at samples best place
 
--- the place that comes before all others of the first `count`, with two of them left out
+-- the place that comes before all others of the first `count`, except `first` and `second`
 pub record IsNext (round : List Best) (first second count place : ℕ) : Type 0 where
   pub below : place < 65
   pub not_first : place ≢ first

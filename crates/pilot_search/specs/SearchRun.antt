@@ -1,5 +1,5 @@
--- Workers that share the largest energy published so far and leave phases that cannot reach it:
--- every run of theirs.
+-- The runs of workers that share the largest energy published so far and skip phases that cannot
+-- reach it.
 use Rattle.pilot_search.specs.Common.{Sample}
 use Rattle.std.specs.Prelude.{ℕ, ◌<◌, ◌≤◌, ◌≡◌, ◌⊎◌, max, List, [], ◌∷◌, set, Some, Contains, All}
 use Rattle.std.specs.Prelude.{slice_get, Option, MatchOption}
@@ -28,7 +28,7 @@ IsFresh w phase =
     (w.from ≤ phase) × (phase < w.to) × ¬ (Contains w.evaluated phase) ×
     ¬ (Contains w.skipped phase)
 
--- from old, this step may lead to new
+-- the step may lead from `old` to `new`
 abbrev pub Goes : List Sample → State → Step → State → Type 0
 Goes samples old (Evaluate k phase) new =
     (w : Worker) × (slice_get old.workers k ≡ Some w) × IsFresh w phase
@@ -50,7 +50,7 @@ Run samples old [] new = new ≡ old
 Run samples old (step ∷ steps) new =
     (mid : State) × Goes samples old step mid × Run samples mid steps new
 
--- the ranges part the numbers from one number to before another
+-- the workers' ranges partition the numbers from `from` to before `to`
 abbrev pub Parts : ℕ → ℕ → List Worker → Type 0
 Parts from to [] = from ≡ to
 Parts from to (w ∷ workers) = (w.from ≡ from) × (from ≤ w.to) × Parts w.to to workers
@@ -73,8 +73,8 @@ FindsBest samples =
     All IsDone end.workers
     → (w : Worker) × Contains end.workers w × Contains w.evaluated (best_phase samples)
 
--- in the order of the search no phase comes before the first one: by greater energy, then by lesser
--- phase
+-- the other phase does not come before `first` in the order of the search: by greater energy, then
+-- by lesser phase
 abbrev pub ComesFirst : List Sample → ℕ → ℕ → Type 0
 ComesFirst samples first phase =
     (energy samples phase < energy samples first) ⊎
@@ -87,9 +87,9 @@ BestComesFirst samples =
     → (w : Worker) (phase : ℕ) → Contains end.workers w → Contains w.evaluated phase →
     ComesFirst samples (best_phase samples) phase
 
--- In every state of a run in which this worker last read this value and the phase is left to it, a
--- try is lawful: with no answer it skips the phase, and with an answer it evaluates and publishes
--- it.
+-- In every state in which a worker last read `read` and has not yet evaluated or skipped this phase
+-- of its range, a try is lawful: without an answer it skips the phase; with one it evaluates and
+-- publishes it.
 abbrev pub IsTry : List Sample → ℕ → ℕ → Option ℕ → Type 0
 IsTry samples phase read answer =
     (old : State) (k : ℕ) (w : Worker) → slice_get old.workers k ≡ Some w → IsFresh w phase →

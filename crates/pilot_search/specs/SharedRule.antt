@@ -1,5 +1,5 @@
--- The rule of the shared word: it lies from the floor to the ceiling of each view that isn't spent,
--- and all these ceilings are equal.
+-- The rule of the shared word: it is between the floor and the ceiling, both included, of each view
+-- that isn't spent, and all these ceilings are equal.
 use Rattle.std.specs.Prelude.{◌≡◌, ◌≤◌, ◌⊎◌, ℕ, max, true, false, List, [], ◌∷◌, length}
 use Rattle.std.specs.Prelude.{slice_index}
 use mathlib.Core.Option.{some}
@@ -13,7 +13,7 @@ holding floor ceiling = record { fresh = false; spent = false; floor = floor; ce
 abbrev pub spent : View
 spent = record { fresh = false; spent = true; floor = 0; ceiling = 0 }
 
--- the first view, before its ceiling is told
+-- the first view, before its ceiling is set
 abbrev pub fresh_view : View
 fresh_view = record { fresh = true; spent = true; floor = 0; ceiling = 0 }
 
@@ -33,7 +33,7 @@ IsSharedState s =
 abbrev Sat : Type 0
 Sat = Me (Unit {0}) View
 
--- the ceiling is told
+-- the ceiling is set
 abbrev pub Begun : ℕ → Step (Unit {0}) → Sat → ℕ → Sat → Type 0
 Begun ceiling st m n m' = m' ≡ (holding 0 ceiling, m.1)
 

@@ -1,5 +1,5 @@
-//! Sums over whole groups of eight samples, on lanes, by the points of the code and the points
-//! turned.
+//! Sums over whole groups of eight samples, on lanes, from the points of the code and the turned
+//! points.
 
 ghost use Rattle.pilot_search.specs.Common.{IsUnit};
 ghost use Rattle.std.specs.Prelude.{◌≡◌, ◌<◌, ◌≤◌, ◌+◌, ◌*◌, ◌%◌, length, map, All, unsigned_abs};
@@ -10,8 +10,8 @@ use crate::lanes::{GROUP, pair_sums, parts_of, sum_of_lanes, with_products};
 use chip_core::{Pair, Sample};
 use std::simd::prelude::*;
 
-/// The products of eight samples with the conjugates of their points of the code, the first at
-/// `at`, by these points and the same points turned by a quarter of a circle.
+/// The products of eight samples, the first at `at`, with the conjugates of their points of the
+/// code. `turned` contains the same points turned by a quarter of a circle.
 fn products_by(
     samples: &[Sample],
     points: &[Sample],

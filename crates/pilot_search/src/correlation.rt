@@ -12,7 +12,7 @@ use chip_core::air::CODE_CHIPS;
 use chip_core::{Pair, Phase, Sample};
 use short_code::{Codes, despread};
 
-/// The sum of the samples, each times the conjugate of its point of the code, one by one.
+/// The sum of the samples, each times the conjugate of its point of the code, added one by one.
 fn correlate_plainly(samples: &[Sample], signs: &[(i8, i8)]) -> Pair
     requires few { length samples.now ≤ 32768 }
     requires room { length samples.now ≤ length signs.now }
@@ -28,7 +28,7 @@ fn correlate_plainly(samples: &[Sample], signs: &[(i8, i8)]) -> Pair
     sum
 }
 
-/// The same sum, on lanes over whole groups of eight samples and one by one over the rest.
+/// The same sum, added on lanes for whole groups of eight samples and one by one for the rest.
 fn correlate(samples: &[Sample], signs: &[(i8, i8)]) -> Pair
     requires few { length samples.now ≤ 32768 }
     requires room { length samples.now ≤ length signs.now }
@@ -67,8 +67,8 @@ pub(crate) fn correlation_at(samples: &[Sample], codes: &Codes, phase: Phase) ->
     }
 }
 
-/// Returns the same correlation, from the points of the code, for whole groups of eight samples
-/// within one period of the code.
+/// Returns the same correlation; it is computed from the points of the code if the samples are
+/// whole groups of eight within one period of the code.
 pub(crate) fn correlation_by(
     samples: &[Sample],
     codes: &Codes,
@@ -102,11 +102,11 @@ pub(crate) fn norm_of(sum: Pair) -> u64
 }
 
 /// The energy of the samples at a phase: the square of the absolute value of their correlation with
-/// the code, whose chip of that phase falls on the first sample.
+/// the code. The code's chip of that phase falls on the first sample.
 ///
-/// Sample t meets chip (phase + t) modulo 32,768. With I and Q of the sample i and q, and the signs
-/// of the chip c and d, the correlation has the real part Σ (i c + q d) and the imaginary part Σ (q
-/// c - i d).
+/// Sample t meets chip (phase + t) modulo 32,768. If i and q are I and Q of the sample, and c and d
+/// the signs of the chip, the correlation has the real part Σ (i c + q d) and the imaginary part Σ
+/// (q c - i d).
 pub fn energy_at(samples: &[Sample], codes: &Codes, phase: Phase) -> u64
     requires { length samples.now ≤ 32768 }
     ensures value { result ≡ energy samples.now phase }

@@ -1,13 +1,14 @@
-//! Word of the workers' coming and going.
+//! Notification when workers begin and end.
 
 /// Called when a worker of a search begins and ends. It does not affect the result of the search.
 ///
 /// All workers share one gate, so its methods may run at the same time.
 pub trait Gate {
-    /// The worker of this number is about to try its first phase.
+    /// Called when the worker of this number is about to try its first phase.
     fn arrive(&self, worker: u8);
 
-    /// The worker has tried its last phase and left `unfinished` of its phases early.
+    /// Called when the worker has tried its last phase. It gave up `unfinished` of its phases
+    /// early.
     fn leave(&self, worker: u8, unfinished: u16);
 }
 

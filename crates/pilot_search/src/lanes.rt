@@ -11,10 +11,10 @@ ghost use Rattle.pilot_search.specs.Lanes.{IsShort, eight, parts, sample_at, sig
 use chip_core::{Pair, Sample};
 use std::simd::prelude::*;
 
-/// How many samples the lanes have.
+/// The number of samples that the lanes hold.
 pub(crate) const GROUP: usize = 8;
 
-/// Two parts of each of eight items side by side, from the item at a place.
+/// Two parts of each of eight items side by side, the first item at `at`.
 macro_rules! side_by_side {
     ($list:ident, $at:ident, $one:tt, $other:tt) => {
         [
@@ -91,7 +91,7 @@ pub fn products(samples: &[Sample], signs: &[(i8, i8)], at: usize) -> (i32x8, i3
     )
 }
 
-/// Lanes added one to one.
+/// The sums of corresponding lanes.
 pub fn added(one: i32x8, other: i32x8) -> i32x8
     requires { Each2 (λ a b. unsigned_abs a + unsigned_abs b < 2 ^ 31) one other }
     ensures { result ≡ zip2 (λ a b. a +ℤ b) one other }
@@ -99,7 +99,7 @@ pub fn added(one: i32x8, other: i32x8) -> i32x8
     one + other
 }
 
-/// Returns the sums of products with those of another group of eight samples added.
+/// Adds the products of another group of eight samples to the sums per lane.
 pub fn with_products(
     groups: usize,
     real: i32x8,

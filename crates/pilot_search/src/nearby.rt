@@ -1,4 +1,4 @@
-//! The best phases near the best phase.
+//! The phases of greatest energy near the best phase.
 
 ghost use Rattle.std.specs.Prelude.{◌≡◌, ◌≢◌, ◌<◌, ◌≤◌, ◌+◌, ◌-◌, ◌*◌, ◌↔◌, ◌++◌, IsTrue, length};
 ghost use Rattle.std.specs.Prelude.{replicate, slice_get, Some, pos, ◌-ℤ◌};
@@ -12,7 +12,7 @@ use chip_core::Sample;
 use chip_core::air::CODE_CHIPS;
 use short_code::Codes;
 
-/// How many phases are near the best one: from 32 below it to 32 above it.
+/// The number of phases near the best one: from 32 below it to 32 above it.
 const PLACES: u8 = 65;
 
 /// The place of the best phase itself.
@@ -57,7 +57,7 @@ fn comes_before(one: &Best, other: &Best) -> bool
     one.energy > other.energy || one.energy == other.energy && phase < other_phase
 }
 
-/// The place that comes before all others, two of them left out. `start` is none of the two.
+/// The place that comes before all others except `first` and `second`; `start` is neither of these.
 fn next_place(round: &[Best], first: u8, second: u8, start: u8) -> u8
     requires long { length round.now ≡ 65 }
     requires below { start < 65 }
@@ -76,10 +76,10 @@ fn next_place(round: &[Best], first: u8, second: u8, start: u8) -> u8
 }
 
 /// The `count` phases of greatest energy near the best one, 1 to 3: the first of the 65 phases from
-/// 32 below it to 32 above it, modulo 32,768, by greater energy, then by lesser phase.
+/// 32 below it to 32 above it, modulo 32,768, ordered by greater energy, then by lesser phase.
 ///
-/// `best` is the result of the sweep over all phases, and always the first path. For samples of
-/// zeros the deltas are 0, 1 and 2, with the best phase 0.
+/// `best` is the result of the sweep over all phases, and always the first path. If all samples are
+/// zeros, the best phase is 0 and the deltas are 0, 1 and 2.
 pub fn near(samples: &[Sample], codes: &Codes, best: Best, count: u8) -> Near
     requires few { length samples.now ≤ 32768 }
     requires best { IsBestIn samples.now 0 32768 best.phase best.energy }

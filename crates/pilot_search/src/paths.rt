@@ -4,9 +4,9 @@
 /// arrives.
 #[derive(Clone, Copy, PartialEq, Eq, Debug)]
 pub struct Near {
-    /// How many phases there are, 1 to 3.
+    /// The number of phases, 1 to 3.
     pub count: u8,
-    /// How many chips each of them is above the best phase, -32 to 32, the best one first. Entries
-    /// that aren't used are 0.
+    /// The number of chips by which each of them is above the best phase, -32 to 32, the best one
+    /// first. Unused entries are 0.
     pub deltas: [i8; 3],
 }

@@ -1,4 +1,4 @@
-//! The points of the codes as numbers of 16 bits, as they are and turned by a quarter of a circle.
+//! The points of the codes as 16-bit numbers, unchanged and turned by a quarter of a circle.
 
 ghost use Rattle.pilot_search.specs.Common.{IsUnit};
 ghost use Rattle.std.specs.Prelude.{◌≡◌, length, map, IfOk};
@@ -15,10 +15,10 @@ use std::marker::Model;
 /// The points of all 32,768 chips, and the same points turned: for a chip with the signs c and d,
 /// the point c + d j and the point -d + c j.
 ///
-/// With I and Q of a sample i and q, the real part of its product with the conjugate of the chip's
-/// point is i c + q d, and the imaginary part q c - i d: i and q each times a part of the point,
-/// and each times a part of the point that is turned. All values of this type hold the same points,
-/// and contracts see the signs.
+/// If i and q are I and Q of a sample, its product with the conjugate of the chip's point has the
+/// real part i c + q d and the imaginary part q c - i d. The real part multiplies i and q by the
+/// parts of the point, the imaginary part by those of the turned point. All values of this type
+/// hold the same points, and contracts see the signs.
 #[derive(Drop)]
 pub(crate) struct Points {
     straight: Vec<Sample>,
@@ -64,7 +64,7 @@ fn turned_point(signs: (i8, i8)) -> Sample
 impl Points {
     /// Computes both tables from that of the codes.
     ///
-    /// It allocates 131,072 bytes twice, and that is all that can fail.
+    /// It allocates 131,072 bytes twice. Nothing else can fail.
     pub(crate) fn of(alloc: Global, codes: &Codes) -> Result<Points, OutOfMemory>
         ensures { IfOk result (λ points. points ≡ pilot_signs) }
     {

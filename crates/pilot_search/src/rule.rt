@@ -1,4 +1,4 @@
-//! The rule of the shared word, and what each step on it shows.
+//! The rule of the shared word, and what a seat learns from each step on it.
 
 ghost use Rattle.std.specs.Prelude.{ℕ};
 ghost use Rattle.pilot_search.specs.SharedRule.{IsSharedState, Begun, Loaded, Raised, fresh_view};
@@ -8,8 +8,8 @@ use crate::view::View;
 use atomic_table::{Join, Play, Split, TableRule};
 use std::marker::{Brand, PhantomData};
 
-/// The word lies from the floor to the ceiling of each seat that isn't spent, and all ceilings are
-/// equal.
+/// The rule that the word is between the floor and the ceiling, both included, of each seat that
+/// isn't spent, and that all these ceilings are equal.
 pub struct BestRule;
 
 impl TableRule<(), View, ()> for BestRule {
@@ -18,7 +18,7 @@ impl TableRule<(), View, ()> for BestRule {
     ghost first = { λ _. fresh_view };
 }
 
-/// A number that exists only in contracts and that a call chooses.
+/// A number, chosen by a call, that exists only in contracts.
 pub trait Ceiling {
     ghost ceiling: { ℕ };
 }
@@ -50,7 +50,7 @@ impl Play<(), View> for Raise {
     ghost then = { Raised };
 }
 
-/// Both seats know what the one knew.
+/// The split of a seat into two that both have its knowledge.
 pub struct Same;
 
 impl Split<View> for Same {
@@ -59,7 +59,7 @@ impl Split<View> for Same {
     ghost right = { λ v. v };
 }
 
-/// The seat that is left has the greater floor.
+/// The join of two seats: the one that remains has the greater floor.
 pub struct Greater;
 
 impl Join<View> for Greater {

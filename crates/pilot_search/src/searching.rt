@@ -1,4 +1,4 @@
-//! The sweep by several workers at once, which leave phases that can't be the best.
+//! The sweep by several workers at once, which skip phases that can't be the best.
 
 ghost use Rattle.std.specs.Prelude.{◌≡◌, ◌<◌, ◌≤◌, ◌+◌, ℕ, length, IfOk};
 ghost use denote.Param.Send.{IsSync};
@@ -18,8 +18,8 @@ use short_code::Codes;
 use std::alloc::Global;
 use std::thread::{Threads, join};
 
-/// The better answer of two ranges, of which the left one has the lesser phases: that of greater
-/// energy, and the left one on a tie.
+/// The better result of two ranges: that of greater energy, and the left one on a tie. The left
+/// range has the lesser phases.
 fn better(left: Option<Best>, right: Option<Best>) -> Option<Best>
     ensures { result ≡ better_of left right }
 {
@@ -36,7 +36,7 @@ fn better(left: Option<Best>, right: Option<Best>) -> Option<Best>
     }
 }
 
-/// The first phase of a worker: all phases are parted among the workers as evenly as can be.
+/// The first phase of a worker: the phases are divided among the workers as evenly as possible.
 fn start(worker: u8, workers: u8) -> u16
     requires worker { worker ≤ workers }
     requires workers { 0 < workers }
@@ -69,8 +69,7 @@ fn try_number(
     Some(Best { phase, energy })
 }
 
-/// Tries the phases from `from` to before `to`, in ascending order, and counts those that it
-/// leaves.
+/// Tries the phases from `from` to before `to`, in ascending order, and counts those that it skips.
 fn work(
     shared: &Shared,
     seat: &mut BestSeat,
@@ -102,7 +101,7 @@ fn work(
     (best, unfinished)
 }
 
-/// Runs `count` workers from the number `first` on, each in a thread and with a seat of its own.
+/// Runs `count` workers, numbered from `first` on, each in a thread and with its own seat.
 fn run<R: Threads + Sync, G: Gate + Sync>(
     rt: &R,
     shared: &Shared,
@@ -186,10 +185,10 @@ fn run<R: Threads + Sync, G: Gate + Sync>(
 /// [`sweep`](crate::sweep) over all phases, for any number of workers and any interleaving.
 ///
 /// Worker k of w tries the phases from floor(32768 k / w) to before floor(32768 (k + 1) / w) in
-/// ascending order, by [`try_phase`]. What the workers share is one word, the largest energy that
-/// any of them has published. None waits for another, except that the call returns when all are
-/// done. Each calls [`Gate::arrive`] once before its first phase, and [`Gate::leave`] once after
-/// its last, with the number of its phases for which `try_phase` answered `None`.
+/// ascending order, by [`try_phase`]. The workers share one word, the largest energy that any of
+/// them has published. No worker waits for another; the call returns when all are done. Each calls
+/// [`Gate::arrive`] once before its first phase, and [`Gate::leave`] once after its last, with the
+/// number of its phases for which `try_phase` returned `None`.
 ///
 /// Returns [`OutOfMemory`] if there is no memory for the shared word or for 262,144 bytes of the
 /// codes' points. Nothing else allocates.

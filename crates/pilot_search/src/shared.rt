@@ -30,10 +30,10 @@ impl Model for Shared {
     ghost invariant = { λ s. s.table.shared.table_id.words ≡ 1 };
 }
 
-/// A worker's leave to read and raise the shared word. It takes no memory.
+/// A worker's permission to read and raise the shared word. It takes no memory.
 ///
-/// Contracts see which word it is for, and what its worker knows of it: a floor that the word has
-/// reached, and a ceiling that it never passes.
+/// Contracts see which word it is for, and what its worker knows about it: a floor that the word
+/// has reached, and a ceiling that it never exceeds.
 #[derive(Drop)]
 pub struct BestSeat {
     pub(crate) seat: Seat<(), View>,

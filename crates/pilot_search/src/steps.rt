@@ -14,7 +14,7 @@ use std::alloc::Global;
 use std::marker::Brand;
 
 impl Shared {
-    /// A word of 0, and its first seat.
+    /// Makes a word of 0 and its first seat.
     ///
     /// The ceiling is the largest energy of these samples at any phase. It exists only in
     /// contracts; nothing computes it. Returns [`OutOfMemory`] if there is no memory for the word
@@ -33,7 +33,7 @@ impl Shared {
         Ok((shared, seat))
     }
 
-    /// A word of 0 with a seat that has no ceiling yet.
+    /// Makes a word of 0 with a seat that has no ceiling yet.
     fn open(alloc: Global, codes: &Codes) -> Result<(Shared, BestSeat), OutOfMemory>
         ensures { IfOk result (λ made. (made.1.word ≡ made.0) × (made.1.fresh ≡ true)) }
     {
@@ -65,7 +65,7 @@ impl Shared {
         self.table.shared.load::<Load>(&mut seat.seat, 0)
     }
 
-    /// Raises the word to an energy, if it is below, and returns its old value.
+    /// Raises the word to an energy if it is lower, and returns its old value.
     pub(crate) fn fetch_max(&self, seat: &mut BestSeat, energy: u64) -> u64
         requires seat { IsHeld seat.old self.now }
         requires energy { energy ≤ seat.old.ceiling }
@@ -80,7 +80,7 @@ impl Shared {
             .fetch_max::<Raise>(&mut seat.seat, 0, energy)
     }
 
-    /// One more seat, which knows the same.
+    /// Makes another seat with the same knowledge.
     pub(crate) fn split_seat(&self, seat: &mut BestSeat) -> BestSeat
         requires { IsHeld seat.old self.now }
         ensures kept { seat.new ≡ seat.old }
@@ -91,7 +91,7 @@ impl Shared {
         }
     }
 
-    /// One seat of two.
+    /// Joins two seats into one.
     pub(crate) fn join_seat(&self, seat: &mut BestSeat, other: BestSeat)
         requires seat { IsHeld seat.old self.now }
         requires other { IsHeld other self.now }

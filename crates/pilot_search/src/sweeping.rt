@@ -17,7 +17,7 @@ pub struct Best {
     pub energy: u64,
 }
 
-/// The phase of a number, with the energy there.
+/// Phase number `n`, with the energy there.
 pub(crate) fn measured(samples: &[Sample], codes: &Codes, n: u16) -> Best
     requires few { length samples.now ≤ 32768 }
     requires phase { n < 32768 }
@@ -32,10 +32,10 @@ pub(crate) fn measured(samples: &[Sample], codes: &Codes, n: u16) -> Best
     }
 }
 
-/// The phase of greatest energy of those from `from` to before `to`, the smallest on a tie, with
-/// its energy.
+/// The phase with the greatest energy from `from` to before `to`, the smallest on a tie, and its
+/// energy.
 ///
-/// Every phase of the range is tried. Without samples, or with samples of zeros, each energy is 0.
+/// Every phase of the range is tried. If there are no samples, or all are zeros, each energy is 0.
 pub fn sweep(samples: &[Sample], codes: &Codes, from: u16, to: u16) -> Best
     requires few { length samples.now ≤ 32768 }
     requires order { from < to }

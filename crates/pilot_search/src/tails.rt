@@ -1,4 +1,4 @@
-//! How much the samples that are left can still add.
+//! Bounds on what the remaining samples can add.
 
 ghost use Rattle.std.specs.Prelude.{◌≡◌, ◌<◌, ◌≤◌, ◌+◌, ◌*◌, ◌^◌, length, slice_index};
 ghost use Rattle.std.specs.Prelude.{unsigned_abs};
@@ -7,13 +7,13 @@ ghost use Rattle.pilot_search.specs.Bounds.{AreTails};
 use chip_core::Sample;
 use std::marker::Model;
 
-/// The samples of a chunk: a bound is looked at before each chunk.
+/// The number of samples in a chunk. Bounds are checked only at the beginning of a chunk.
 pub(crate) const CHUNK: usize = 64;
 
-/// The sums of |I| + |Q| over the samples from every 64th on, of at most 32,768 samples.
+/// The sums of |I| + |Q| over the samples from each multiple of 64 on, for at most 32,768 samples.
 ///
-/// However the code falls on these samples, neither part of their correlation is greater. Contracts
-/// see the 512 sums, of which those after the last sample are 0.
+/// At any phase, neither part of the correlation of these samples is above their sum of |I| + |Q|.
+/// Contracts see the 512 sums; those after the last sample are 0.
 #[derive(Drop)]
 pub struct Tails {
     sums: [u64; 512],
@@ -39,7 +39,7 @@ fn magnitude(sample: Sample) -> u64
 }
 
 impl Tails {
-    /// The sums of these samples, added up from the last sample to the first.
+    /// Computes the sums of these samples, from the last sample to the first.
     pub fn of(samples: &[Sample]) -> Tails
         requires { length samples.now ≤ 32768 }
         ensures { AreTails samples.now result }

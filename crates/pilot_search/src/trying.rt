@@ -1,4 +1,4 @@
-//! A worker's try of one phase.
+//! A worker's attempt at one phase.
 
 ghost use Rattle.pilot_search.specs.Common.{plus};
 ghost use Rattle.std.specs.Prelude.{◌≡◌, ◌<◌, ◌≤◌, ◌+◌, ◌*◌, ◌%◌, ◌^◌, ℕ, length, unsigned_abs};
@@ -17,10 +17,10 @@ use chip_core::air::CODE_CHIPS;
 use chip_core::{Pair, Phase, Sample};
 use short_code::Codes;
 
-/// The smallest number of chunks between two checks of the bound, if that many are left.
+/// The least number of chunks between two checks, unless the chunks or the code's period end first.
 const STRIDE: u16 = 4;
 
-/// The largest energy that these sums can lead to, where each part may still change by so much.
+/// The largest energy that is possible if each part of `sum` may still change by `left`.
 fn bound_of(sum: Pair, left: u64) -> u64
     requires i { unsigned_abs sum.i + left ≤ 2 ^ 31 }
     requires q { unsigned_abs sum.q + left ≤ 2 ^ 31 }
@@ -32,9 +32,9 @@ fn bound_of(sum: Pair, left: u64) -> u64
     i * i + q * q
 }
 
-/// Returns how many chunks are added up from chunk `j` on before the bound is looked at again: up
-/// to where it could be below the limit without any sum, and no more than there are before the last
-/// one.
+/// Returns the number of chunks to add from chunk `j` on before the bound is checked again: up to
+/// the first at which it would be below the limit if the sum were 0, and at most up to chunk
+/// `last`.
 fn stride(tails: &Tails, j: u16, last: u16, limit: u64) -> u16
     requires order { j < last }
     requires last { last < 512 }
@@ -54,7 +54,7 @@ fn stride(tails: &Tails, j: u16, last: u16, limit: u64) -> u16
     last - j
 }
 
-/// Two sums added.
+/// Adds two sums.
 fn joined(one: Pair, other: Pair) -> Pair
     requires i { unsigned_abs one.i + unsigned_abs other.i ≤ 2 ^ 31 }
     requires q { unsigned_abs one.q + unsigned_abs other.q ≤ 2 ^ 31 }
@@ -76,8 +76,8 @@ fn later(phase: Phase, chips: u16) -> Phase
     Phase::new((phase.get() + chips) % CODE_CHIPS as u16).unwrap()
 }
 
-/// Returns `chunks` or as many as fit before the code repeats, given the phase at the first of
-/// them; 1 if the code repeats within it.
+/// Returns `chunks`, or the number that fit before the code repeats if that is smaller; 1 if the
+/// code repeats within the first of them. `phase` is the phase at the first one.
 fn before_the_end(chunks: u16, phase: Phase) -> u16
     requires some { 1 ≤ chunks }
     ensures some { 1 ≤ result }
@@ -87,7 +87,7 @@ fn before_the_end(chunks: u16, phase: Phase) -> u16
     chunks.min(whole.max(1))
 }
 
-/// The sum over the chunks before the last one, unless a bound that is looked at before is below
+/// The sum over the chunks before the last one, or `None` if a bound checked on the way is below
 /// the limit.
 fn sum_unless_below(
     samples: &[Sample],
@@ -123,9 +123,9 @@ fn sum_unless_below(
     Some(sum)
 }
 
-/// The energy at a phase, unless a bound on it is below the limit.
+/// The energy at a phase, or `None` if a bound on it is below the limit.
 ///
-/// A bound never rises from chunk to chunk, so the one before the last chunk decides.
+/// The bound never rises from chunk to chunk, so the one before the last chunk decides.
 fn energy_unless_below(
     samples: &[Sample],
     codes: &Codes,
@@ -152,16 +152,16 @@ fn energy_unless_below(
     Some(norm_of(joined(sum, part)))
 }
 
-/// The energy of the samples at a phase, which is then published; `None` if it can't be the
+/// Returns the energy of the samples at a phase after publishing it, or `None` if it can't be the
 /// largest.
 ///
-/// It reads the shared word once. Then it adds the samples up. With the sums so far, and the sum of
-/// |I| + |Q| over the samples that are left, the energy is at most (|re| + left)^2 + (|im| +
-/// left)^2. If this is below the value read before any chunk of 64 samples, some other phase has a
-/// greater energy, and the phase is left. If the bound equals the value read the phase isn't left,
-/// since it may be the first of several that have the largest energy. Since the bound never rises,
-/// it is looked at where it could be below without any sum, at most once in four chunks, and before
-/// the last one.
+/// It reads the shared word once, then adds the samples up. If re and im are the sums so far, and
+/// left is the sum of |I| + |Q| over the remaining samples, the energy is at most (|re| + left)^2 +
+/// (|im| + left)^2. If before any chunk of 64 samples this bound is below the value read, another
+/// phase has a greater energy, and this phase is skipped. If they are equal, it isn't skipped,
+/// since it may be the first of several with the largest energy. The bound never rises, so it is
+/// checked only before the first and the last chunk, around the code's repetition, and, at most
+/// once in four chunks, where it would be below if the sums were 0.
 pub fn try_phase(
     shared: &Shared,
     seat: &mut BestSeat,

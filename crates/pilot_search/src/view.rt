@@ -1,13 +1,14 @@
 //! Knowledge of a seat of the shared word.
 
-/// A worker's knowledge of the shared word. It exists only in contracts; no value of it is made.
+/// A worker's knowledge of the shared word. It exists only in contracts; no value of this type is
+/// made.
 pub struct View {
-    /// The ceiling isn't given yet.
+    /// Whether the ceiling has not been set yet.
     pub fresh: bool,
-    /// The seat was joined to another one and has no knowledge left.
+    /// Whether the seat has no knowledge, because it is fresh or was joined to another one.
     pub spent: bool,
-    /// The word was at least this when the seat last saw it.
+    /// A value that the word had reached when the seat last saw it.
     pub floor: u64,
-    /// The word never rises above this.
+    /// A value that the word never exceeds.
     pub ceiling: u64,
 }

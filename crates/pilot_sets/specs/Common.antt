@@ -1,4 +1,4 @@
--- What the definitions of this crate cite of the crates below, and of its own types.
+-- Names that the definitions of this crate use, from other crates and of its own types.
 pub use Rattle.traffic_message.specs.declared.fields.DirectionFields.{DirectionFields}
 pub use Rattle.pilot_sets.specs.declared.change.SetChange.{SetChange}
 pub use Rattle.pilot_sets.specs.declared.fault.DirectionFault.{DirectionFault}

@@ -19,7 +19,7 @@ pub record IsDirection (d : DirectionFields) : Type 0 where
 abbrev pub is_unknown_row : ℕ → Bool
 is_unknown_row row = row == 0 || row == 32 || nat_lt 63 row
 
--- the first of the pilots that stands there a second time
+-- the first pilot that is in `seen` or occurs a second time
 abbrev pub first_repeated : List ℕ → List ℕ → Option ℕ
 first_repeated seen [] = None
 first_repeated seen (p ∷ pilots) = if has seen p then Some p else first_repeated (p ∷ seen) pilots
@@ -32,7 +32,7 @@ abbrev pub unknown_or_twice : Option ℕ → Option ℕ → Option DirectionFaul
 unknown_or_twice (Some row) repeated = Some (Unknown row)
 unknown_or_twice None repeated = twice repeated
 
--- the fault of pilots on rows, record by record
+-- the fault of a direction with these pilots and rows, record by record
 abbrev pub direction_fault_of : List ℕ → List ℕ → Option DirectionFault
 direction_fault_of pilots rows =
     if nat_lt 6 (length pilots) then Some (TooMany (length pilots))
@@ -42,13 +42,13 @@ abbrev pub direction_fault : DirectionFields → Option DirectionFault
 direction_fault d = direction_fault_of d.pns d.rows
 
 -- WHEN IT TAKES EFFECT
--- where m is the time of the first moment that isn't before the end of its message: at the next
--- one, or at the least from m on that is the action time modulo 64
+-- at m + 1 if it has no action time, otherwise at the least time from m on that equals the action
+-- time modulo 64; m is the time of the first moment at or after the end of its message
 abbrev pub direction_time : ℕ → DirectionFields → ℕ
 direction_time m d = if d.use_time == 0 then m + 1 else m + (d.action + 64 - m % 64) % 64
 
 -- WHAT IT ORDERS
--- the pilots of its records, of the three lists of one length
+-- the pilots of its records, from three lists of equal length
 abbrev pub named_pilots : List ℕ → List ℕ → List ℕ → List NamedPilot
 named_pilots [] combs rows = []
 named_pilots (p ∷ ps) [] rows = []

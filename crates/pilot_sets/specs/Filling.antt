@@ -29,7 +29,7 @@ filled-held filler {room} f h =
     places-held filler room f.places f.count h in
     rw (places, length-filled filler room f.places f.count h)
 
--- one thing more
+-- another thing in the first free place keeps the array filled
 pub filled_more : {X : Type 0} (filler : X) (room : ℕ) (places : List X) (count : ℕ) (thing : X) →
     IsFilled filler room places count → count < room →
     IsFilled filler room (slice_set places count thing) (count + 1)

@@ -12,7 +12,7 @@ abbrev pub is_for : ℕ → Option Accepted → Bool
 is_for time None = false
 is_for time (Some direction) = direction.time == time
 
--- the thresholds with those that a direction carries, SRCH_WIN_N not among them
+-- the thresholds updated by those that a direction carries, which never include SRCH_WIN_N
 abbrev pub with_search : Option Search → Thresholds → Thresholds
 with_search None t = t
 with_search (Some s) t = record t {
@@ -73,7 +73,7 @@ abbrev pub all_left : ℕ → List ActivePilot → PilotSets → PilotSets
 all_left time [] s = s
 all_left time (a ∷ actives) s = all_left time actives (left time a s)
 
--- with the direction's thresholds, and its pilots out of the other sets
+-- with the direction's thresholds, and without its pilots in the other sets
 abbrev pub cleared : Accepted → PilotSets → PilotSets
 cleared direction s = record s {
   thresholds = with_search direction.search s.thresholds;

@@ -28,7 +28,7 @@ abbrev pub after_all : List Call → Standing → Standing
 after_all [] s = s
 after_all (call ∷ calls) s = after_all calls (after_call call s)
 
--- what the calls ask of what they are given
+-- the requirements of the calls on their arguments
 abbrev pub IsLawfulCall : Call → Type 0
 IsLawfulCall (Parameters t) = Unit {0}
 IsLawfulCall (Neighbors heard) = All (λ p. p < 512) heard
@@ -37,8 +37,7 @@ IsLawfulCall (Due time) = Unit {0}
 IsLawfulCall (Step strengths power time) = Unit {0}
 
 -- THE SETS
--- no pilot is in two sets or in one twice, some pilot is active, and the lists are within their
--- limits
+-- no pilot is in two sets or twice in one, at least one is active, and no list exceeds its limit
 pub record AreApart (s : PilotSets) : Type 0 where
   pub once : (p : ℕ) → times_in p s ≤ 1
   pub some : 1 ≤ length s.active
@@ -47,8 +46,7 @@ pub record AreApart (s : PilotSets) : Type 0 where
   pub neighbors : length s.neighbors ≤ 20
 
 -- DIRECTIONS
--- a call at which no other direction takes the place of one that waits, and whose time isn't that
--- one's
+-- a call that neither replaces the waiting direction nor applies it at its time
 abbrev pub LeavesWaiting : Accepted → Call → Type 0
 LeavesWaiting direction (Parameters t) = Unit {0}
 LeavesWaiting direction (Neighbors heard) = Unit {0}
@@ -57,7 +55,7 @@ LeavesWaiting direction (Direct first d) =
 LeavesWaiting direction (Due time) = time ≢ direction.time
 LeavesWaiting direction (Step strengths power time) = Unit {0}
 
--- the least time from a first one on that is an action time modulo 64
+-- the least time from `first` on that equals the action time modulo 64
 pub record IsNextAt (first action time : ℕ) : Type 0 where
   pub from : first ≤ time
   pub at_action : time % 64 ≡ action
@@ -78,11 +76,11 @@ abbrev pub IsAmong : (ℕ × Option ℕ) → List (ℕ × Option ℕ) → Type 0
 IsAmong x [] = ⊥
 IsAmong x (y ∷ ys) = (x ≡ y) ⊎ IsAmong x ys
 
--- a pilot's timer runs since a time
+-- a pilot's timer has run since time `start`
 abbrev pub RunsSince : ℕ → ℕ → PilotSets → Type 0
 RunsSince pilot start s = IsAmong (pilot, Some start) (timers s)
 
--- the time of a call that starts timers
+-- the call may start timers, and its time is `start`
 abbrev pub Starts : ℕ → Call → Type 0
 Starts start (Parameters t) = ⊥
 Starts start (Neighbors heard) = ⊥

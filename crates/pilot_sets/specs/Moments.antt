@@ -12,7 +12,7 @@ use Rattle.pilot_sets.specs.Handoffs.{fresh}
 use Rattle.pilot_sets.specs.declared.strengths.Strength.{Strength}
 
 -- THE STRENGTHS
--- the energy of a pilot: that of its first strength, or 0 where it has none
+-- the energy of a pilot: that of its first strength, or 0 if it has none
 abbrev pub energy_in : List Strength → ℕ → ℕ
 energy_in [] pilot = 0
 energy_in (s ∷ strengths) pilot = if s.pilot == pilot then s.energy else energy_in strengths pilot
@@ -26,8 +26,7 @@ abbrev pub candidate_timed : (ℕ → ℕ) → ℕ → ℕ → ℕ → Candidate
 candidate_timed energy k power time c =
     record c { timer = timer_after (is_strong k power (energy c.pilot)) time c.timer }
 
--- the timers of active pilots and candidates start where they are weak, and stop where they are
--- strong
+-- the timers of weak active pilots and candidates start, and those of strong ones stop
 abbrev pub timed : (ℕ → ℕ) → ℕ → ℕ → PilotSets → PilotSets
 timed energy power time s = record s {
   active = map (active_timed energy s.thresholds.t_drop power time) s.active;
@@ -54,8 +53,8 @@ expired_moved time s = record s {
 abbrev pub rises : (ℕ → ℕ) → ℕ → ℕ → List ℕ → ℕ → Bool
 rises energy k power began p = has began p && is_strong k power (energy p)
 
--- the neighbors that move up: those that were neighbors when the moment began, are strong, and
--- find room
+-- the neighbors that move up, as long as there is room: those that are strong and were already
+-- neighbors when the moment began
 abbrev pub rising : (ℕ → ℕ) → ℕ → List ℕ → PilotSets → List ℕ
 rising energy power began s =
     take (10 - length s.candidates)
@@ -80,17 +79,17 @@ has_above energy s =
 abbrev pub has_expired : ℕ → PilotSets → Bool
 has_expired time s = list_any (λ (a : ActivePilot). is_expired s.thresholds time a.timer) s.active
 
--- a report is due where pilots moved up, an active pilot's timer has expired, or a candidate is
--- above an active pilot
+-- a report is due if pilots moved up, an active pilot's timer has expired, or a candidate is above
+-- an active pilot
 abbrev pub is_report_due : (ℕ → ℕ) → ℕ → List ℕ → PilotSets → Bool
 is_report_due energy time up s = nat_lt 0 (length up) || has_expired time s || has_above energy s
 
 -- THE MOMENT
--- the sets with their timers, after the moves of candidates
+-- the sets after the timers were updated and the expired candidates were moved
 abbrev pub dropped : (ℕ → ℕ) → ℕ → ℕ → PilotSets → PilotSets
 dropped energy power time s = expired_moved time (timed energy power time s)
 
--- the neighbors that move up, those that were neighbors when the moment began being `began`
+-- the neighbors that move up; `began` contains the neighbors when the moment began
 abbrev pub moving_up : (ℕ → ℕ) → ℕ → ℕ → List ℕ → PilotSets → List ℕ
 moving_up energy power time began s = rising energy power began (dropped energy power time s)
 

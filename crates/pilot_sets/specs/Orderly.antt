@@ -1,5 +1,5 @@
--- Sets in order: no pilot is in two sets or in one twice, each is an offset below 512, some pilot
--- is active, and the direction that waits orders such an active set.
+-- Sets in order: no pilot is in two sets or twice in one, each is an offset below 512, at least one
+-- is active, and a waiting direction orders such an active set.
 use Rattle.pilot_sets.specs.Common.{ActivePilot, NamedPilot, Accepted, PilotSets}
 use Rattle.std.specs.Prelude.{ℕ, ℤ, ◌+◌, ◌<◌, ◌≤◌, ◌≡◌, cond, List, [], ◌∷◌, length, nat_eq, nat_lt}
 use Rattle.std.specs.Prelude.{Option, Some, None}
@@ -7,17 +7,17 @@ use Rattle.std.specs.List.{All}
 use Rattle.pilot_sets.specs.PilotSets.{active_pilots, candidate_pilots}
 use Rattle.pilot_sets.specs.Handoffs.{pilots_named}
 
--- how often a pilot stands in a list
+-- the number of times that a pilot occurs in a list
 abbrev pub times_listed : ℕ → List ℕ → ℕ
 times_listed p [] = 0
 times_listed p (x ∷ xs) = cond (nat_eq p x) 1 0 + times_listed p xs
 
--- how often it stands in the three sets
+-- the number of times that it occurs in the three sets
 abbrev pub times_in : ℕ → PilotSets → ℕ
 times_in p s = times_listed p (active_pilots s)
     + (times_listed p (candidate_pilots s) + times_listed p s.neighbors)
 
--- how often a number may stand there: once, where it is an offset
+-- the number of times that a number may occur there: 1 if it is an offset, otherwise 0
 abbrev pub places_for : ℕ → ℕ
 places_for p = cond (nat_lt p 512) 1 0
 
@@ -44,7 +44,7 @@ pub record IsOrderly (s : PilotSets) : Type 0 where
   pub rows : AreOnRows s.active
   pub waiting : IsActiveSetIfAny s.waiting
 
--- with a delta for each offset
+-- orderly sets with a delta for each offset
 pub record IsStanding (s : PilotSets) (deltas : List ℤ) : Type 0 where
   pub sets : IsOrderly s
   pub long : length deltas ≡ 512

@@ -1,5 +1,5 @@
--- The pilot sets of a handset (after TIA/EIA-95-B, 6.6.6.2), on whole lists, and how they change
--- between moments.
+-- The pilot sets of a handset (after TIA/EIA-95-B, 6.6.6.2) as lists, and how they change between
+-- moments.
 use Rattle.pilot_sets.specs.Common.{Thresholds, ActivePilot, CandidatePilot, PilotSets}
 use Rattle.std.specs.Prelude.{ℕ, List, [], ◌∷◌, ◌++◌, map, take, None}
 use Rattle.pilot_sets.specs.Pilots.{firsts, without}
@@ -39,7 +39,7 @@ new_sets pilot row = record {
 }
 
 -- BETWEEN MOMENTS
--- a new neighbor list: the first of equal pilots, without those that have a timer, cut to 20
+-- the new neighbors: the first 20 distinct pilots of a list that have no timer
 abbrev pub neighbors_heard : List ℕ → PilotSets → PilotSets
 neighbors_heard heard s =
     record s { neighbors = take 20 (without (timed_pilots s) (firsts [] heard)) }

@@ -13,7 +13,7 @@ lacks others p = not (has others p)
 abbrev pub without : List ℕ → List ℕ → List ℕ
 without others pilots = filter (lacks others) pilots
 
--- the first of equal pilots
+-- the pilots that aren't in `seen`, without their repeats
 abbrev pub firsts : List ℕ → List ℕ → List ℕ
 firsts seen [] = []
 firsts seen (p ∷ pilots) = if has seen p then firsts seen pilots else p ∷ firsts (p ∷ seen) pilots

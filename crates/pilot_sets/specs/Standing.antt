@@ -14,8 +14,8 @@ use Rattle.pilot_sets.specs.declared.lists.Active.{Active}
 use Rattle.pilot_sets.specs.declared.strengths.Strength.{Strength}
 use Rattle.pilot_sets.specs.declared.standing.Began.{Began}
 
--- the sets; the lists when the moment began, where a direction took effect since the last step; and
--- the last delta of each pilot
+-- the sets; the lists when the moment began, if a direction has taken effect since the last step;
+-- and the last delta of each pilot
 pub record Standing : Type 0 where
   pub sets : PilotSets
   pub began : Option Began
@@ -46,7 +46,7 @@ with_neighbors heard s = record s { sets = neighbors_heard heard s.sets }
 abbrev pub with_waiting : Accepted → Standing → Standing
 with_waiting direction s = record s { sets = record s.sets { waiting = Some direction } }
 
--- an accepted direction waits, and replaces one that waited; one that is refused changes nothing
+-- an accepted direction waits, and replaces a waiting one; a refused one changes nothing
 abbrev pub unless_refused : Option DirectionFault → Accepted → Standing → Standing
 unless_refused None direction s = with_waiting direction s
 unless_refused (Some fault) direction s = s
@@ -63,7 +63,7 @@ began_now s = record { active = s.active; candidates = s.candidates; neighbors =
 abbrev pub began_in : Standing → Began
 began_in s = unwrap_or s.began (began_now s.sets)
 
--- the direction that waits takes effect, if this is its time
+-- the waiting direction takes effect if this is its time
 abbrev pub due_for : Option Accepted → ℕ → Standing → Standing
 due_for None time s = s
 due_for (Some direction) time s =
@@ -74,7 +74,7 @@ due_for (Some direction) time s =
 abbrev pub due_at : ℕ → Standing → Standing
 due_at time s = due_for s.sets.waiting time s
 
--- each measured pilot's delta in its place
+-- the deltas, updated by those of the measured pilots
 abbrev pub deltas_with : List Strength → List ℤ → List ℤ
 deltas_with [] deltas = deltas
 deltas_with (s ∷ strengths) deltas = deltas_with strengths (slice_set deltas s.pilot s.delta)
@@ -86,7 +86,7 @@ stepped strengths power time s = record {
   deltas = deltas_with strengths s.deltas;
 }
 
--- the active or the candidate list isn't what it was
+-- whether the active or the candidate list has changed, apart from timers
 abbrev pub is_same_active : ActivePilot → ActivePilot → Bool
 is_same_active a b = a.pilot == b.pilot && a.row == b.row && a.subchannel == b.subchannel
 

@@ -7,7 +7,7 @@ drop_timers =
     100 ∷ 1000 ∷ 2000 ∷ 4000 ∷ 6000 ∷ 9000 ∷ 13000 ∷ 19000 ∷ 27000 ∷ 39000 ∷ 55000 ∷ 79000 ∷ 112000
     ∷ 159000 ∷ 225000 ∷ 319000 ∷ []
 
--- how long a timer runs, in milliseconds (T_TDROP)
+-- the time that a timer runs, in milliseconds (T_TDROP)
 abbrev pub drop_timer_ms : ℕ → ℕ
 drop_timer_ms k = get_or drop_timers k 0
 
@@ -15,7 +15,7 @@ abbrev pub search_windows : List ℕ
 search_windows =
     4 ∷ 6 ∷ 8 ∷ 10 ∷ 14 ∷ 20 ∷ 28 ∷ 40 ∷ 60 ∷ 80 ∷ 100 ∷ 130 ∷ 160 ∷ 226 ∷ 320 ∷ 452 ∷ []
 
--- how wide a search window is, in chips (SRCH_WIN_A, SRCH_WIN_N)
+-- the width of a search window, in chips (SRCH_WIN_A, SRCH_WIN_N)
 abbrev pub search_window_chips : ℕ → ℕ
 search_window_chips k = get_or search_windows k 0
 
@@ -29,6 +29,6 @@ ratios =
     ∷ 3162 ∷ 2818 ∷ 2512 ∷ 2239 ∷ 1995 ∷ 1778 ∷ 1585 ∷ 1413 ∷ 1259 ∷ 1122
     ∷ 1000 ∷ 891 ∷ 794 ∷ 708 ∷ []
 
--- the ratio of k half decibels below 0, in millionths (T_ADD, T_DROP, T_COMP)
+-- the ratio k half decibels below 0 dB, in millionths (T_ADD, T_DROP, T_COMP)
 abbrev pub ratio : ℕ → ℕ
 ratio k = get_or ratios k 0

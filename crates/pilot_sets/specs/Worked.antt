@@ -46,7 +46,7 @@ direction use_time action legs = record {
   rest = [];
 }
 
--- with thresholds, of which the last is T_TDROP
+-- a direction that carries thresholds with this T_TDROP
 searching : ℕ → DirectionFields → DirectionFields
 searching ttdrop d =
     record d {
@@ -107,8 +107,8 @@ crowded candidates neighbors = record home.sets {
 leaving : Option ℕ → ActivePilot
 leaving timer = record { pilot = 7; row = 10; subchannel = 0; timer = timer }
 
--- how many candidates and neighbors there are after it, where its timer has run for 49 or 50
--- moments of 80 ms or doesn't run, and the drop timer is 4,000 ms
+-- the numbers of candidates and neighbors after it has left, if its timer has run for 49 or 50
+-- moments of 80 ms or doesn't run; the drop timer is 4,000 ms
 numbers : List (ℕ × ℕ × Option ℕ) → List (ℕ × ℕ)
 numbers [] = []
 numbers ((candidates, neighbors, timer) ∷ cases) =
@@ -129,8 +129,8 @@ unfolding numbers crowded leaving home
 room = refl
 
 -- HISTORIES
--- what is left of calls of new sets of pilot 7 on row 10: the active set as pilot, row and
--- subchannel, the candidates, the neighbors, and the timers that run; and of each step, whether the
+-- the state after calls on new sets of pilot 7 on row 10: the active set as pilot, row and
+-- subchannel, the candidates, the neighbors and the running timers; and for each step, whether the
 -- lists have changed and whether a report is due
 abbrev running : List (ℕ × Option ℕ) → List (ℕ × ℕ)
 running [] = []
@@ -184,7 +184,7 @@ rises : story
 unfolding story strength thresholds direction searching leg
 rises = refl
 
--- a timer starts where a pilot is weak, goes on, and stops where it is strong
+-- a timer starts when its pilot is weak, continues, and stops when the pilot is strong
 stops : story
     (Parameters (thresholds 0 0 15 15)
     ∷ Step (strength 7 1023 ∷ []) 1 1
@@ -314,7 +314,7 @@ leaves : story
 unfolding story strength thresholds direction searching leg
 leaves = refl
 
--- but where its timer has expired by the direction's own drop time, a neighbor
+-- but it becomes a neighbor if its timer has expired by the direction's own drop time
 leaves_late : story
     (Parameters (thresholds 0 0 15 15)
     ∷ Neighbors (8 ∷ [])
@@ -328,7 +328,7 @@ leaves_late : story
 unfolding story strength thresholds direction searching leg
 leaves_late = refl
 
--- and by a longer one not
+-- and a candidate if the direction's drop time is longer
 leaves_in_time : story
     (Parameters (thresholds 0 0 15 0)
     ∷ Neighbors (8 ∷ [])
@@ -348,7 +348,7 @@ leaves_in_time : story
 unfolding story strength thresholds direction searching leg
 leaves_in_time = refl
 
--- the first combination bit says nothing; each later one joins a pilot to the one before it
+-- the first combination bit has no effect; each later one joins a pilot to the one before it
 subchannels : story
     (Direct 0 (direction 0 0 (leg 1 1 1 ∷ leg 2 1 2 ∷ leg 3 0 3 ∷ leg 4 1 4 ∷ leg 5 0 5
     ∷ leg 6 0 6 ∷ []))
@@ -379,7 +379,7 @@ action_time : story
 unfolding story strength thresholds direction searching leg
 action_time = refl
 
--- a later direction takes the place of one that waits
+-- a later direction replaces a waiting one
 replaced : story
     (Direct 10 (direction 1 20 (leg 8 0 20 ∷ []))
     ∷ Direct 12 (direction 0 0 (leg 9 0 21 ∷ []))
@@ -392,7 +392,7 @@ replaced : story
 unfolding story strength thresholds direction searching leg
 replaced = refl
 
--- a refused one doesn't
+-- a refused direction doesn't
 refused_waits : story
     (Direct 10 (direction 0 0 (leg 8 0 20 ∷ []))
     ∷ Direct 10 (direction 0 0 (leg 9 0 32 ∷ []))

@@ -3,8 +3,8 @@
 /// The result of an evaluation of the pilot sets at one moment.
 #[derive(Clone, Copy, PartialEq, Eq, Debug)]
 pub struct SetChange {
-    /// The active or the candidate list isn't what it was when the moment began.
+    /// Whether the active or the candidate list differs from that at the beginning of the moment.
     pub changed: bool,
-    /// A pilot strength report is due.
+    /// Whether a pilot strength report is due.
     pub report: bool,
 }

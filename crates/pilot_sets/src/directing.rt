@@ -14,14 +14,14 @@ use crate::standing::{Accepted, NamedPilot};
 use chip_core::Numbers;
 use traffic_message::DirectionFields;
 
-/// Whether no traffic channel has a row.
+/// Whether no traffic channel can have this row.
 fn is_unknown(row: u32) -> bool
     ensures { result ≡ is_unknown_row row }
 {
     row == 0 || row == 32 || row > 63
 }
 
-/// The first row that no traffic channel has.
+/// Returns the first row that no traffic channel can have.
 fn unknown_row(rows: &Numbers) -> Option<u8>
     requires { All (λ r. r < 256) rows.now }
     ensures { result ≡ find is_unknown_row rows.now }
@@ -52,7 +52,7 @@ fn repeated(pilots: &Numbers) -> Option<u16>
     None
 }
 
-/// Why a direction is refused; `None` if it isn't.
+/// Returns why a direction is refused, or `None` if it isn't.
 pub(crate) fn direction_fault(d: &DirectionFields) -> Option<DirectionFault>
     requires { IsDirection d.now }
     ensures { result ≡ fault_of_direction d.now }

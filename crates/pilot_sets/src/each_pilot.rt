@@ -47,7 +47,7 @@ impl<T: Filler> EachPilot<T> {
         EachPilot { list: Few::empty() }
     }
 
-    /// Returns how many items the list has.
+    /// Returns the number of items in the list.
     pub fn len(&self) -> u8
         ensures value { result ≡ length self.now }
         ensures most { result ≤ 36 }
@@ -70,8 +70,8 @@ impl<T: Filler> EachPilot<T> {
         self.list.all()[usize::from(i)]
     }
 
-    /// Adds an item at the end. Returns `Full` exactly if the list has 36 items; it is unchanged
-    /// then.
+    /// Adds an item at the end. Returns `Full`, and changes nothing, exactly if the list has 36
+    /// items.
     pub fn push(&mut self, thing: T) -> Result<(), Full>
         ensures room { IsOk result ↔ (length self.old < 36) }
         ensures ok { OnOk result (self.new ≡ self.old ++ thing ∷ []) }

@@ -1,17 +1,17 @@
-//! Why a handoff direction is refused.
+//! The reason why a handoff direction is refused.
 
 use thiserror::Error;
 
-/// Why a handoff direction is refused.
+/// The reason why a handoff direction is refused.
 #[derive(Clone, Copy, PartialEq, Eq, Debug, Error)]
 pub enum DirectionFault {
-    /// It has more than 6 records.
+    /// More than 6 records.
     #[error("{count} records")]
     TooMany { count: u8 },
-    /// A row is one that no traffic channel has: 0, 32, or above 63. It is the first such.
+    /// A row that no traffic channel can have: 0, 32, or above 63. `row` is the first of them.
     #[error("row {row}")]
     Unknown { row: u8 },
-    /// A pilot is named twice. It is the first that is named again.
+    /// A pilot that is named twice. `pilot` is the first that occurs a second time.
     #[error("pilot {pilot} twice")]
     Twice { pilot: u16 },
 }

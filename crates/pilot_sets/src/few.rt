@@ -16,7 +16,7 @@ pub trait Filler: Copy {
 
 /// A list of at most `N` items. Contracts see the list.
 ///
-/// The places that aren't used hold the filler, so that lists can be copied and compared.
+/// Unused places contain the filler, so that lists can be copied and compared.
 #[derive(Copy, PartialEq, Eq, Debug)]
 pub(crate) struct Few<T: Filler, const N: usize> {
     places: [T; N],

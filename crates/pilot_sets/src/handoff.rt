@@ -27,7 +27,7 @@ fn named_pilots(named: &[NamedPilot]) -> Few<u16, 6>
     pilots
 }
 
-/// The thresholds with those that a direction carries.
+/// Returns the thresholds updated by those that a direction carries.
 fn with_search(thresholds: Thresholds, search: Option<Search>) -> Thresholds
     ensures { result ≡ with_search_by search thresholds }
 {
@@ -128,7 +128,7 @@ pub(crate) fn fresh(pilot: u16) -> CandidatePilot
     CandidatePilot { pilot, timer: None }
 }
 
-/// An active pilot leaves the active set.
+/// Moves a leaving active pilot to the candidates or the neighbors, or drops it.
 fn leave(sets: &mut PilotSets, time: u64, active: &ActivePilot)
     requires { time < 2 ^ 40 }
     ensures { sets.new ≡ left time active.now sets.old }
@@ -141,7 +141,7 @@ fn leave(sets: &mut PilotSets, time: u64, active: &ActivePilot)
     }
 }
 
-/// Active pilots leave the active set, one after another.
+/// Moves or drops all leaving active pilots, one after another.
 fn leave_all(sets: &mut PilotSets, time: u64, leaving: &[ActivePilot])
     requires { time < 2 ^ 40 }
     ensures { sets.new ≡ all_left time leaving.now sets.old }
@@ -151,7 +151,7 @@ fn leave_all(sets: &mut PilotSets, time: u64, leaving: &[ActivePilot])
     }
 }
 
-/// A direction takes effect.
+/// Applies a direction.
 pub(crate) fn hand_off(sets: &mut PilotSets, time: u64, direction: &Accepted)
     requires { time < 2 ^ 40 }
     ensures { sets.new ≡ handed_off time direction.now sets.old }

@@ -10,7 +10,7 @@ use crate::pilots::{has, has_timer};
 use crate::standing::PilotSets;
 use chip_core::Numbers;
 
-/// The first of equal pilots.
+/// The pilots without their repeats, in the order of their first occurrences.
 fn firsts(pilots: &Numbers) -> Few<u16, 128>
     requires { All (λ p. p < 512) pilots.now }
     ensures { result ≡ firsts_of [] pilots.now }
@@ -38,8 +38,8 @@ fn free_pilots(sets: &PilotSets, pilots: &[u16]) -> Few<u16, 20>
     free
 }
 
-/// Replaces the neighbors by a new list: the first of equal pilots, without those that are active
-/// or candidates, cut to 20.
+/// Replaces the neighbors with the first 20 distinct pilots of a new list that are neither active
+/// nor candidates.
 pub(crate) fn hear_neighbors(sets: &mut PilotSets, pilots: &Numbers)
     requires { All (λ p. p < 512) pilots.now }
     ensures { sets.new ≡ neighbors_heard pilots.now sets.old }

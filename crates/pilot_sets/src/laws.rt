@@ -15,8 +15,8 @@ ghost use Rattle.traffic_message.specs.declared.fields.DirectionFields.{
   DirectionFields as TheDirection,
 };
 
-/// Whatever is called of new sets, in any order and however often: no pilot is in two sets or in
-/// one twice, some pilot is active, and no list is longer than its limit.
+/// After any lawful calls on new sets, no pilot is in two sets or twice in one, at least one pilot
+/// is active, and no list is longer than its limit.
 pub fn sets_stay_apart()
     ensures { (pilot row : ℕ) (calls : List Call) →
         pilot < 512 →
@@ -51,8 +51,9 @@ pub fn directions_wait_for_their_time()
         } }
 {}
 
-/// A direction without an action time takes effect one moment after the first that it could; one
-/// with an action time at the next moment whose time is that modulo 64, the first included.
+/// A direction without an action time takes effect one moment after `first`. One with an action
+/// time takes effect at the earliest moment, from `first` on, whose time modulo 64 is the action
+/// time.
 pub fn directions_take_the_next_action_time()
     ensures at_once { (first : ℕ) (d : TheDirection) →
         d.use_time ≡ 0 →
@@ -63,9 +64,9 @@ pub fn directions_take_the_next_action_time()
         IsNextAt first d.action (direction_time first d) }
 {}
 
-/// A timer that runs after a call ran before it, of a pilot that was active or a candidate, or the
-/// call is a step and its time is when the timer started. So a pilot's timer runs only while the
-/// pilot is active or a candidate: if it leaves both sets, its timer starts again.
+/// A timer that runs after a call ran before it, or the call is a step and its time is the timer's
+/// start. A pilot's timer runs only while the pilot is active or a candidate. So leaving both sets
+/// ends it, and only a later step can start it again.
 pub fn timers_run_in_their_sets()
     ensures keeps { (call : Call) (pilot start : ℕ) (s : Standing) →
         RunsSince pilot start (after_call call s).sets →

@@ -1,10 +1,11 @@
 //! The pilot sets of a handset, and soft handoff.
 //!
 //! A handset tells base stations apart by the offsets of their pilots. It keeps a few of them in
-//! three sets (TIA/EIA-95-B, 6.6.6.2): the active set, whose traffic channels it reads, candidates,
-//! which are strong enough to be read, and neighbors, which may become so. At each moment, every 80
-//! ms, pilots move between the sets by how strong they are, and a handoff direction may order
-//! another active set. This crate sees only strengths and messages, not the signal.
+//! three sets (TIA/EIA-95-B, 6.6.6.2): the active set, whose traffic channels it receives;
+//! candidates, which are strong enough to be received; and neighbors, which may become so. At each
+//! moment, every 80 ms, pilots move between the sets according to their strengths, and a handoff
+//! direction may order another active set. This crate sees only strengths and messages, not the
+//! signal.
 #![tactic(auto)]
 
 mod change;

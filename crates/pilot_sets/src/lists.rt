@@ -1,4 +1,4 @@
-//! The lists that the sets show.
+//! The lists of pilots that the sets return.
 
 ghost use Rattle.std.specs.Prelude.{◌≡◌, ◌<◌, ◌≤◌, length, map, slice_get, Some};
 ghost use Rattle.pilot_sets.specs.Standing.{shown_active};
@@ -51,7 +51,7 @@ impl Model for ActiveList {
 }
 
 impl ActiveList {
-    /// Returns how many pilots the set has, 1 to 6.
+    /// Returns the number of pilots in the set, 1 to 6.
     #[allow(clippy::len_without_is_empty)]
     pub fn len(&self) -> u8
         ensures value { result ≡ length self.now }
@@ -70,10 +70,10 @@ impl ActiveList {
     }
 }
 
-/// A list of at most 36 pilots, each its offset (PILOT_PN).
+/// A list of the offsets (PILOT_PN) of at most 36 pilots.
 pub type PilotList = EachPilot<u16>;
 
-/// The active set, as it is shown.
+/// The active set as callers see it, without timers.
 pub(crate) fn active_list(actives: &[ActivePilot]) -> ActiveList
     requires least { 1 ≤ length actives.now }
     requires most { length actives.now ≤ 6 }

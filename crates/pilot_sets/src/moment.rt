@@ -1,5 +1,5 @@
-//! A moment, the evaluation of the pilot sets: what they go through once the direction for its time
-//! has taken effect, and whether their lists have changed.
+//! A moment, the evaluation of the pilot sets: its steps after the direction for its time has taken
+//! effect, and whether the lists have changed.
 
 ghost use Rattle.std.specs.Prelude.{◌≡◌, ◌<◌, ◌≤◌, ◌^◌, length, nat_eq};
 ghost use Rattle.std.specs.Cmp.Lexicographic.{pointwise};
@@ -25,7 +25,7 @@ pub(crate) fn began_now(sets: &PilotSets) -> Began
     }
 }
 
-/// Performs the third and fourth step of a moment; `began` has the neighbors when it began. Returns
+/// Performs the third and fourth step of a moment that began with the neighbors `began`. Returns
 /// whether a report is due.
 pub(crate) fn measure(
     sets: &mut PilotSets,
@@ -43,14 +43,14 @@ pub(crate) fn measure(
     is_report_due(sets, up.all(), strengths, time)
 }
 
-/// Whether two active pilots show the same.
+/// Whether two active pilots have the same offset, row and subchannel.
 fn is_same_active(one: &ActivePilot, other: &ActivePilot) -> bool
     ensures { result ≡ is_same_by one.now other.now }
 {
     one.pilot == other.pilot && one.row == other.row && one.subchannel == other.subchannel
 }
 
-/// Whether two active sets show the same.
+/// Whether two active sets are equal, apart from timers.
 fn are_same_actives(one: &[ActivePilot], other: &[ActivePilot]) -> bool
     ensures { result ≡ pointwise is_same_by one.now other.now }
 {
@@ -65,7 +65,7 @@ fn are_same_actives(one: &[ActivePilot], other: &[ActivePilot]) -> bool
     true
 }
 
-/// Whether two candidate sets show the same.
+/// Whether two candidate sets are equal, apart from timers.
 fn are_same_candidates(one: &[CandidatePilot], other: &[CandidatePilot]) -> bool
     requires one { length one.now ≤ 10 }
     requires other { length other.now ≤ 10 }
@@ -77,7 +77,7 @@ fn are_same_candidates(one: &[CandidatePilot], other: &[CandidatePilot]) -> bool
     pilots.all() == others.all()
 }
 
-/// Whether the active or the candidate list isn't what it was.
+/// Whether the active or the candidate list differs from that in `old`, apart from timers.
 pub(crate) fn is_changed(old: &Began, sets: &PilotSets) -> bool
     ensures { result ≡ is_changed_by old.now sets.now }
 {

@@ -15,7 +15,7 @@ use crate::strengths::{Strength, energy_of};
 use crate::thresholds::Thresholds;
 use crate::timers::{is_expired, is_strong, timer_after};
 
-/// The active set with its timers started and stopped.
+/// The active set after its timers have been started or stopped.
 fn time_actives(
     actives: &[ActivePilot],
     strengths: &[Strength],
@@ -39,7 +39,7 @@ fn time_actives(
     timed
 }
 
-/// The candidate set with its timers started and stopped.
+/// The candidate set after its timers have been started or stopped.
 fn time_candidates(
     candidates: &[CandidatePilot],
     strengths: &[Strength],
@@ -104,7 +104,7 @@ fn going(candidates: &[CandidatePilot], thresholds: &Thresholds, time: u64) -> F
     going
 }
 
-/// The neighbors with others after them, as long as there is room.
+/// The neighbors followed by others, as long as there is room.
 fn joined(neighbors: Few<u16, 20>, others: &[u16]) -> Few<u16, 20>
     ensures { result ≡ take 20 (neighbors ++ others.now) }
 {
@@ -164,7 +164,7 @@ fn rising(sets: &PilotSets, began: &[u16], strengths: &[Strength], power: u64) -
     )
 }
 
-/// The candidates with those that have risen after them.
+/// The candidates followed by the neighbors that have moved up.
 fn with_risen(candidates: Few<CandidatePilot, 10>, up: &[u16]) -> Few<CandidatePilot, 10>
     requires { length candidates + length up.now ≤ 10 }
     ensures { result ≡ candidates ++ map fresh_candidate up.now }
@@ -185,9 +185,9 @@ fn move_up(sets: &mut PilotSets, up: &[u16])
     sets.neighbors = without(up, sets.neighbors.all());
 }
 
-/// Performs the third step of a moment; `began` has the neighbors when it began. Timers start and
+/// Performs the third step of a moment that began with the neighbors `began`. Timers start and
 /// stop, candidates whose timer has expired become neighbors, and strong neighbors become
-/// candidates. Returns those that moved up.
+/// candidates. Returns the pilots that moved up.
 pub(crate) fn move_pilots(
     sets: &mut PilotSets,
     began: &[u16],

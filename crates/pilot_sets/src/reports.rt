@@ -40,7 +40,7 @@ fn are_above(actives: &[u16], strengths: &[Strength], k: u8, candidates: &[u16])
     false
 }
 
-/// Whether a candidate is so far above an active pilot that it is reported.
+/// Whether a candidate is far enough above an active pilot to be reported.
 fn has_above(sets: &PilotSets, strengths: &[Strength]) -> bool
     ensures { result ≡ has_above_by (energy_in strengths.now) sets.now }
 {

@@ -36,13 +36,13 @@ use traffic_message::HandoffDirection;
 
 /// The pilot sets of a handset: the base stations that it receives or may receive.
 ///
-/// TIA/EIA-95-B, 6.6.6.2, as far as this project follows it (`docs/LINK.md`). No pilot is in two
+/// The sets follow TIA/EIA-95-B, 6.6.6.2, as far as `docs/LINK.md` specifies. No pilot is in two
 /// sets; the active set has 1 to 6 pilots, the candidate set at most 10, the neighbor set at most
 /// 20. Pilots are offsets below 512. Times count moments of 80 ms, and are below 2^40.
 ///
-/// Contracts see the sets with their timers, the thresholds, the direction that waits, the lists
-/// when the moment began, where a direction took effect since the last step, and each pilot's last
-/// delta.
+/// Contracts see the sets with their timers, the thresholds, the waiting direction, and each
+/// pilot's last delta. If a direction has taken effect since the last step, they also see the lists
+/// when the moment began.
 #[derive(Drop, Debug)]
 pub struct Sets {
     sets: PilotSets,
@@ -71,7 +71,7 @@ fn began_in(began: Option<Began>, sets: &PilotSets) -> Began
     }
 }
 
-/// Keeps the deltas that were measured.
+/// Stores the measured deltas.
 fn keep_deltas(deltas: &mut [i16; 512], strengths: &[Strength])
     requires { All (λ (s : TheStrength). s.pilot < 512) strengths.now }
     ensures { deltas.new ≡ deltas_with strengths.now deltas.old }
@@ -166,15 +166,15 @@ impl Sets {
         self.deltas[usize::from(pilot)]
     }
 
-    /// Takes the thresholds of a message.
+    /// Replaces the thresholds with those of a message.
     pub fn parameters(&mut self, p: &Thresholds)
         ensures { self.new ≡ with_thresholds p.now self.old }
     {
         self.sets.thresholds = *p;
     }
 
-    /// Replaces the neighbors by the pilots of a message: the first of equal ones, without those
-    /// that are active or candidates, cut to 20.
+    /// Replaces the neighbors with the first 20 distinct pilots of a message that are neither
+    /// active nor candidates.
     pub fn neighbors(&mut self, pilots: &Numbers)
         requires { All (λ p. p < 512) pilots.now }
         ensures { self.new ≡ with_neighbors pilots.now self.old }
@@ -182,8 +182,9 @@ impl Sets {
         hear_neighbors(&mut self.sets, pilots);
     }
 
-    /// Takes a handoff direction; `first` is the time of the first moment that isn't before the end
-    /// of its message. Returns the time at which it takes effect, unless another takes its place.
+    /// Accepts a handoff direction. `first` is the time of the first moment at or after the end of
+    /// its message. Returns the time at which the direction takes effect, unless another replaces
+    /// it.
     ///
     /// If it has faults, returns the first of `TooMany`, `Unknown` and `Twice` and changes nothing.
     pub fn direct(&mut self, d: &HandoffDirection, first: u64) -> Result<u64, DirectionFault>
@@ -202,8 +203,8 @@ impl Sets {
         Ok(direction_time(first, &fields))
     }
 
-    /// Applies the direction for this time. Returns false exactly if none waits for it; nothing is
-    /// changed then.
+    /// Applies the direction that waits for this time. Returns whether there was one; if not,
+    /// nothing changes.
     pub fn due(&mut self, time: u64) -> bool
         requires { time < 2 ^ 40 }
         ensures taken { result ≡ is_for time self.old.sets.waiting }

@@ -61,7 +61,7 @@ pub(crate) struct NamedPilot {
     pub pilot: u16,
     /// The Walsh row of the traffic channel (CODE_CHAN).
     pub row: u8,
-    /// It has the power control subchannel of the pilot named before it (PWR_COMB_IND).
+    /// Whether it has the power control subchannel of the pilot named before it (PWR_COMB_IND).
     pub combined: bool,
 }
 
@@ -98,7 +98,7 @@ pub(crate) struct Accepted {
     pub named: Few<NamedPilot, 6>,
 }
 
-/// The three sets, the thresholds, and the direction that waits.
+/// The three sets, the thresholds, and the waiting direction.
 #[derive(Clone, Copy, Debug)]
 pub(crate) struct PilotSets {
     pub active: Few<ActivePilot, 6>,

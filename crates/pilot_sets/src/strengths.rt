@@ -1,4 +1,4 @@
-//! How strong pilots were measured.
+//! The measured strengths of pilots.
 
 ghost use Rattle.std.specs.Prelude.{◌≡◌};
 ghost use Rattle.pilot_sets.specs.Moments.{energy_in};
@@ -6,7 +6,7 @@ ghost use Rattle.pilot_sets.specs.Moments.{energy_in};
 use crate::each_pilot::EachPilot;
 use crate::few::Filler;
 
-/// How strong a pilot was measured.
+/// The measured strength of a pilot.
 #[derive(Clone, Copy, PartialEq, Eq, Debug)]
 pub struct Strength {
     /// The pilot's offset, in steps of 64 chips (PILOT_PN).

@@ -15,7 +15,7 @@ const WINDOWS: [u16; 16] = [
     4, 6, 8, 10, 14, 20, 28, 40, 60, 80, 100, 130, 160, 226, 320, 452,
 ];
 
-/// The ratios of half decibels below 0, in millionths.
+/// The ratios 0 to 63 half decibels below 0 dB, in millionths.
 const RATIOS: [u32; 64] = [
     1_000_000, 891_251, 794_328, 707_946, 630_957, 562_341, 501_187, 446_684, 398_107, 354_813,
     316_228, 281_838, 251_189, 223_872, 199_526, 177_828, 158_489, 141_254, 125_893, 112_202,
@@ -36,15 +36,14 @@ pub(crate) fn drop_timer_ms(k: u8) -> u32
     }
 }
 
-/// Returns how wide search window number `k` is (SRCH_WIN_A, SRCH_WIN_N), in chips; 0 if there is
-/// none.
+/// The width of search window number `k` (SRCH_WIN_A, SRCH_WIN_N), in chips; 0 if there is none.
 pub(crate) fn window_chips(k: u8) -> u16
     ensures { result ≡ window_of k }
 {
     if k < 16 { WINDOWS[usize::from(k)] } else { 0 }
 }
 
-/// The ratio of `k` half decibels below 0, in millionths; 0 if there is none.
+/// The ratio `k` half decibels below 0 dB, in millionths; 0 if the table has none.
 pub(crate) fn ratio(k: u8) -> u32
     ensures value { result ≡ ratio_of k }
     ensures most { result ≤ 1000000 }

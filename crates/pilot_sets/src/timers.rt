@@ -1,4 +1,4 @@
-//! Which pilots are strong, and which timers have expired.
+//! Strong pilots and expired timers.
 
 ghost use Rattle.std.specs.Prelude.{◌≡◌, ◌<◌, ◌≤◌, ◌^◌, ◌*◌};
 ghost use Rattle.pilot_sets.specs.Tables.{ratio as ratio_of};
@@ -25,7 +25,7 @@ pub(crate) fn part_of(k: u8, energy: u64) -> u128
 }
 
 /// The energy of a pilot whose power is `k` half decibels below that of the samples, in millionths.
-/// The 512 samples' power times 1,024 is the energy of a pilot that is all they hold.
+/// If the 512 samples hold only a pilot, its energy is 1,024 times their power.
 fn threshold(k: u8, power: u64) -> u128
     ensures value { result ≡ 1024 * ratio_of k * power }
     ensures bound { result < 2 ^ 94 }

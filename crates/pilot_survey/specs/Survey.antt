@@ -5,7 +5,7 @@ use Rattle.chip_core.specs.declared.sample.Sample.{Sample}
 use Rattle.pilot_search.specs.Search.{energy}
 use Rattle.pilot_survey.specs.declared.rank.Rank.{Rank}
 
--- The phases round a pilot's own, which lies 64 chips below the base for each step of its offset.
+-- The phases around a pilot's own, which lies 64 chips below the base for each step of its offset.
 -- The first of them is `width` chips below the pilot's own.
 abbrev pub survey_phase : ℕ → ℕ → ℕ → ℕ → ℕ
 survey_phase base width pilot place = (base + 65536 - 64 * pilot + place - width) % 32768
@@ -16,7 +16,7 @@ strongest samples base width pilot =
     first_greatest (λ place. pos (energy samples (survey_phase base width pilot place)))
     (2 * width + 1)
 
--- how strong a pilot is, and how far from its own phase
+-- the strength of a pilot, and the distance from its own phase
 unfoldable pub surveyed : List Sample → ℕ → ℕ → ℕ → Rank
 surveyed samples base width pilot =
     let best = strongest samples base width pilot in record {
@@ -25,12 +25,12 @@ surveyed samples base width pilot =
       energy = energy samples (survey_phase base width pilot best);
     }
 
--- all pilots by greater energy, then by lesser pilot
+-- the ranks of all pilots, by falling energy, then by rising pilot
 unfoldable pub ranking : List Sample → ℕ → ℕ → List Rank
 ranking samples base width =
     map (surveyed samples base width)
     (first_places 512 (λ pilot. pos ((surveyed samples base width pilot).energy)) 512)
 
--- the first pilot of a worker, or the end of the last worker's
+-- the first pilot of a worker, or for `worker` = `workers` the end of the last worker's pilots
 abbrev pub survey_start : ℕ → ℕ → ℕ
 survey_start worker workers = 512 * worker / workers

@@ -23,7 +23,7 @@ least_on_a_tie : surveyed two 2 1 0 ≡ record { pilot = 0; delta = negsuc 0; en
 unfolding two chips_to phase_correlation energy first_greatest strongest surveyed
 least_on_a_tie = refl
 
--- phases 1 to 3 are those of pilot 1 where the base is 66
+-- phases 1 to 3 are those of pilot 1 if the base is 66
 of_another_pilot : surveyed two 66 1 1 ≡ record { pilot = 1; delta = negsuc 0; energy = 4 }
 unfolding two chips_to phase_correlation energy first_greatest strongest surveyed
 of_another_pilot = refl
@@ -32,7 +32,7 @@ of_nothing : surveyed nothing 10 10 0 ≡ record { pilot = 0; delta = negsuc 9; 
 unfolding nothing chips_to phase_correlation energy first_greatest strongest surveyed
 of_nothing = refl
 
--- across the codes' end, and the last pilot's own phase
+-- phases across the end of the codes, and the last pilot's own phase
 phases : map (survey_phase 0 10 0) (0 ∷ 9 ∷ 10 ∷ 20 ∷ []) ≡ 32758 ∷ 32767 ∷ 0 ∷ 10 ∷ []
 phases = refl
 

@@ -6,8 +6,8 @@ ghost use Rattle.pilot_survey.specs.declared.rank.Rank.{Rank};
 ghost use Rattle.pilot_survey.specs.Survey.{ranking, survey_phase};
 ghost use Rattle.pilot_survey.specs.Ranking.{IsRanking};
 
-/// The ranking contains the rank of each pilot once, by falling energy, and by rising pilot if
-/// energies are equal. No other list does.
+/// The ranking contains the rank of each pilot once, by falling energy and, on a tie, by rising
+/// pilot. No other list does.
 pub fn ranking_is_the_only_one()
     ensures is { (samples : List Sample) (base width : ℕ) →
         IsRanking samples base width (ranking samples base width) }

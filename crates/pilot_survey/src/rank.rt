@@ -1,6 +1,6 @@
 //! The rank of a pilot.
 
-/// How strong a pilot is, and where.
+/// The strength of a pilot and its place.
 #[derive(Clone, Copy)]
 pub struct Rank {
     /// The pilot's offset, 0 to 511, in steps of 64 chips.

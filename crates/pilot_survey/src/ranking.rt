@@ -29,7 +29,7 @@ impl Model for Survey {
 }
 
 impl Survey {
-    /// The ranks in order: by greater energy, then by lesser pilot.
+    /// Sorts the ranks by falling energy, then by rising pilot.
     pub(crate) fn of(ranks: Vec<Rank>) -> Survey
         requires { length ranks.items ≡ 512 }
         ensures permutation { IsPermutation ranks.items result }

@@ -1,4 +1,4 @@
-//! The survey by several workers at once.
+//! The survey, shared by several workers at once.
 
 ghost use Rattle.std.specs.Prelude.{◌≡◌, ◌<◌, ◌≤◌, ◌+◌, length, map, IfOk};
 ghost use Rattle.std.specs.List.{range_with_len};
@@ -126,7 +126,7 @@ fn run<R: Threads + Sync, G: Gate + Sync>(
 /// `base` is the phase of the pilot of offset 0. The own phase of the pilot of offset p is 64 p
 /// chips below it, modulo 32,768. A pilot's energy is the largest at the phases from `width` chips
 /// below its own phase to `width` above, with the least delta on a tie. The ranks are sorted by
-/// greater energy, then by lesser pilot. Worker k of w measures the pilots from floor(512 k / w) to
+/// falling energy, then by rising pilot. Worker k of w measures the pilots from floor(512 k / w) to
 /// floor(512 (k + 1) / w) - 1. Each worker calls [`Gate::arrive`] once before its first pilot, and
 /// [`Gate::leave`] once after its last, with 0, because it leaves no phase early.
 ///

@@ -1,4 +1,4 @@
--- The fault of a message by that of its capsule, and what decoding a capsule returns.
+-- The fault of a message for that of its capsule, and the result of decoding a capsule.
 use Rattle.std.specs.Prelude.{◌≡◌, ◌↔◌, Bool, List, Option, Some, None, Result, Ok, Err, IfOk}
 use Rattle.chip_core.specs.declared.check_form.CheckForm.{CheckForm}
 use Rattle.quality_bits.specs.Capsules.{IsWhole}
@@ -13,14 +13,14 @@ abbrev pub fault_of : CapsuleFault → MessageFault
 fault_of capsules.BadLength = messages.BadLength
 fault_of capsules.BadCheck = messages.BadCheck
 
--- what a reading that may fail gives
+-- the message that was read, or none if there was a fault
 abbrev pub reading_of : {M : Type 0} → Result M MessageFault → Option M
 reading_of (Ok m) = Some m
 reading_of (Err fault) = None
 
 -- Decoding a list of bits as the capsule of a message returned this result: the message whose
--- capsule the list is, or the first fault that applies. `Is` says which values are messages,
--- `spelled` gives the capsule of a message, and `of_capsule` the reading that defines decoding.
+-- capsule the list is, or the first fault that applies. `Is` defines which values are messages,
+-- `spelled` returns a message's capsule, and `of_capsule` is the reading that defines decoding.
 pub record Decodes {M : Type 0} (kind : Kind) (form : CheckForm) (Is : M → Type 0)
     (spelled : M → List Bool) (of_capsule : List Bool → Option M) (bits : List Bool)
     (result : Result M MessageFault) : Type 0 where

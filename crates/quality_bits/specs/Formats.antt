@@ -5,8 +5,8 @@ use Rattle.quality_bits.specs.Kinds.{quality_indicator, quality_length}
 use Rattle.quality_bits.specs.declared.kind.Kind.{Kind}
 use Rattle.quality_bits.specs.declared.format.FrameFormat.{FrameFormat}
 
--- a row of the table of a rate set: how many information bits a frame has, the kind of its quality
--- indicator, where it has one, and how often each code symbol is repeated
+-- a row of the table of a rate set: the number of information bits in a frame, the kind of its
+-- quality indicator, if it has one, and the number of times that each code symbol occurs
 pub record RateRow : Type 0 where
   pub information : ℕ
   pub quality : Option Kind
@@ -23,15 +23,15 @@ format_by rate row drops = record {
   drops = drops;
 }
 
--- how many bits a frame has: its information, its quality indicator, and eight tail bits
+-- the number of bits in a frame: its information, its quality indicator, and eight tail bits
 abbrev pub bits_in : {R : Type 0} → FrameFormat R → ℕ
 bits_in format = format.information + quality_length format.quality + 8
 
--- how many repeated symbols it has, before any are dropped
+-- the number of its repeated symbols, before any are dropped
 abbrev pub repeated_in : {R : Type 0} → FrameFormat R → ℕ
 repeated_in format = if format.drops then 576 else 384
 
--- two code symbols a bit, each repeated so often, are all of them; and some bit is information
+-- two code symbols per bit, each `repeats` times, are all of them; at least one bit is information
 pub record IsFormat {R : Type 0} (format : FrameFormat R) : Type 0 where
   pub fills : 2 * bits_in format * format.repeats ≡ repeated_in format
   pub some : 1 ≤ format.repeats

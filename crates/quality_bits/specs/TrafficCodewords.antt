@@ -15,19 +15,19 @@ rate_row R4800 = record { information = 80; quality = Some Q8; repeats = 2 }
 rate_row R2400 = record { information = 40; quality = None; repeats = 4 }
 rate_row R1200 = record { information = 16; quality = None; repeats = 8 }
 
--- its formats, of which no repeated symbols are dropped
+-- its formats, which drop no repeated symbols
 abbrev pub format_of : Rate → FrameFormat Rate
 format_of rate = format_by rate (rate_row rate) false
 
--- how often each code symbol of a rate is sent
+-- the number of times that each code symbol of a rate is sent
 abbrev pub repeats_of : Rate → ℕ
 repeats_of rate = (rate_row rate).repeats
 
--- how many information bits a frame has
+-- the number of information bits in a frame
 abbrev pub information_of : Rate → ℕ
 information_of rate = (rate_row rate).information
 
--- the kind of its quality indicator, where it has one
+-- the kind of its quality indicator, if it has one
 abbrev pub quality_of : Rate → Option Kind
 quality_of rate = (rate_row rate).quality
 

@@ -38,7 +38,7 @@ inverted_30 : number (inverted (check_bits m30 text)) ≡ 0x04c34abf
 unfolding text binary places check_bits
 inverted_30 = refl
 
--- after the one bit 0
+-- the checks of the single bit 0
 zero_6 : number (check_bits q6 (false ∷ [])) ≡ 0x39
 unfolding places check_bits
 zero_6 = refl
@@ -55,7 +55,7 @@ zero_12 : number (check_bits q12 (false ∷ [])) ≡ 0x0ed
 unfolding places check_bits
 zero_12 = refl
 
--- the shortest capsule in two frames, and a frame that says 149 octets
+-- the shortest capsule in two frames, and a frame that states 149 octets
 frame : List Bool → Piece
 frame bits = piece (true ∷ bits)
 

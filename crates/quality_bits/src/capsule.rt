@@ -1,7 +1,7 @@
 //! Capsules of messages: MSG_LENGTH in 8 bits, the body, and the check of both (TIA/EIA-95-B,
 //! 7.7.1, 7.7.2 and 7.7.3).
 //!
-//! MSG_LENGTH counts octets, its own and the check's among them: 5 to 148.
+//! MSG_LENGTH counts octets, including its own and the check's: 5 to 148.
 
 ghost use Rattle.std.specs.Prelude.{◌≡◌, ◌↔◌, ◌≤◌, ◌<◌, ◌+◌, Bool, List, length, IfOk, SomeIff};
 ghost use Rattle.std.specs.Prelude.{take, drop, IsTrue};
@@ -14,10 +14,10 @@ use crate::kind::Kind;
 use chip_core::{BitReader, Bits, CheckForm};
 use thiserror::Error;
 
-/// Why a list of bits is not a capsule.
+/// The reason why a list of bits is not a capsule.
 #[derive(Clone, Copy, PartialEq, Eq, Debug, Error)]
 pub enum CapsuleFault {
-    /// Its number of bits differs from its MSG_LENGTH, or that is outside 5 to 148 octets.
+    /// Its number of bits differs from its MSG_LENGTH, or MSG_LENGTH is outside 5 to 148 octets.
     #[error("bad length")]
     BadLength,
     /// It doesn't end with its check.
@@ -25,7 +25,7 @@ pub enum CapsuleFault {
     BadCheck,
 }
 
-/// The capsule of a body, whose length is that of whole octets.
+/// The capsule of a body that, with the length and the check, fills 5 to 148 whole octets.
 pub fn capsule_of(kind: Kind, form: CheckForm, body: &Bits) -> Bits
     requires { FillsCapsule kind body.now }
     ensures { result ≡ capsule kind form body.now }
@@ -39,8 +39,8 @@ pub fn capsule_of(kind: Kind, form: CheckForm, body: &Bits) -> Bits
     bits
 }
 
-/// Whether a body of `count` bits fits a capsule: with the length and the check, it has whole
-/// octets, 5 to 148 of them.
+/// Whether a body of `count` bits fits a capsule: with the length and the check, it fills 5 to 148
+/// whole octets.
 pub fn fills_capsule(kind: Kind, count: u16) -> bool
     ensures { (body : List Bool) → length body ≡ count → (IsTrue result ↔ FillsCapsule kind body) }
 {
@@ -50,8 +50,8 @@ pub fn fills_capsule(kind: Kind, count: u16) -> bool
 
 /// The body of a capsule.
 ///
-/// Returns `BadLength` exactly if the list's length differs from its MSG_LENGTH or that is not
-/// lawful; otherwise `BadCheck` exactly if its last bits are not the check of those before.
+/// Returns `BadLength` exactly if MSG_LENGTH isn't lawful or isn't the list's length; otherwise
+/// `BadCheck` exactly if the last bits are not the check of those before them.
 pub fn body_of(kind: Kind, form: CheckForm, bits: &Bits) -> Result<Bits, CapsuleFault>
     ensures bad_length { (result ≡ Err CapsuleFault.BadLength) ↔ ¬ (IsWhole bits.now) }
     ensures bad_check { (result ≡ Err CapsuleFault.BadCheck) ↔
@@ -65,10 +65,10 @@ pub fn body_of(kind: Kind, form: CheckForm, bits: &Bits) -> Result<Bits, Capsule
     Ok(bits.part(8, count))
 }
 
-/// Returns how many bits the body of a capsule has, after the 8 bits of the length.
+/// Returns the number of bits of a capsule's body, which follows the 8 bits of the length.
 ///
-/// Returns `BadLength` exactly if the list's length differs from its MSG_LENGTH or that is not
-/// lawful; otherwise `BadCheck` exactly if its last bits are not the check of those before.
+/// Returns `BadLength` exactly if MSG_LENGTH isn't lawful or isn't the list's length; otherwise
+/// `BadCheck` exactly if the last bits are not the check of those before them.
 pub fn body_count(kind: Kind, form: CheckForm, bits: &Bits) -> Result<u16, CapsuleFault>
     ensures bad_length { (result ≡ Err CapsuleFault.BadLength) ↔ ¬ (IsWhole bits.now) }
     ensures bad_check { (result ≡ Err CapsuleFault.BadCheck) ↔
@@ -89,7 +89,7 @@ pub fn body_count(kind: Kind, form: CheckForm, bits: &Bits) -> Result<u16, Capsu
     Ok(bits.len() - 8 - degree)
 }
 
-/// Whether a list has the length in its first 8 bits, and that is lawful.
+/// Whether a list has the length that its first 8 bits state, and that length is lawful.
 fn is_whole(bits: &Bits) -> bool
     ensures { IsTrue result ↔ IsWhole bits.now }
 {
@@ -99,8 +99,8 @@ fn is_whole(bits: &Bits) -> bool
     }
 }
 
-/// Returns how many bits the capsule has that begins with these; `None` exactly if there are fewer
-/// than 8, or if they give a length outside 5 to 148 octets.
+/// Returns the number of bits of the capsule that begins with these; `None` exactly if there are
+/// fewer than 8, or if they state a length outside 5 to 148 octets.
 pub fn stated_length(bits: &Bits) -> Option<u16>
     ensures { SomeIff result (IsTrue (is_stated bits.now)) (stated_bits bits.now) }
 {

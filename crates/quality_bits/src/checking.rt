@@ -1,4 +1,4 @@
-//! The check that a list ends with.
+//! The check at the end of a list.
 
 ghost use Rattle.std.specs.Prelude.{◌≡◌, ◌<◌, ◌≤◌, ◌+◌, ◌*◌, ◌-◌, ◌^◌, ◌↔◌, ◌++◌, IsTrue, length};
 ghost use Rattle.std.specs.Prelude.{take, drop};
@@ -10,7 +10,7 @@ use crate::kind::Kind;
 use crate::register::Register;
 use chip_core::{Bits, CheckForm};
 
-/// Whether the last bits of a list are the check of those before, in this form, the highest
+/// Whether the last bits of a list are the check of those before them, in this form, the highest
 /// coefficient first.
 ///
 /// The quality indicators of frames are always plain.
@@ -22,7 +22,7 @@ pub fn check(kind: Kind, form: CheckForm, bits: &Bits) -> bool
     number_from(bits, body) == sent_after(kind, form, bits, body)
 }
 
-/// Adds the check of a list at its end, in this form, the highest coefficient first.
+/// Appends its check to a list, in this form, the highest coefficient first.
 ///
 /// The quality indicators of frames are always plain (TIA/EIA-95-B, 7.1.3.5).
 pub fn append_check(kind: Kind, form: CheckForm, bits: &mut Bits)
@@ -45,7 +45,7 @@ fn sent_after(kind: Kind, form: CheckForm, bits: &Bits, count: u16) -> u32
     }
 }
 
-/// Returns a register that took the first `count` bits.
+/// Returns a register that has taken the first `count` bits.
 fn taken(kind: Kind, bits: &Bits, count: u16) -> Register
     requires { count ≤ length bits.now }
     ensures { Checks result kind (take count bits.now) }
@@ -58,7 +58,7 @@ fn taken(kind: Kind, bits: &Bits, count: u16) -> Register
     register
 }
 
-/// Returns a register that took the first `count` octets.
+/// Returns a register that has taken the first `count` octets.
 fn octets_taken(kind: Kind, bits: &Bits, count: u16) -> Register
     requires { 8 * count ≤ length bits.now }
     ensures { Checks result kind (take (8 * count) bits.now) }
@@ -71,9 +71,9 @@ fn octets_taken(kind: Kind, bits: &Bits, count: u16) -> Register
     register
 }
 
-/// Takes the eight bits from a place on into a register that took all bits before them.
+/// Takes the eight bits from place `from` on into a register that has taken all bits before them.
 ///
-/// If the place is a multiple of 8 they lie in one word of the list, which is fetched once.
+/// If `from` is a multiple of 8, they are in one word of the list, which is fetched once.
 fn take_octet(register: &mut Register, bits: &Bits, from: u16)
     requires { from + 8 ≤ length bits.now }
     ensures { (kind : TheKind) → Checks register.old kind (take from bits.now) →
@@ -85,7 +85,7 @@ fn take_octet(register: &mut Register, bits: &Bits, from: u16)
     }
 }
 
-/// The number that the bits from a place on spell, the highest first: at most 31.
+/// The number that the bits from place `from` on, at most 31, represent, the highest first.
 fn number_from(bits: &Bits, from: u16) -> u32
     requires { length bits.now < from + 32 }
     ensures { result ≡ number (drop from bits.now) }

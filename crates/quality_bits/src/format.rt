@@ -11,21 +11,21 @@ use chip_core::air::{DATA_SYMBOLS, TAIL_BITS};
 use chip_core::{Bits, CheckForm};
 use std::alloc::AllocError;
 
-/// How many symbols a frame of rate set 2 has before some are dropped.
+/// The number of symbols that a frame of rate set 2 has before some are dropped.
 pub const REPEATED_SYMBOLS: usize = 576;
 
-/// A rate of a rate set, and what its frames are made of.
+/// A rate of a rate set, and the composition of its frames.
 ///
-/// TIA/EIA-95-B, 7.1.3.5 and 7.1.3.1.4. A frame ends with eight tail bits, whatever its rate.
+/// TIA/EIA-95-B, 7.1.3.5 and 7.1.3.1.4. A frame of any rate ends with eight tail bits.
 #[derive(Copy)]
 pub struct FrameFormat<R> {
     /// The rate.
     pub rate: R,
-    /// How many information bits a frame has.
+    /// The number of information bits in a frame.
     pub information: u16,
     /// The kind of its quality indicator, if it has one.
     pub quality: Option<Kind>,
-    /// How often each code symbol is repeated.
+    /// The number of times that each code symbol occurs, before any are dropped.
     pub repeats: u8,
     /// Whether the third and the fifth of each six repeated symbols are dropped.
     pub drops: bool,
@@ -64,7 +64,7 @@ impl<R: Copy> FrameFormat<R> {
         }
     }
 
-    /// Returns how many repeated symbols a frame has, before any are dropped: 384 or 576.
+    /// Returns the number of repeated symbols in a frame, before any are dropped: 384 or 576.
     fn repeated_symbols(&self) -> u16
         ensures value { result ≡ repeated_in self.now }
         ensures most { result ≤ 576 }
@@ -76,7 +76,7 @@ impl<R: Copy> FrameFormat<R> {
         }
     }
 
-    /// Returns how many code symbols a frame has, two a bit.
+    /// Returns the number of code symbols in a frame, two per bit.
     pub fn code_symbols(&self) -> usize
         requires { IsFormat self.now }
         ensures value { result ≡ 2 * bits_in self.now }
@@ -85,7 +85,7 @@ impl<R: Copy> FrameFormat<R> {
         usize::from(self.repeated_symbols() / u16::from(self.repeats))
     }
 
-    /// Information bits, followed by the quality indicator if frames of the rate have one.
+    /// The information bits, followed by the quality indicator if frames of the rate have one.
     fn with_quality(&self, information: &Bits) -> Bits
         requires format { IsFormat self.now }
         requires count { length information.now ≡ self.now.information }

@@ -1,4 +1,4 @@
-//! Capsules out of whole frames.
+//! Cuts capsules out of whole frames.
 
 ghost use Rattle.std.specs.Prelude.{◌≡◌, ◌≤◌, Bool, List, [], ◌∷◌, ◌++◌, length, map};
 ghost use Rattle.quality_bits.specs.Pieces.{piece, capsule_ending, CapsuleStandsFor};

@@ -6,7 +6,7 @@ ghost use Rattle.quality_bits.specs.Pieces.{Piece, capsule_ending, under_way};
 ghost use Rattle.quality_bits.specs.declared.kind.Kind.{Kind as TheKind};
 ghost use Rattle.chip_core.specs.declared.check_form.CheckForm.{CheckForm as TheForm};
 
-/// A capsule has one body.
+/// A capsule has only one body.
 pub fn capsule_has_one_body()
     ensures { (kind : TheKind) (form : TheForm) (a b : List Bool) →
         capsule kind form a ≡ capsule kind form b → a ≡ b }

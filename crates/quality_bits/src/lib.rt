@@ -1,8 +1,8 @@
-//! Frame quality indicators and the checks of messages (TIA/EIA-95-B, 7.1.3.5 and 7.7): remainders
-//! of the bits, as a polynomial over the field of two elements, by a fixed generator. And the
-//! capsules of messages, which end with one, with the faults of messages, and the framer that cuts
-//! them out of whole frames; and the formats of frames, a row for each rate, with those of rate set
-//! 1.
+//! Frame quality indicators and message checks (TIA/EIA-95-B, 7.1.3.5 and 7.7): remainders of the
+//! bits, as a polynomial over the field of two elements, by a fixed generator. The crate also has
+//! message capsules, which end with a check, the faults of messages, and the framer that cuts
+//! capsules out of whole frames. It defines the formats of frames, a row for each rate, and those
+//! of rate set 1.
 #![tactic(auto)]
 
 mod capsule;

@@ -1,19 +1,19 @@
-//! Why a list of bits is not a message.
+//! The reasons why a list of bits is not a message.
 
 use crate::capsule::CapsuleFault;
 use thiserror::Error;
 
-/// Why a list of bits is not a message of a channel.
+/// The reason why a list of bits is not a message of a channel.
 #[derive(Clone, Copy, PartialEq, Eq, Debug, Error)]
 pub enum MessageFault {
-    /// Its number of bits differs from its MSG_LENGTH, or that is outside 5 to 148 octets.
+    /// Its number of bits differs from its MSG_LENGTH, or MSG_LENGTH is outside 5 to 148 octets.
     #[error("bad length")]
     BadLength,
     /// It doesn't end with its check.
     #[error("bad check")]
     BadCheck,
-    /// Its body isn't that of a message: its type has none in the channel, or the fields of its
-    /// type don't fit.
+    /// Its body isn't that of a message: the channel has no message of its type, or the fields of
+    /// its type don't fit.
     #[error("bad body")]
     BadBody,
 }

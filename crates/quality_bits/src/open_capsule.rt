@@ -11,7 +11,7 @@ use std::marker::Model;
 
 /// The bits of a capsule that isn't complete yet, or none if no capsule is open.
 ///
-/// It closes by itself after the capsule's last bit, and if the first 8 bits give a length outside
+/// It closes by itself after the capsule's last bit, or if the first 8 bits state a length outside
 /// 5 to 148 octets. Contracts see the bits since the capsule's start, if it is open.
 #[derive(Clone, Copy, PartialEq, Eq, Debug)]
 pub struct OpenCapsule {
@@ -58,8 +58,8 @@ impl OpenCapsule {
 
     /// Takes the next bit and returns the capsule that it completes, if any.
     ///
-    /// It is closed then, or if its length is outside 5 to 148 octets. The bit is ignored if no
-    /// capsule is open.
+    /// The open capsule closes if it is complete, or if its length is outside 5 to 148 octets. The
+    /// bit is ignored if no capsule is open.
     pub fn push(&mut self, bit: bool) -> Option<Bits>
         ensures goes_on { self.new ≡ continued self.old (bit ∷ []) }
         ensures gives { result ≡ completed self.old (bit ∷ []) }
@@ -90,8 +90,8 @@ impl OpenCapsule {
     /// Takes a piece whose first bit is its mark and returns the capsule whose last bit lies in it,
     /// if any.
     ///
-    /// With the mark 1 a capsule begins after it, and an incomplete one is dropped; with 0 the
-    /// piece continues the open capsule, or is ignored if there is none.
+    /// If the mark is 1, a capsule begins after it, and an incomplete one is dropped. If it is 0,
+    /// the piece continues the open capsule, or is ignored if there is none.
     pub fn push_piece(&mut self, bits: &Bits) -> Option<Bits>
         requires { 1 ≤ length bits.now }
         ensures stands { (pieces : List (List Bool)) →

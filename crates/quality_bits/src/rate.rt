@@ -1,4 +1,4 @@
-//! The rates of rate set 1, and what a frame of each has.
+//! The rates of rate set 1, and the composition of their frames.
 
 ghost use Rattle.std.specs.Prelude.{◌≡◌, ◌*◌, ◌≤◌};
 ghost use Rattle.quality_bits.specs.Formats.{IsFormat};
@@ -26,7 +26,7 @@ pub enum Rate {
 impl Rate {
     ghost use Rattle.quality_bits.specs.TrafficCodewords.{repeats_of, information_of, quality_of};
 
-    /// Returns how many information bits a frame of a traffic channel has: 172, 80, 40 or 16
+    /// Returns the number of information bits in a frame of a traffic channel: 172, 80, 40 or 16
     /// (TIA/EIA-95-B, 7.1.3.5).
     pub fn information_bits(&self) -> u16
         ensures { result ≡ information_of self.now }
@@ -34,16 +34,16 @@ impl Rate {
         format_of(*self).information
     }
 
-    /// Returns how many bits a second are sent, frame quality indicators and encoder tails
-    /// included.
+    /// Returns the number of bits sent per second, including frame quality indicators and encoder
+    /// tails.
     pub fn bits_per_second(&self) -> u16
         ensures { result * repeats_of self.now ≡ 9600 }
     {
         9600 / u16::from(self.repeats())
     }
 
-    /// Returns how many bits a frame of 20 ms has, its frame quality indicator and encoder tail
-    /// included: 192, 96, 48 or 24.
+    /// Returns the number of bits in a frame of 20 ms, including its frame quality indicator and
+    /// encoder tail: 192, 96, 48 or 24.
     pub fn frame_bits(&self) -> u16
         ensures { result * repeats_of self.now ≡ 192 }
     {
@@ -58,14 +58,14 @@ impl Rate {
         format_of(*self).quality
     }
 
-    /// Returns how many code symbols a frame has, two to a bit: 384, 192, 96 or 48.
+    /// Returns the number of code symbols in a frame, two per bit: 384, 192, 96 or 48.
     pub fn code_symbols(&self) -> u16
         ensures { result * repeats_of self.now ≡ 384 }
     {
         DATA_SYMBOLS as u16 / u16::from(self.repeats())
     }
 
-    /// How often each code symbol is sent: 1, 2, 4 or 8 times.
+    /// The number of times that each code symbol is sent: 1, 2, 4 or 8.
     pub fn repeats(&self) -> u8
         ensures value { result ≡ repeats_of self.now }
         ensures some { 1 ≤ result }

@@ -1,4 +1,4 @@
-//! The register that divides.
+//! The register that divides by a generator.
 
 ghost use Rattle.std.specs.Prelude.{◌≡◌, ◌<◌, ◌^◌, Bool, List, [], ◌∷◌, ◌++◌};
 ghost use Rattle.chip_core.specs.Bits.{number};
@@ -58,8 +58,8 @@ impl Register {
         };
     }
 
-    /// The check of the bits that it took, not inverted; the coefficient of the highest power is
-    /// the highest bit.
+    /// The check of the bits that it has taken, not inverted; the coefficient of the highest power
+    /// is the highest bit.
     pub fn value(&self) -> u32
         ensures value { (kind : TheKind) (bits : List Bool) →
             Checks self.now kind bits → result ≡ number (check_bits (generator_of kind) bits) }

@@ -14,6 +14,6 @@ pub record IsAdded (ring : Held) (finger : Finger) (form : Form) (start done : �
   pub bound : (j : ℕ) → j < done →
       unsigned_abs (get_or new j (pos 0)) ≤ unsigned_abs (get_or old j (pos 0)) + soft_bound form
 
--- no entry is above a bound, whatever its sign
+-- no entry's absolute value is above `bound`
 pub record AreWithin (bound : ℕ) (values : List ℤ) : Type 0 where
   pub within : (j : ℕ) → unsigned_abs (get_or values j (pos 0)) ≤ bound

@@ -1,4 +1,4 @@
--- What the definitions of this crate cite of the crates below, and of its own types.
+-- Names that the definitions of this crate use, from other crates and of its own types.
 pub use Rattle.chip_core.specs.Bits.{places, sign, zip_with}
 unfoldable pub use Rattle.chip_core.specs.Bits.{binary}
 pub use Rattle.chip_core.specs.Complex.{conjugate, norm, of_sample, origin, point, sum_of, times}

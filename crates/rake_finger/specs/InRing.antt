@@ -10,12 +10,12 @@ pub record IsHeldInRing (ring : Held) (place count : ℕ) : Type 0 where
   pub kept : ring.taken ≤ place + ring.room
   pub taken : place + count ≤ ring.taken
 
--- it holds the finger's samples of the frame that begins at reference sample `start`
+-- the ring holds the finger's samples of the frame that begins at reference sample `start`
 pub record IsInRing (ring : Held) (form : Form) (start : ℕ) (finger : Finger) : Type 0 where
   pub begun : finger.delta ≤ℤ pos start
   pub held : IsHeldInRing ring (finger_place finger start) (frame_chips form)
 
--- it holds the 512 samples before a place
+-- the ring holds the 512 samples before a place
 pub record HoldsBefore (ring : Held) (end : ℕ) : Type 0 where
   pub begun : 512 ≤ end
   pub held : IsHeldInRing ring (end - 512) 512

@@ -22,7 +22,7 @@ has_reference fingers = list_any (λ (f : Finger). int_eq f.delta (pos 0)) finge
 abbrev pub AreNear : List Finger → Type 0
 AreNear fingers = IsTrue (all_near fingers && has_reference fingers)
 
--- each has a Walsh row
+-- each finger has a Walsh row below 64
 abbrev pub have_rows : List Finger → Bool
 have_rows fingers = list_all (λ (f : Finger). nat_lt f.row 64) fingers
 
@@ -38,14 +38,14 @@ abbrev pub low_in : {C : Type 0} → StreamOf C → ℕ
 low_in s = if all_begun s.first s.fingers then 0 else 1
 
 -- CLOSE TO IT
--- no more chips than half the widest search window
+-- at most half the widest search window from the reference path
 abbrev pub is_close : Finger → Bool
 is_close f = nat_le (unsigned_abs f.delta) half_window_chips
 
 abbrev pub all_close : List Finger → Bool
 all_close fingers = list_all is_close fingers
 
--- fingers, each of them close
+-- one or more fingers, each of them close
 pub record AreClose (fingers : List Finger) : Type 0 where
   pub some : 1 ≤ length fingers
   pub close : all_close fingers ≡ true

@@ -16,13 +16,13 @@ AreUnitSigns signs = (k : ℕ) → k < 64 → unsigned_abs (get_or signs k (pos 
 abbrev pub turned_sign : ℤ → ℤ × ℤ → ℤ × ℤ
 turned_sign by signs = (signs.0 *ℤ by, signs.1 *ℤ by)
 
--- the signs of chips of the code, each times the sign of its chip of a row, the first of them that
--- of the row's chip k
+-- the signs of chips of the code, each times the sign of its chip of a row; the first one meets the
+-- row's chip k
 abbrev pub covered_signs : List ℤ → ℕ → List (ℤ × ℤ) → List (ℤ × ℤ)
 covered_signs row k [] = []
 covered_signs row k (g ∷ signs) =
     turned_sign (get_or row (k % 64) (pos 0)) g ∷ covered_signs row (suc k) signs
 
--- eight signs of a row, from a chip on
+-- the eight signs of a row from chip `first` on
 abbrev pub sign_lanes : List ℤ → ℕ → List ℤ
 sign_lanes signs first = eight (λ t. get_or signs t (pos 0)) first

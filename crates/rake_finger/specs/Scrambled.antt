@@ -2,15 +2,15 @@
 use Rattle.rake_finger.specs.Common.{sign, zip_with}
 use Rattle.std.specs.Prelude.{◌≡◌, ℕ, Bool, List, [], ◌∷◌, length, ℤ, ◌*ℤ◌, ◌⊎◌}
 
--- turned in sign where the scrambling bit is 1
+-- soft values, each negated if its scrambling bit is 1
 abbrev pub descrambled : List Bool → List ℤ → List ℤ
 descrambled scrambling values = zip_with (λ b v. sign b *ℤ v) scrambling values
 
--- descrambled by a frame's scrambling bits, where there are any
+-- soft values descrambled by a frame's scrambling bits, if there are any
 abbrev pub unscrambled : List Bool → List ℤ → List ℤ
 unscrambled [] values = values
 unscrambled (b ∷ bits) values = descrambled (b ∷ bits) values
 
--- there are none, or as many as the frame has symbols
+-- no scrambling bits, or as many as the frame has symbols
 abbrev pub Scrambles : List Bool → ℕ → Type 0
 Scrambles bits symbols = (bits ≡ []) ⊎ (length bits ≡ symbols)

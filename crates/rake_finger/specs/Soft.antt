@@ -8,8 +8,8 @@ use Rattle.short_code.specs.Despread.{despread}
 use Rattle.rake_finger.specs.declared.finger.Finger.{Finger}
 use Rattle.rake_finger.specs.declared.form.Form.TheVariants.{Sync, Data}
 
--- how a frame is cut: chips a symbol, chips in the aligned window whose pilot turns a symbol, and
--- symbols a frame
+-- how a frame is cut: chips per symbol, chips per aligned window, whose pilot turns its symbols,
+-- and symbols per frame
 abbrev pub symbol_chips : Form → ℕ
 symbol_chips Sync = 256
 symbol_chips Data = 64
@@ -25,7 +25,7 @@ symbols Data = 384
 abbrev pub frame_chips : Form → ℕ
 frame_chips form = symbol_chips form * symbols form
 
--- windows a frame, and symbols a window
+-- windows per frame, and symbols per window
 abbrev pub windows : Form → ℕ
 windows Sync = 32
 windows Data = 16
@@ -38,13 +38,13 @@ window_symbols Data = 24
 abbrev pub finger_place : Finger → ℕ → ℕ
 finger_place finger u = unsigned_abs (pos u -ℤ finger.delta)
 
--- despread samples times the Walsh row, the first of them at its chip k
+-- despread samples times the Walsh row, whose chip k falls on the first of them
 abbrev pub covered_from : ℕ → ℕ → List Pair → List Pair
 covered_from row k [] = []
 covered_from row k (s ∷ samples) =
     times (record { i = sign (walsh row (k % 64)); q = pos 0 }) s ∷ covered_from row (suc k) samples
 
--- n samples from a place on, despread by the code whose chip of this phase falls on sample 0
+-- `count` samples from a place on, despread by the code whose chip at this phase falls on sample 0
 abbrev pub despread_at : List Sample → ℕ → ℕ → ℕ → List Pair
 despread_at samples phase place count = despread (phase + place) (take count (drop place samples))
 
@@ -54,7 +54,7 @@ pilot_sum samples finger form u w =
     sum_of (despread_at samples finger.phase (finger_place finger u + window_chips form * w)
     (window_chips form))
 
--- the sum of its Walsh row over symbol j, whose first chip meets the row's chip 0
+-- the sum of a finger's Walsh row over symbol j, whose first chip meets the row's chip 0
 unfoldable pub symbol_sum : List Sample → Finger → Form → ℕ → ℕ → Pair
 symbol_sum samples finger form u j =
     sum_of (covered_from finger.row 0
@@ -65,7 +65,7 @@ symbol_sum samples finger form u j =
 abbrev pub turned_part : Pair → Pair → ℤ
 turned_part pilot symbol = (times (conjugate pilot) symbol).i
 
--- the unturned soft value of symbol j of the frame that begins at reference sample u
+-- the raw soft value of symbol j of the frame that begins at reference sample u
 unfoldable pub soft : List Sample → Finger → Form → ℕ → ℕ → ℤ
 soft samples finger form u j =
     turned_part (pilot_sum samples finger form u (symbol_chips form * j / window_chips form))
@@ -76,7 +76,7 @@ unfoldable pub softs : List Sample → List Finger → Form → ℕ → List ℤ
 softs samples fingers form u =
     map (λ j. total (map (λ f. soft samples f form u j) fingers)) (places (symbols form))
 
--- the greatest absolute value of a finger's soft value
+-- a bound on the absolute value of a finger's soft value
 abbrev pub soft_bound : Form → ℕ
 soft_bound Sync = 2 ^ 51
 soft_bound Data = 2 ^ 50

@@ -7,12 +7,12 @@ use Rattle.rake_finger.specs.Soft.{frame_chips, softs}
 use Rattle.rake_finger.specs.declared.finger.Finger.{Finger}
 use Rattle.rake_finger.specs.Scrambled.{unscrambled}
 
--- the number of samples taken when the finger's last sample of the frame that begins at reference
--- sample u has been taken
+-- the number of samples up to and including the finger's last sample of the frame that begins at
+-- reference sample u
 abbrev pub finger_end : Form → ℕ → Finger → ℕ
 finger_end form u f = unsigned_abs ((pos u -ℤ f.delta) +ℤ pos (frame_chips form))
 
--- when that of every finger has
+-- the number of samples up to and including the last of all fingers' samples of that frame
 abbrev pub frame_end : List Finger → Form → ℕ → ℕ
 frame_end [] form u = 0
 frame_end (f ∷ fingers) form u = max (finger_end form u f) (frame_end fingers form u)
@@ -25,9 +25,9 @@ is_within n fingers form u =
     int_le f.delta (pos u) && int_le ((pos u -ℤ f.delta) +ℤ pos (frame_chips form)) (pos n))
     fingers
 
--- A channel whose frames follow one another from reference sample `first` on, as fingers hear it.
--- Those of a sync or a paging channel wait: each is decoded with the frame after it. How a frame's
--- soft values are decoded is of a type that matters to nothing here.
+-- A channel whose frames follow one another from reference sample `first` on, as fingers receive
+-- it. The frames of a sync or paging channel wait: each is decoded with the frame after it.
+-- `channel` specifies how soft values are decoded; its type does not matter here.
 pub record StreamOf (C : Type 0) : Type 0 where
   pub channel : C
   pub form : Form
@@ -43,8 +43,8 @@ frame_start s k = s.first + frame_chips s.form * k
 abbrev pub is_in_file : {C : Type 0} → ℕ → StreamOf C → ℕ → Bool
 is_in_file count s k = is_within count s.fingers s.form (frame_start s k)
 
--- A frame is decoded with the frame before it and the frame after it, where these are in the file:
--- the span.
+-- The span: a frame is decoded with the frame before it and the frame after it, if these are in the
+-- file.
 abbrev pub span_first : {C : Type 0} → ℕ → StreamOf C → ℕ → ℕ
 span_first count s zero = 0
 span_first count s (suc k) = if is_in_file count s k then k else suc k
@@ -52,8 +52,8 @@ span_first count s (suc k) = if is_in_file count s k then k else suc k
 abbrev pub span_frames : {C : Type 0} → ℕ → StreamOf C → ℕ → ℕ
 span_frames count s k = (if is_in_file count s (k + 1) then k + 2 else k + 1) - span_first count s k
 
--- the number of samples at which frame k is known: the end of its span, or its own where it doesn't
--- wait
+-- the number of samples at which frame k is known: the end of its span, or its own end if it does
+-- not wait
 abbrev pub known_at : {C : Type 0} → ℕ → StreamOf C → ℕ → ℕ
 known_at count s k =
     frame_end s.fingers s.form
@@ -63,7 +63,7 @@ abbrev pub frame_softs : {C : Type 0} → List Sample → StreamOf C → ℕ →
 frame_softs samples s k =
     unscrambled (s.scrambling k) (softs samples s.fingers s.form (frame_start s k))
 
--- those of the frames of frame k's span, one after another
+-- the soft values of the frames of frame k's span, one after another
 abbrev pub span_softs : {C : Type 0} → ℕ → List Sample → StreamOf C → ℕ → List ℤ
 span_softs count samples s k =
     let first = span_first count s k in

@@ -8,12 +8,12 @@ use Rattle.pilot_search.specs.Search.{energy}
 abbrev pub samples_before : List Sample → ℕ → List Sample
 samples_before samples end = take 512 (drop (end - 512) samples)
 
--- the energy at place i of a window of phases round a phase: the first of them lies half the
+-- the energy at place i of a window of phases around a phase; the first of them lies half the
 -- window below it
 abbrev pub window_energy : List Sample → ℕ → ℕ → ℕ → ℕ
 window_energy samples phase window i = energy samples (phase + 32768 + i - window / 2)
 
--- an energy, and how many chips above the window's middle it lies
+-- an energy, and the number of chips by which its place is above the window's middle
 pub record Strength : Type 0 where
   pub energy : ℕ
   pub delta : ℤ
@@ -27,7 +27,7 @@ strength samples phase window =
       delta = pos place -ℤ pos (window / 2);
     }
 
--- the strength before a place, of a pilot whose chip of this phase falls on sample 0
+-- the strength before a place of a pilot whose chip at this phase falls on sample 0
 abbrev pub strength_before : List Sample → ℕ → ℕ → ℕ → Strength
 strength_before samples phase window end =
     strength (samples_before samples end) (phase + (end - 512)) window

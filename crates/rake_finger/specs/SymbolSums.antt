@@ -1,11 +1,11 @@
--- The sums of a symbol's samples, despread.
+-- The sums of a symbol's despread samples.
 use Rattle.rake_finger.specs.Common.{sum_of, Sample, IsWithin}
 use Rattle.std.specs.Prelude.{◌≡◌, ℕ, ◌*◌, List}
 use Rattle.rake_finger.specs.Soft.{covered_from, despread_at}
 use Rattle.rake_finger.specs.declared.lanes.Sums.{Sums}
 
--- `chips` samples from a place on, despread: as they are, and each with the sign of its chip of a
--- Walsh row
+-- the sums of `chips` despread samples from a place on: plain, and each with the sign of its chip
+-- of a Walsh row
 pub record AreSymbolSums (samples : List Sample) (row phase place chips : ℕ) (sums : Sums)
     : Type 0 where
   pub plain : sums.plain ≡ sum_of (despread_at samples phase place chips)

@@ -41,7 +41,7 @@ windows : map (λ phase. strength two phase 4) (5 ∷ 7 ∷ 2 ∷ [])
 unfolding two chips_to phase_correlation energy strength first_greatest
 windows = refl
 
--- of nothing all energies are the same
+-- if all samples are 0, all energies are equal
 nothing_there : strength (replicate 4 (record { i = pos 0; q = pos 0 })) 20 10 ≡
     record { energy = 0; delta = negsuc 4 }
 unfolding chips_to phase_correlation energy strength first_greatest
@@ -54,7 +54,7 @@ power_of_two = refl
 below_the_code : modulo_code (negsuc 2) ≡ 32765
 below_the_code = refl
 
--- a soft value is turned where its scrambling bit is 1, and none where there are no bits
+-- a soft value is negated if its scrambling bit is 1; without bits none is
 descrambled : map (λ bits. unscrambled bits (pos 3 ∷ pos 4 ∷ [])) ((true ∷ false ∷ []) ∷ [] ∷ [])
     ≡ (negsuc 2 ∷ pos 4 ∷ []) ∷ (pos 3 ∷ pos 4 ∷ []) ∷ []
 descrambled = refl

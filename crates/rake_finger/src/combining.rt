@@ -1,4 +1,4 @@
-//! The soft values of a frame, added up over the fingers.
+//! The soft values of a frame, summed over the fingers.
 
 ghost use Rattle.rake_finger.specs.Common.{Sample};
 ghost use Rattle.std.specs.Prelude.{◌≡◌, ◌<◌, ◌≤◌, ◌+◌, ◌*◌, ◌^◌, List, ℤ, All, length, sum_by};
@@ -70,12 +70,11 @@ fn add_finger(
 }
 
 /// Computes the soft values of all symbols of the frame that begins at reference sample `start`,
-/// each added up over the fingers.
+/// each summed over the fingers.
 ///
-/// `out` has an entry for each of the frame's symbols, and holds their values then, whatever it
-/// held. They aren't turned by scrambling bits. Each window's pilot is summed up once. The absolute
-/// values of a frame's entries add up to so little that those of eight fingers over a frame, or of
-/// three over three frames, add up to at most 2^62.
+/// `out` has an entry for each of the frame's symbols; its old values are overwritten. The new ones
+/// are not descrambled. Each window's pilot is summed only once. The absolute values add up to at
+/// most 2^62 for a frame with eight fingers, and for three frames with three fingers.
 pub fn combine_into(
     ring: &SampleRing,
     codes: &Codes,

@@ -13,7 +13,7 @@ use std::marker::Model;
 pub struct Finger {
     /// The chip of the pilot's code that falls on sample 0.
     pub phase: Phase,
-    /// How much earlier than the reference path its samples come, in chips.
+    /// The number of chips by which its samples precede those of the reference path.
     pub delta: i16,
     /// The channel's Walsh row, 0 to 63.
     pub row: u8,
@@ -27,7 +27,7 @@ fn phase_above(phase: Phase, delta: i8) -> Phase
     Phase::new(number as u16).unwrap()
 }
 
-/// Makes the finger that receives a row `delta` chips earlier than at a phase.
+/// Returns the finger for a Walsh row on the path `delta` chips earlier than the path at `phase`.
 pub fn finger_at(row: u8, phase: Phase, delta: i8) -> Finger
     ensures value { result ≡ finger_of row phase delta }
     ensures near { is_near result.delta ≡ true }
@@ -40,7 +40,7 @@ pub fn finger_at(row: u8, phase: Phase, delta: i8) -> Finger
     }
 }
 
-/// A list of 1 to 8 fingers, whose soft values are added up. Contracts see the list.
+/// A list of 1 to 8 fingers, whose soft values are summed. Contracts see the list.
 #[derive(Drop)]
 pub struct Fingers {
     items: [Finger; 8],
@@ -94,7 +94,7 @@ impl Fingers {
         &self.items[..usize::from(self.count)]
     }
 
-    /// Adds a finger at the end; `Full` exactly if there are 8, and the list is unchanged then.
+    /// Adds a finger at the end. Returns `Full`, with the list unchanged, exactly if there are 8.
     pub fn push(&mut self, finger: Finger) -> Result<(), Full>
         ensures room { IsOk result ↔ (length self.old < 8) }
         ensures ok { OnOk result (self.new ≡ self.old ++ finger ∷ []) }

@@ -11,13 +11,13 @@ pub enum Form {
     /// The sync channel: 128 symbols of 256 chips, and windows of 1,024 chips (TIA/EIA-95-B,
     /// 7.1.3.3).
     Sync,
-    /// The paging and traffic channels: 384 symbols of 64 chips, and windows of 1,536 chips, a
+    /// The paging and traffic channels: 384 symbols of 64 chips, and windows of 1,536 chips, one
     /// power control group each.
     Data,
 }
 
 impl Form {
-    /// Returns how many chips a symbol has.
+    /// Returns the number of chips in a symbol.
     pub(crate) fn symbol_chips(self) -> u16
         ensures { result ≡ symbol_chips self }
     {
@@ -27,7 +27,7 @@ impl Form {
         }
     }
 
-    /// Returns how many chips a window has.
+    /// Returns the number of chips in a window.
     pub(crate) fn window_chips(self) -> u16
         ensures { result ≡ window_chips self }
     {
@@ -37,7 +37,7 @@ impl Form {
         }
     }
 
-    /// Returns how many windows a frame has.
+    /// Returns the number of windows in a frame.
     pub(crate) fn windows(self) -> u16
         ensures { result ≡ windows self }
     {
@@ -47,7 +47,7 @@ impl Form {
         }
     }
 
-    /// Returns how many symbols a window has.
+    /// Returns the number of symbols in a window.
     pub(crate) fn window_symbols(self) -> u16
         ensures { result ≡ window_symbols self }
     {

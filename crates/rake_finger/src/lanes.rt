@@ -12,20 +12,20 @@ use chip_core::{Pair, Sample};
 use pilot_search::{products, sum_of_lanes, with_products};
 use std::simd::prelude::*;
 
-/// How many chips the lanes have.
+/// The number of chips on the lanes.
 const GROUP: usize = 8;
 
-/// How many groups of chips a Walsh row has.
+/// The number of groups of chips in a Walsh row.
 const ROW_GROUPS: usize = 8;
 
-/// The sums of samples, despread: as they are, and each with the sign of its chip of a Walsh row.
+/// The sums of despread samples: plain, and each with the sign of its chip of a Walsh row.
 #[derive(Clone, Copy)]
 pub(crate) struct Sums {
     pub plain: Pair,
     pub covered: Pair,
 }
 
-/// Eight signs of a row, from a chip on.
+/// The eight signs of a row from chip `first` on.
 fn eight_signs(row: &RowSigns, first: usize) -> i32x8
     requires room { first + 8 ≤ 64 }
     requires units { AreUnitSigns row.now }
@@ -52,8 +52,8 @@ fn signed_lanes(products: i32x8, signs: i32x8) -> i32x8
     products * signs
 }
 
-/// The products of a group of chips, each times the sign of its chip of a row: their real parts,
-/// and their imaginary parts.
+/// The products of a group of chips, each times the sign of its chip of a row: the real parts and
+/// the imaginary parts.
 fn covered_products(real: i32x8, imaginary: i32x8, row: &RowSigns, group: usize) -> (i32x8, i32x8)
     requires group { group < 8 }
     requires units { AreUnitSigns row.now }
@@ -67,9 +67,9 @@ fn covered_products(real: i32x8, imaginary: i32x8, row: &RowSigns, group: usize)
     (signed_lanes(real, signs), signed_lanes(imaginary, signs))
 }
 
-/// The sums of the products of samples with the conjugates of their points of the code, as they are
-/// and with the signs of a Walsh row, whose chip 0 falls on the first sample. The samples are whole
-/// groups of eight.
+/// The sums of the products of samples with the conjugates of their points of the code: plain, and
+/// with the signs of a Walsh row whose chip 0 falls on the first sample. The number of samples is a
+/// multiple of eight.
 pub(crate) fn symbol_sums_on_lanes(samples: &[Sample], signs: &[(i8, i8)], row: &RowSigns) -> Sums
     requires few { length samples.now ≤ 32768 }
     requires whole { length samples.now % 8 ≡ 0 }

@@ -1,12 +1,12 @@
-//! The fingers of a rake receiver: soft values of a channel's symbols, and how strong pilots are,
-//! from the last samples.
+//! The fingers of a rake receiver: soft values of a channel's symbols, and strengths of pilots,
+//! computed from the last samples.
 //!
 //! A handset receives a base station on several paths, and on paths from several base stations. A
 //! finger despreads one path (TIA/EIA-95-B, 7.1.3.1.9): it multiplies the samples by the conjugate
-//! of the pilot's code. The pilot's sum over a window of chips then tells the path's strength and
-//! angle, and the sum over a symbol's chips, each with the sign of its chip of a Walsh row
-//! (7.1.3.1.8), is turned by it and weighed by it. The soft value of a symbol is the real part, and
-//! the sum of it over all fingers.
+//! of the pilot's code. The pilot's sum over a window of chips then gives the path's strength and
+//! angle. The sum over a symbol's chips, each with the sign of its chip of a Walsh row (7.1.3.1.8),
+//! is turned and weighted by the pilot's. The soft value of a symbol is the real part, summed over
+//! all fingers.
 //!
 //! A pilot's strength is the largest energy of the last samples near the phase where it should be.
 #![tactic(auto)]

@@ -10,7 +10,7 @@ ghost use Rattle.rake_finger.specs.Strengths.{IsNarrow};
 use crate::ring::SampleRing;
 use chip_core::Sample;
 
-/// How many samples are measured at an evaluation of the pilot sets.
+/// The number of samples that are measured at an evaluation of the pilot sets.
 pub(crate) const MOMENT_SAMPLES: usize = 512;
 
 /// The 512 samples before a place, counted from sample 0.
@@ -54,8 +54,8 @@ fn power_of(samples: &[Sample]) -> u64
 
 /// The power of the 512 samples before `end`, counted from sample 0: the sum of i² + q².
 ///
-/// The ring still holds these samples. Compared with it, a pilot's strength gives the share of this
-/// pilot in what is received.
+/// The ring must still hold these samples. Compared with this power, a pilot's strength gives the
+/// pilot's share of all received power.
 pub fn power(ring: &SampleRing, end: u64) -> u64
     requires { HoldsBefore ring.now end }
     ensures value { (samples : List Sample) → HoldsLast ring.now samples →

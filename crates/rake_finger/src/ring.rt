@@ -9,10 +9,10 @@ use chip_core::{OutOfMemory, Sample};
 use std::alloc::Global;
 use std::marker::Model;
 
-/// Keeps the last samples that it has taken, as many as it has room for.
+/// A buffer of the last samples that it has taken, as many as it has room for.
 ///
-/// Contracts see its room, how many samples it has taken, and its cells; `HoldsLast` says which
-/// samples these are.
+/// Contracts see its room, the number of samples taken, and its cells; `HoldsLast` specifies the
+/// samples in these.
 #[derive(Drop)]
 pub struct SampleRing {
     cells: Vec<Sample>,
@@ -35,9 +35,9 @@ impl Model for SampleRing {
 }
 
 impl SampleRing {
-    /// Makes a ring that has taken no sample, with room for the last `room`.
+    /// Makes a ring that has taken no sample, with room for the last `room` samples.
     ///
-    /// It allocates four bytes for each of them, and that is all that can fail.
+    /// It allocates four bytes for each of them, and fails only if that allocation does.
     pub fn new(alloc: Global, room: u32) -> Result<SampleRing, OutOfMemory>
         requires { 1 ≤ room }
         ensures room { IfOk result (λ ring. ring.room ≡ room) }
@@ -55,7 +55,7 @@ impl SampleRing {
         self.taken
     }
 
-    /// Takes another sample into the cell that is next.
+    /// Takes another sample into `cell`, which is the next one.
     fn put(&mut self, cell: usize, s: Sample)
         requires next { cell ≡ self.old.taken % self.old.room }
         requires few { self.old.taken < 2 ^ 63 }

@@ -13,15 +13,15 @@ use chip_core::{Phase, Sample};
 use pilot_search::energy_at;
 use short_code::Codes;
 
-/// The code phase of a chip's number.
+/// The code phase of the chip with this number.
 fn phase_of(chip: u64) -> Phase
     ensures { result ≡ chip % 32768 }
 {
     Phase::new((chip % CODE_CHIPS) as u16).unwrap()
 }
 
-/// Returns the largest energy of the samples over consecutive phases from `lowest` on, across the
-/// code's end, and its place, the first on a tie.
+/// Returns the largest energy of the samples over `count` consecutive phases from `lowest` on, and
+/// its place, the first on a tie. The phases may wrap around the code's end.
 fn strongest(samples: &[Sample], codes: &Codes, lowest: u64, count: u16) -> (u64, u16)
     requires samples { length samples.now ≤ 512 }
     requires lowest { lowest ≤ 2 ^ 63 + 2 ^ 16 }
@@ -44,9 +44,9 @@ fn strongest(samples: &[Sample], codes: &Codes, lowest: u64, count: u16) -> (u64
 /// energy of a window of phases, and its delta in chips.
 ///
 /// `phase` is the chip of the code that falls on sample 0 at a delta of 0. The deltas run from
-/// `-window / 2` to `window / 2`; at each of them the samples are correlated with the code that
-/// many chips further on, and of several with the largest energy the smallest is taken. The ring
-/// still holds the samples. Of zeros, the energy is 0 and the delta `-window / 2`.
+/// `-window / 2` to `window / 2`. At each of them the samples are correlated with the code that
+/// many chips further on; on a tie the smallest delta is taken. The ring must still hold the
+/// samples. If all are 0, the energy is 0 and the delta `-window / 2`.
 pub fn strength(ring: &SampleRing, codes: &Codes, phase: Phase, window: u16, end: u64) -> (u64, i16)
     requires ring { HoldsBefore ring.now end }
     requires even { window % 2 ≡ 0 }

@@ -33,11 +33,10 @@ fn covered(sample: Sample, chips: (bool, bool), row_chip: bool) -> Pair
     despread(sample, signs_of(i != row_chip, q != row_chip))
 }
 
-/// Returns the sum of despread samples from a place on, each with the sign of its chip of a Walsh
-/// row.
+/// Returns the sum of `chips` despread samples from `place` on, each with the sign of its chip of a
+/// Walsh row.
 ///
-/// The code's chip of this phase falls on sample 0, and the row's chip 0 on the sample at the
-/// place.
+/// The code's chip at `phase` falls on sample 0, and the row's chip 0 on the sample at `place`.
 pub(crate) fn covered_sum(
     ring: &SampleRing,
     codes: &Codes,
@@ -69,7 +68,7 @@ pub(crate) fn covered_sum(
     sum
 }
 
-/// The sums of a symbol's samples, despread, one sample at a time.
+/// The sums of a symbol's despread samples, computed one sample at a time.
 fn broken_sums(ring: &SampleRing, codes: &Codes, finger: &Finger, place: u64, chips: u16) -> Sums
     requires row { finger.now.row < 64 }
     requires held { IsHeldInRing ring.now place chips }
@@ -83,8 +82,8 @@ fn broken_sums(ring: &SampleRing, codes: &Codes, finger: &Finger, place: u64, ch
     }
 }
 
-/// The sums of a symbol's samples, despread, on lanes: they stand side by side in the ring, from a
-/// cell on, and so do the chips of the code that they meet, from chip `first` on.
+/// The sums of a symbol's despread samples, computed on lanes. The samples are contiguous in the
+/// ring from `cell` on, and so are their chips of the code from chip `first` on.
 fn unbroken_sums(
     ring: &SampleRing,
     codes: &Codes,
@@ -108,11 +107,11 @@ fn unbroken_sums(
     symbol_sums_on_lanes(ring.run(cell, usize::from(chips)), ahead, signs)
 }
 
-/// The sums of a symbol's samples from a place on, despread by the finger's code: as they are, and
-/// each with the sign of its chip of the finger's row, whose signs are given.
+/// The sums of a symbol's samples from `place` on, despread by the finger's code: plain, and each
+/// with the sign of its chip of the finger's row, which has these signs.
 ///
-/// They are added up on lanes, but where the symbol lies across the ring's last cell or the code's
-/// last chip: there one sample at a time.
+/// They are computed on lanes, or one sample at a time if the symbol extends past the ring's last
+/// cell or the code's last chip.
 pub(crate) fn symbol_sums(
     ring: &SampleRing,
     codes: &Codes,

@@ -57,11 +57,10 @@ pub(crate) fn turned_by(pilot: Pair, symbol: Pair) -> i64
 
 /// The soft value of a symbol of the frame that begins at reference sample `start`, on one finger.
 ///
-/// It is positive where the symbol is more likely a 0. The samples are summed up over the symbol's
-/// chips, and for the pilot over the aligned window of the frame that the symbol lies in; the value
-/// is the real part of the conjugate of the pilot's sum times the symbol's. It isn't turned by
-/// scrambling bits. Its absolute value is at most 2^51 on the sync channel, and 2^50 on other
-/// channels.
+/// It is positive if the symbol is more likely a 0. The samples are summed over the symbol's chips,
+/// and for the pilot over the aligned window of the frame that contains the symbol. The value is
+/// the real part of the conjugate of the pilot's sum times the symbol's. It is not descrambled. Its
+/// absolute value is at most 2^51 on the sync channel, and 2^50 on other channels.
 pub fn soft(
     ring: &SampleRing,
     codes: &Codes,

@@ -21,7 +21,7 @@ use short_code::Codes;
 const MOST_SYMBOLS: usize = 24;
 
 /// The sum of a finger's pilot over a window, and the sums of its row over the window's symbols, as
-/// many as there are.
+/// many as it has.
 #[derive(Clone, Copy)]
 pub(crate) struct WindowSums {
     pub pilot: Pair,

@@ -21,12 +21,12 @@ frame_symbols2 rate w = symbols_in (format_of2 rate) w
 abbrev pub lower_rates2 : List Rate2
 lower_rates2 = R1800 ∷ R3600 ∷ R7200 ∷ []
 
--- a frame by its format as a frame of rate set 2
+-- a frame that was decoded by its format, as a frame of rate set 2
 abbrev pub as_decoded2 : DecodedFrame Rate2 → Decoded2
 as_decoded2 d = record { rate = d.rate; good = d.good; bits = d.bits; score = d.score }
 
--- what is decoded of a frame's soft values, of which those at these places belong to power control
--- bits
+-- the frame that is decoded from soft values, of which those at these places belong to power
+-- control bits
 unfoldable pub decoded2 : List ℕ → List ℤ → Decoded2
 decoded2 replaced softs =
     as_decoded2 (frame_of (format_of2 R14400) (map format_of2 lower_rates2) replaced softs)

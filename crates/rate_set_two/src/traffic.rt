@@ -11,7 +11,7 @@ use viterbi::Decoder;
 /// The result of decoding a frame.
 #[derive(Clone, Copy)]
 pub struct Decoded2 {
-    /// The rate at which it was sent, and 14,400 bits a second where it isn't good.
+    /// The rate at which it was sent, or 14,400 bits a second if it isn't good.
     pub rate: Rate2,
     /// Whether there is a candidate whose score is above 0.
     pub good: bool,
@@ -25,11 +25,11 @@ pub struct Decoded2 {
 /// Decodes a frame of rate set 2.
 ///
 /// `softs` has the soft values of a frame's 384 symbols in the sent order, with the scrambling
-/// removed, and `places` the places of the power control bits, whose soft values count as 0, as
-/// those of dropped symbols do. The best codeword of each rate, among those that start and end with
-/// eight zeros, is a candidate if its quality indicator is right. The candidate of the largest
+/// removed. `places` has the places of the power control bits, whose soft values count as 0, like
+/// those of dropped symbols. The best codeword of each rate, among those that start and end with
+/// eight zeros, is a candidate if its quality indicator is right. The candidate with the largest
 /// score is taken, the higher rate on a tie, and is good exactly if that score is above 0. If it
-/// isn't, and if there is no candidate, the rate is 14,400, with the information bits of the best
+/// isn't, or if there is no candidate, the rate is 14,400, with the information bits of the best
 /// codeword at that rate.
 pub fn traffic2_frame(decoder: &mut Decoder, softs: &FrameSofts, places: &PowerPlaces) -> Decoded2
     requires room { 288 ≤ decoder.old }

@@ -1,5 +1,5 @@
-//! The work of the decoders that `tools/bench` times: the best codeword of what was sent, and the
-//! first four codewords of any soft values. Only their contracts say what they return.
+//! The work of the decoders that `tools/bench` times: finding the best codeword of what was sent,
+//! and the first four codewords of any soft values. Only the decoders' contracts state the results.
 
 ghost use Rattle.std.specs.Prelude.{◌≡◌, ◌<◌, ◌≤◌, ◌^◌, IsTrue, sum_by, unsigned_abs};
 
@@ -47,18 +47,18 @@ fn is_bounded(softs: &[i64]) -> bool
     true
 }
 
-/// A codeword that was sent, and the soft values that are heard of it.
+/// A codeword that was sent, and its received soft values.
 #[derive(Drop)]
 struct Sending {
     softs: [i64; 1152],
-    /// How many of the soft values are heard.
+    /// The number of soft values that are received.
     count: usize,
     ends: Ends,
     codeword: Codeword,
 }
 
-/// A codeword to be sent, and soft values of its symbols' signs, between 1 and 2,047 in absolute
-/// value. The codeword's score is the sum of the absolute values, so it is the best.
+/// Returns a codeword to be sent, and fills `softs` with its symbols' signs times 1 to 2,047. The
+/// codeword's score is the sum of the absolute values, so it is the best.
 fn sent_into(rt: &impl Abort, count: u16, ends: Ends, softs: &mut [i64]) -> Codeword {
     let mut generator = Generator(8);
     let mut bits = Bits::empty();
@@ -115,8 +115,8 @@ fn decode(rt: &impl Abort, decoder: &mut Decoder, sent: &Sending, turns: u16)
     assert!(rt; codeword == sent.codeword);
 }
 
-// `tools/bench` times these tests, and knows how often each decodes; it takes off the time of the
-// first, which decodes next to nothing.
+// `tools/bench` times these tests, and knows how often each decodes; it subtracts the time of the
+// first, which decodes almost nothing.
 #[test]
 fn decodes_nine_bits(rt: HostRuntime) -> Result<(), Fail> {
     let mut decoder = Decoder::new(rt.alloc(), 576)?;

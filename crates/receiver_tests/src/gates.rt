@@ -1,13 +1,13 @@
-//! Gates that keep what workers tell them.
+//! Gates that record what workers report to them.
 
 use chip_core::Sample;
 use pilot_search::Gate;
 use std::sync::atomic::{AtomicU64, Ordering};
 
-/// Samples of which nothing is heard.
+/// Samples that contain no signal.
 pub const NOTHING: [Sample; 64] = [Sample { i: 0, q: 0 }; 64];
 
-/// A bit for each worker.
+/// Returns the bit for a worker.
 fn flag_of(worker: u8) -> u64 {
     1 << (worker % 64)
 }
@@ -21,19 +21,19 @@ fn wait_for(word: &AtomicU64, value: u64) {
     }
 }
 
-/// Counts the calls, and adds up what was left unfinished.
+/// A gate that counts its calls, and adds up the phases left unfinished.
 #[derive(Drop)]
 pub struct Counting {
-    /// How many workers arrived.
+    /// The number of workers that arrived.
     pub arrived: AtomicU64,
-    /// How many of them left.
+    /// The number of workers that left.
     pub left: AtomicU64,
-    /// How many phases they left unfinished.
+    /// The number of phases that they left unfinished.
     pub unfinished: AtomicU64,
 }
 
 impl Counting {
-    /// The gate before any worker.
+    /// The gate before any worker has arrived.
     pub fn new() -> Counting {
         Counting {
             arrived: AtomicU64::new(0),
@@ -60,26 +60,26 @@ impl Gate for Counting {
 pub struct Meeting {
     /// The flags of the workers that are waited for.
     all: u64,
-    /// The sum of the flags of the workers that arrived,
+    /// The sum of the flags of the workers that arrived.
     arrived: AtomicU64,
-    /// of those that saw all the others,
+    /// The sum of the flags of those that saw all the others.
     met: AtomicU64,
-    /// and of those that left.
+    /// The sum of the flags of those that left.
     left: AtomicU64,
 }
 
 impl Meeting {
-    /// The gate of two workers, before any.
+    /// The gate of two workers, before any has arrived.
     pub fn of_two() -> Meeting {
         Meeting::of(0b11)
     }
 
-    /// The gate of five workers, before any.
+    /// The gate of five workers, before any has arrived.
     pub fn of_five() -> Meeting {
         Meeting::of(0b1_1111)
     }
 
-    /// The gate of 64 workers, before any.
+    /// The gate of 64 workers, before any has arrived.
     pub fn of_all() -> Meeting {
         Meeting::of(u64::MAX)
     }
@@ -93,7 +93,7 @@ impl Meeting {
         }
     }
 
-    /// Whether each worker has seen all the others and has left, and no other was there.
+    /// Whether each worker has seen all the others and has left, and no other has arrived.
     pub fn is_over(&self) -> bool {
         self.arrived.load(Ordering::SeqCst) == self.all
             && self.met.load(Ordering::SeqCst) == self.all
@@ -118,17 +118,17 @@ impl Gate for Meeting {
 }
 
 /// A gate at which each of four workers waits until those after it have left, or the turns are used
-/// up. It keeps the number of phases that each reports.
+/// up. It records the number of phases that each reports.
 #[derive(Drop)]
 pub struct Queue {
-    /// How many workers have left.
+    /// The number of workers that have left.
     gone: AtomicU64,
-    /// How many phases each left unfinished, in 16 bits of its own, the lowest for worker 0.
+    /// The numbers of phases left unfinished, 16 bits per worker, the lowest for worker 0.
     pub unfinished: AtomicU64,
 }
 
 impl Queue {
-    /// The gate before any worker.
+    /// The gate before any worker has arrived.
     pub fn new() -> Queue {
         Queue {
             gone: AtomicU64::new(0),
@@ -149,22 +149,22 @@ impl Gate for Queue {
     }
 }
 
-/// Where worker 0 begins when worker 1 is there, and worker 1 counts the turns from then on until
-/// worker 0 has left: few, where worker 0 doesn't work between arriving and leaving.
+/// A gate at which worker 0 begins once worker 1 has arrived, and worker 1 counts turns from then
+/// on until worker 0 has left: few if worker 0 does not work between arriving and leaving.
 #[derive(Drop)]
 pub struct Watch {
-    /// Whether worker 1 is there, 1 if it is,
+    /// 1 if worker 1 has arrived, otherwise 0.
     there: AtomicU64,
-    /// whether worker 0 has begun,
+    /// 1 if worker 0 has begun, otherwise 0.
     begun: AtomicU64,
-    /// and whether it has left.
+    /// 1 if worker 0 has left, otherwise 0.
     gone: AtomicU64,
-    /// How many turns worker 1 has counted.
+    /// The number of turns that worker 1 has counted.
     pub turns: AtomicU64,
 }
 
 impl Watch {
-    /// The gate before either worker.
+    /// The gate before either worker has arrived.
     pub fn new() -> Watch {
         Watch {
             there: AtomicU64::new(0),

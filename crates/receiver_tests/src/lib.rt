@@ -1,9 +1,9 @@
-//! Tests of the search and the survey by what their crates make public, of what no clause says:
-//! what the gates of workers are told, that workers are at work at once, and that phases are left;
-//! and the work of the search and of the decoders that `tools/bench` times, that of the search
-//! compared with a plain loop.
+//! Tests of the search and the survey through their public interfaces, for what no clause
+//! specifies: the calls of the workers' gates, workers that run concurrently, and phases left
+//! unfinished. Also the work of the search and of the decoders that `tools/bench` times, with a
+//! plain loop for comparison.
 //!
-//! They stand apart from the crates, so that each of those is proved once.
+//! They are in a crate of their own, so that each of the tested crates is proved once.
 #![tactic(auto)]
 
 #[cfg(test)]

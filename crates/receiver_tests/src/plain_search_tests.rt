@@ -1,4 +1,4 @@
-//! The search on lanes against a plain loop: the work that `tools/bench` times.
+//! The search on lanes compared with a plain loop: the work that `tools/bench` times.
 
 ghost use Rattle.std.specs.Prelude.{◌<◌};
 
@@ -7,7 +7,7 @@ use pilot_search::sweep;
 use short_code::Codes;
 use std::test::Fail;
 
-/// The energy at a phase, by a plain loop over the samples.
+/// The energy at a phase, computed by a plain loop over the samples.
 fn plain_energy(samples: &[Sample; 2048], codes: &Codes, phase: u16) -> u64
     requires { phase < 32768 }
 {

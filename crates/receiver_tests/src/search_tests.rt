@@ -1,4 +1,4 @@
-//! What the workers of the search tell, and which phases they leave.
+//! What the workers of the search report, and which phases they leave unfinished.
 
 ghost use Rattle.std.specs.Prelude.{◌<◌, ◌≤◌, length};
 
@@ -105,7 +105,7 @@ fn leaves_a_phase_that_is_surely_below(rt: HostRuntime) -> Result<(), Fail> {
     Ok(())
 }
 
-/// Returns how many phases one worker leaves that tries all in order.
+/// Returns the number of phases that a single worker leaves unfinished if it tries all in order.
 #[tactic(auto, using(pilot_search::proofs::FoundLemmas::at_most_greatest))]
 fn left_in_order(alloc: Global, samples: &[Sample], codes: &Codes) -> Result<u64, OutOfMemory>
     requires { length samples.now ≤ 32768 }
@@ -139,8 +139,8 @@ fn noise(seed: u32) -> [Sample; 2048] {
     samples
 }
 
-/// Seeds of noise, how many of its samples are searched, and how many phases one worker leaves of
-/// them, as `tools/tests/test_left_phases` counts by the rule.
+/// Seeds of noise, the number of its samples that are searched, and the number of phases that one
+/// worker leaves unfinished, as `tools/tests/test_left_phases` counts them by the rule.
 static NOISE: [(u32, usize, u64); 3] = [(1, 2048, 27394), (2, 1500, 32450), (3, 640, 1636)];
 
 #[test]
@@ -163,7 +163,7 @@ fn tells_how_many_phases_of_noise_it_leaves(rt: HostRuntime) -> Result<(), Fail>
 }
 
 /// The best phase is the last of the fourth worker's, and each other worker begins when the one
-/// after it has left: so it leaves each phase of its quarter, and each reports its own number.
+/// after it has left. So it leaves its whole quarter unfinished, and each reports its own number.
 #[test]
 fn works_between_arriving_and_leaving(rt: HostRuntime) -> Result<(), Fail> {
     let codes = Codes::new(rt.alloc())?;

@@ -1,4 +1,4 @@
-//! What the workers of the survey tell.
+//! What the workers of the survey report.
 
 ghost use Rattle.std.specs.Prelude.{◌≤◌, length};
 
@@ -53,7 +53,7 @@ fn each_worker_arrives_and_leaves_once(rt: HostRuntime) -> Result<(), Fail> {
     Ok(())
 }
 
-/// A worker measures 256 pilots at 63 phases each over 32,768 samples meanwhile.
+/// In between, a worker measures 256 pilots at 63 phases each over 32,768 samples.
 #[test]
 fn works_between_arriving_and_leaving(rt: HostRuntime) -> Result<(), Fail> {
     let gate = Watch::new();

@@ -10,12 +10,12 @@ use Rattle.rake_finger.specs.Streams.{StreamOf, frame_end, frame_start}
 use Rattle.rake_finger.specs.Timing.{IsTimed, stream_end}
 use Rattle.reception.specs.declared.frame_clock.FrameClock.{FrameClock}
 
--- the first frame that begins in the file on each finger, where frame 0 begins at a reference
--- sample
+-- the first frame that begins in the file on each finger, if frame 0 begins at reference sample
+-- `first`
 abbrev pub first_frame : List Finger → ℕ → ℕ
 first_frame fingers first = if all_begun first fingers then 0 else 1
 
--- no frame has come yet, and the next is this one
+-- the clock before any frame has arrived, whose next frame is `frame`
 abbrev pub clock_from : List Finger → Form → Bool → ℕ → ℕ → FrameClock
 clock_from fingers form waits first frame = record {
   form = form;
@@ -27,7 +27,7 @@ clock_from fingers form waits first frame = record {
   end = frame_end fingers form (first + frame_chips form * frame);
 }
 
--- one frame more has come
+-- the clock after another frame has arrived
 abbrev pub frame_come : FrameClock → FrameClock
 frame_come c = record c {
   have = c.have + 1;
@@ -35,16 +35,16 @@ frame_come c = record c {
   end = c.end + frame_chips c.form;
 }
 
--- one frame more has been heard
+-- the clock after another frame has been decoded
 abbrev pub clock_after_frame : FrameClock → FrameClock
 clock_after_frame c = record c { next = c.next + 1 }
 
--- whether the next frame is known: it has come, and where it waits the frame after it has come, or
--- isn't in the file
+-- whether the next frame is known: it has arrived, and if it waits, the frame after it has arrived
+-- or is not in the file
 abbrev pub IsDueAt : ℕ → FrameClock → Type 0
 IsDueAt count c = (c.next < c.have) × (c.waits ≡ true → (c.next + 1 < c.have) ⊎ (count < c.end))
 
--- the first frame of the next one's span: the frame before it, where that is in the file
+-- the first frame of the next frame's span: the frame before it, if that is in the file
 abbrev pub span_from : FrameClock → ℕ
 span_from c = if nat_lt c.low c.next then c.next - 1 else c.next
 

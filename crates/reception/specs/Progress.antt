@@ -1,10 +1,10 @@
--- How far a receiver has come with the frames of a channel.
+-- The progress of a receiver through the frames of a channel.
 use Rattle.std.specs.Prelude.{◌≡◌, ◌⊎◌, ℕ, ◌+◌, ◌<◌, ◌≤◌, true}
 use Rattle.rake_finger.specs.Streams.{StreamOf, is_in_file, known_at}
 use Rattle.rake_finger.specs.Timing.{stream_end}
 
--- Of the frames in the file, from frame `low` on, those before `next` have been heard, and the soft
--- values of those before `have` are there, after n samples. Frame `have` ends at n or later.
+-- After n samples, the frames in the file from `low` on and before `next` have been decoded. The
+-- soft values of those before `have` are known. Frame `have` ends at n or later.
 pub record IsReached {C : Type 0} (count : ℕ) (s : StreamOf C) (low next have n : ℕ) : Type 0 where
   pub low_next : low ≤ next
   pub next_have : next ≤ have

@@ -9,8 +9,8 @@ use Rattle.reception.specs.Softs.{last_softs}
 use Rattle.rake_finger.specs.Streams.{StreamOf, frame_softs}
 use Rattle.reception.specs.declared.continued.Continued.{Continued}
 
--- The stream's fingers have taken these samples of a file: the clock is there, and the soft values
--- of the last frames, up to three, are those of the stream.
+-- The stream's fingers have taken these samples of a file. The clock is at their end, and the soft
+-- values of the last frames, up to three, are those of the stream.
 pub record Receives {C : Type 0} (count : ℕ) (s : StreamOf C) (c : Continued)
     (heard : List Sample) : Type 0 where
   pub waits : s.waits ≡ true

@@ -1,7 +1,7 @@
 -- The soft values of the last three frames.
 use Rattle.std.specs.Prelude.{ℕ, ◌*◌, ◌-◌, ◌^◌, ◌≤◌, List, ℤ, drop, sum_by, unsigned_abs}
 
--- the greatest sum of the absolute values of a frame, over three fingers
+-- a bound on the sum of a frame's absolute values, over three fingers
 abbrev pub frame_most : ℕ
 frame_most = 9 * 2 ^ 57
 
@@ -10,7 +10,7 @@ frame_most = 9 * 2 ^ 57
 abbrev pub last_softs : ℕ → ℕ → List ℤ → List ℤ
 last_softs symbols frames softs = drop (1152 - symbols * frames) softs
 
--- the absolute values of the last frames add up to little, whether they are one, two or three
+-- the absolute values of the last one, two or three frames add up to at most that many `frame_most`
 pub record AreSmall (symbols : ℕ) (softs : List ℤ) : Type 0 where
   pub one : sum_by unsigned_abs (last_softs symbols 1 softs) ≤ frame_most
   pub two : sum_by unsigned_abs (last_softs symbols 2 softs) ≤ 2 * frame_most

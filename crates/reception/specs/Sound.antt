@@ -9,7 +9,7 @@ use Rattle.reception.specs.declared.continued.Continued.{Continued}
 use Rattle.reception.specs.declared.frame_clock.FrameClock.{FrameClock}
 use Rattle.reception.specs.declared.frame_receiver.FrameReceiver.{FrameReceiver}
 
--- the next frame lies at most two before the one that comes, and each is early in the file
+-- the next frame is at most two before the one that arrives next, and both are early in the file
 pub record IsSoundClock (c : FrameClock) : Type 0 where
   pub low_next : c.low ≤ c.next
   pub next_have : c.next ≤ c.have
@@ -19,7 +19,7 @@ pub record IsSoundClock (c : FrameClock) : Type 0 where
   pub have_end : c.have < c.end
   pub end_most : c.end < 2 ^ 30
 
--- one to three fingers near the reference path, and soft values that a decoder takes
+-- one to three fingers near the reference path, and soft values small enough for a decoder
 pub record IsSoundChannel (c : Continued) : Type 0 where
   pub clocked : IsSoundClock c.clock
   pub near : AreNear c.fingers
@@ -30,7 +30,7 @@ pub record IsSoundChannel (c : Continued) : Type 0 where
   pub whole : length c.softs ≡ 1152
   pub small : AreSmall (symbols c.clock.form) c.softs
 
--- one finger or more, close to the reference path
+-- one or more fingers, close to the reference path
 pub record IsSoundReceiver (r : FrameReceiver) : Type 0 where
   pub clocked : IsSoundClock r.clock
   pub form_is : r.clock.form ≡ Data

@@ -14,7 +14,7 @@ use viterbi::Decoder;
 /// together with the previous and the next one, if these are in the file (TIA/EIA-95-B, 7.1.3.1.3).
 #[derive(Drop)]
 pub struct Continued {
-    /// The places of the frames in the file, and which of them have come.
+    /// The places of the frames in the file, and which of them have arrived.
     pub clock: FrameClock,
     /// The paths on which the channel is received.
     pub fingers: Fingers,
@@ -38,7 +38,7 @@ impl Continued {
     ghost use Rattle.symbol_path.specs.SentOrder.{size};
 
     /// Returns the receiver of a channel whose frame 0 begins at reference sample `first`, before
-    /// any frame has come.
+    /// any frame has arrived.
     pub fn new(fingers: Fingers, form: Form, first: u64) -> Continued
         requires near { AreNear fingers }
         requires rows { have_rows fingers ≡ true }
@@ -57,8 +57,8 @@ impl Continued {
         }
     }
 
-    /// Takes the soft values of the frame whose last sample has just come. `scrambling` has a bit
-    /// for each of its symbols, or none if the channel isn't scrambled.
+    /// Takes the soft values of the frame whose last sample has just arrived. `scrambling` has a
+    /// bit for each of its symbols, or none if the channel isn't scrambled.
     pub fn take_frame(&mut self, ring: &SampleRing, codes: &Codes, scrambling: &[bool])
         requires sound { IsSoundChannel self.old }
         requires near { self.old.clock.have ≤ self.old.clock.next + 1 }
@@ -86,7 +86,7 @@ impl Continued {
         clock.advance();
     }
 
-    /// Returns the bits of the next frame, which must have come.
+    /// Returns the bits of the next frame, which must have arrived.
     pub fn own_bits(&self, decoder: &mut Decoder, kind: FrameKind) -> Bits
         requires sound { IsSoundChannel self.now }
         requires come { self.now.clock.next < self.now.clock.have }

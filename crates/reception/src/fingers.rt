@@ -13,7 +13,7 @@ use chip_core::air::{DATA_FRAME_CHIPS, DATA_SYMBOLS, SYNC_FRAME_CHIPS, SYNC_SYMB
 use pilot_search::Near;
 use rake_finger::{Finger, Fingers, Form, finger_at};
 
-/// Returns how many chips a frame has.
+/// Returns the number of chips in a frame.
 pub(crate) fn frame_chips(form: Form) -> u64
     ensures value { result ≡ frame_chips form }
     ensures least { 256 ≤ result }
@@ -25,7 +25,7 @@ pub(crate) fn frame_chips(form: Form) -> u64
     }
 }
 
-/// Returns how many symbols a frame has.
+/// Returns the number of symbols in a frame.
 pub(crate) fn frame_symbols(form: Form) -> usize
     ensures value { result ≡ symbols form }
     ensures most { result ≤ 384 }
@@ -36,7 +36,7 @@ pub(crate) fn frame_symbols(form: Form) -> usize
     }
 }
 
-/// Returns the fingers that receive a Walsh row at a phase and at the paths near it.
+/// Returns the fingers that receive a Walsh row at a phase and on the paths near it.
 pub fn reference_fingers(row: u8, phase: Phase, near: &Near) -> Fingers
     requires row { row < 64 }
     requires least { 1 ≤ near.now.count }
@@ -57,8 +57,7 @@ pub fn reference_fingers(row: u8, phase: Phase, near: &Near) -> Fingers
     fingers
 }
 
-/// Returns whether a finger's frame that begins at a reference sample does not begin before the
-/// file.
+/// Returns whether a finger's frame of reference sample `start` does not begin before the file.
 fn has_begun(finger: &Finger, start: u64) -> bool
     requires { start < 2 ^ 30 }
     ensures { result ≡ int_le finger.now.delta (pos start) }
@@ -66,7 +65,7 @@ fn has_begun(finger: &Finger, start: u64) -> bool
     i64::from(finger.delta) <= start as i64
 }
 
-/// Returns whether no finger's frame that begins at a reference sample begins before the file.
+/// Returns whether no finger's frame of reference sample `start` begins before the file.
 pub(crate) fn are_begun(fingers: &Fingers, start: u64) -> bool
     requires { start < 2 ^ 30 }
     ensures { result ≡ all_begun start fingers.now }
@@ -79,7 +78,7 @@ pub(crate) fn are_begun(fingers: &Fingers, start: u64) -> bool
     true
 }
 
-/// Returns where one finger's frame ends that begins at a reference sample.
+/// Returns the end of one finger's frame that begins at reference sample `start`.
 fn end_of(finger: &Finger, form: Form, start: u64) -> u64
     requires close { is_close finger.now ≡ true }
     requires start { start < 2 ^ 30 }
@@ -89,7 +88,7 @@ fn end_of(finger: &Finger, form: Form, start: u64) -> u64
     (reference - i64::from(finger.delta)) as u64
 }
 
-/// Returns where the last of the fingers' frames ends that begin at a reference sample.
+/// Returns the end of the last of the fingers' frames that begin at reference sample `start`.
 pub fn frames_end(fingers: &Fingers, form: Form, start: u64) -> u64
     requires close { all_close fingers.now ≡ true }
     requires start { start < 2 ^ 30 }

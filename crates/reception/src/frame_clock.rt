@@ -1,9 +1,9 @@
-//! The places of a channel's frames in a file, and which of them have come.
+//! The places of a channel's frames in a file, and which of them have arrived.
 
 use crate::fingers::{are_begun, frame_chips, frames_end};
 use rake_finger::{Fingers, Form};
 
-/// The places of a channel's frames in a file, and which of them have come.
+/// The places of a channel's frames in a file, and which of them have arrived.
 #[derive(Clone, Copy)]
 pub struct FrameClock {
     /// The form of the channel's frames.
@@ -14,7 +14,7 @@ pub struct FrameClock {
     pub low: u64,
     /// The number of the frame that is decoded next.
     pub next: u64,
-    /// The number of the frame whose samples come next.
+    /// The number of the frame whose samples arrive next.
     pub have: u64,
     /// The reference sample at which that frame begins.
     pub start: u64,
@@ -40,7 +40,7 @@ impl FrameClock {
     ghost use Rattle.rake_finger.specs.Soft.{frame_chips};
 
     /// Returns the clock of a channel whose frame 0 begins at reference sample `first`, before any
-    /// frame has come.
+    /// frame has arrived.
     ///
     /// The first frame in the file is the first that begins in it on each finger.
     pub fn new(fingers: &Fingers, form: Form, waits: bool, first: u64) -> FrameClock
@@ -78,7 +78,7 @@ impl FrameClock {
     }
 
     /// Returns whether the frame that is decoded next is complete, in a file of `count` samples: it
-    /// has come, and if it waits for the next frame, that has come too or is not in the file.
+    /// has arrived, and if it waits for the next frame, that has arrived too or is not in the file.
     pub fn is_due(&self, count: u64) -> bool
         requires { IsSoundClock self.now }
         ensures { IsTrue result ↔ IsDueAt count self.now }
@@ -86,7 +86,7 @@ impl FrameClock {
         self.next < self.have && (!self.waits || self.next + 1 < self.have || count < self.end)
     }
 
-    /// Notes that another frame has come.
+    /// Records that another frame has arrived.
     pub fn advance(&mut self)
         requires sound { IsSoundClock self.old }
         requires near { self.old.have ≤ self.old.next + 1 }
@@ -125,7 +125,7 @@ impl FrameClock {
     }
 
     /// Returns the frames with which the next frame is decoded: the previous one, if it is in the
-    /// file, and the following one, if it has come.
+    /// file, and the following one, if it has arrived.
     pub fn span(&self) -> Span
         requires sound { IsSoundClock self.now }
         requires come { self.now.next < self.now.have }
@@ -141,7 +141,7 @@ impl FrameClock {
         }
     }
 
-    /// Returns the reference sample at which a frame that has come begins.
+    /// Returns the reference sample at which a frame that has arrived begins.
     pub fn start_of(&self, frame: u64) -> u64
         requires sound { IsSoundClock self.now }
         requires come { frame ≤ self.now.have }

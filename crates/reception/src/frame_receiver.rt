@@ -13,9 +13,9 @@ use short_code::Codes;
 /// next one, and their scrambling (TIA/EIA-95-B, 7.1.3.1.6).
 #[derive(Drop)]
 pub struct FrameReceiver {
-    /// The places of the frames in the file, and which of them have come.
+    /// The places of the frames in the file, and which of them have arrived.
     pub clock: FrameClock,
-    /// The fingers of the frame that comes next.
+    /// The fingers for the frame that arrives next.
     pub fingers: Fingers,
     /// How the frames are scrambled.
     pub scrambling: Scrambling,
@@ -38,7 +38,7 @@ impl FrameReceiver {
     ghost use Rattle.symbol_path.specs.Scrambling.{scrambling};
 
     /// Returns the receiver of a channel whose frame 0 begins at reference sample `first`, before
-    /// any frame has come.
+    /// any frame has arrived.
     pub fn new(fingers: Fingers, scrambling: Scrambling, first: u64) -> FrameReceiver
         requires close { AreClose fingers }
         requires rows { have_rows fingers ≡ true }
@@ -58,7 +58,8 @@ impl FrameReceiver {
         }
     }
 
-    /// Computes the soft values of the frame whose last sample has just come, without descrambling.
+    /// Computes the soft values of the frame whose last sample has just arrived, without
+    /// descrambling.
     pub fn raw(&self, ring: &SampleRing, codes: &Codes) -> FrameSofts
         requires sound { IsSoundReceiver self.now }
         requires room { ring.now.room ≡ 65536 }
@@ -87,7 +88,7 @@ impl FrameReceiver {
         unscramble(&self.scrambling.frame_bits(frame), softs);
     }
 
-    /// Notes that the frame has come, and proceeds to the next one.
+    /// Records that the frame has arrived, and proceeds to the next one.
     pub fn advance(&mut self)
         requires sound { IsSoundReceiver self.old }
         requires near { self.old.clock.have ≤ self.old.clock.next + 1 }
@@ -109,7 +110,7 @@ impl FrameReceiver {
         self.clock.hear();
     }
 
-    /// Uses other fingers for the frame that comes next.
+    /// Uses other fingers for the frame that arrives next.
     pub fn tune(&mut self, fingers: Fingers)
         requires sound { IsSoundReceiver self.old }
         requires close { AreClose fingers }

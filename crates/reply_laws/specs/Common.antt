@@ -1,4 +1,4 @@
--- What the definitions of this crate cite of what lies below.
+-- Names from other crates that the definitions of this crate use.
 pub use Rattle.clean_link.specs.BySigns.{HearsBySigns}
 pub use Rattle.clean_link.specs.Common.{Bears, CellPlan, Event, IsAssigned, IsFreeOf, IsMargin}
 pub use Rattle.clean_link.specs.Common.{IsNear, IsReceivable, Mark, PagingPlan, Pilot, Sample, mark}

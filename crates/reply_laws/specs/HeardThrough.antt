@@ -1,5 +1,5 @@
--- What each command must write for a file with noise, if only the script shows that its cell is
--- heard through noise of that size. The only premise on the file is that it is near.
+-- What each command must write for a file with noise, if the script shows that its cell is heard
+-- through noise of that size. The only premise on the file is that it is near.
 use Rattle.std.specs.List.{Contains}
 use Rattle.std.specs.Prelude.{List, ◌≡◌, Option, take, None, Some, ◌≤◌, All, Ok, ℕ}
 use Rattle.reply_laws.specs.Common.{signaling_sent, IsNotDirected, IsSampleFile, made_samples}
@@ -50,15 +50,15 @@ pub record ComesBackThrough (e : ℕ) (plan : CellPlan) (span : ℕ) : Type 0 wh
       HoldsOfNearReplies e plan (jobs.Find span workers) (λ forms samples reply.
       let phase = phase_at plan plan.link.start in
       reply ≡ Ok (event_line (Pilot phase (energy (take span samples) phase)), Done))
-  -- `follow` reports a list of events, and of each channel that bears the noise what it sends.
+  -- `follow` reports events, and those of each channel that bears the noise are what it sends.
   pub follow : (workers paging : ℕ) (traffic : Option Traffic) (limits : List ℕ) →
       FollowsBearing e plan traffic →
       HoldsOfNearReplies e plan (jobs.Follow span workers 1 paging traffic limits)
       (λ forms samples reply. (heard : List Event)
       × (reply ≡ Ok (run_text (kept_by limits forms) heard, clean_end plan))
       × HearsBearing plan e paging traffic heard)
-  -- If it follows no traffic channel, and a paging channel that bears the noise, that is the whole
-  -- text of what the cell sends.
+  -- If it follows a paging channel that bears the noise, and no traffic channel, it reports the
+  -- whole text of what the cell sends.
   pub whole : (workers : ℕ) (limits : List ℕ) (q : PagingPlan) → Contains plan.paging q →
       Bears plan q.gain e →
       HoldsOfNearReplies e plan (jobs.Follow span workers 1 q.number None limits)

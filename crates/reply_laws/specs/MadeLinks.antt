@@ -1,5 +1,5 @@
--- What `make` writes is a clean link, and what each command must write for it if the cell's pilot
--- is louder than all of its other channels together. Then no premise speaks of the search.
+-- Laws that `make` writes clean links, and what each command must write for one if the cell's pilot
+-- is louder than all of its other channels together. Then no premise concerns the search.
 use Rattle.std.specs.List.{Contains}
 use Rattle.std.specs.Prelude.{ℕ, ◌≡◌, List, take, All, Option, Ok, ◌<◌, ◌≤◌, ◌*◌}
 use Rattle.reply_laws.specs.Common.{IsSampleFile, Width, best_phase, made_samples, plan_named}
@@ -15,14 +15,14 @@ use Rattle.reply_laws.specs.SentLines.{IsLineOfSetOne, IsLineOfSetTwo}
 use Rattle.reply_laws.specs.SentReplies.{IsSentReply}
 use Rattle.command_line.specs.declared.job.Job.TheVariants as jobs
 
--- what `make` writes of a script is a sample file of the cell's samples
+-- `make` writes for a script a sample file of the cell's samples
 abbrev pub IsReadableWhenMade : Type 0
 IsReadableWhenMade =
     (width : Width) (script : List ℕ) (plan : CellPlan) → plan_named width script ≡ Ok plan →
     IsSampleFile (made_file width plan) (header_of width plan) (made_samples plan)
 
--- and a clean link, where the search finds the cell's path, there is one finger, and no handoff is
--- directed
+-- the file is a clean link if the search finds the cell's path, there is one finger, and no handoff
+-- is directed
 abbrev pub IsCleanWhenMade : Type 0
 IsCleanWhenMade =
     (width : Width) (script : List ℕ) (plan : CellPlan) (span paging : ℕ)
@@ -32,8 +32,8 @@ IsCleanWhenMade =
     (events (tuning_to plan (cell_energy span plan) paging traffic) (made_samples plan)) →
     IsCleanLink width script plan span 1 paging traffic (header_of width plan) (made_samples plan)
 
--- and so it is where that channel is one of the cell's, each of whose frames is distinct, and none
--- of the messages that it is sent directs a handoff
+-- the file is also a clean link if the handset follows no traffic channel, or one of the cell's
+-- whose frames are all distinct and on which no message that is sent directs a handoff
 abbrev pub IsCleanWhenSent : Type 0
 IsCleanWhenSent =
     (width : Width) (script : List ℕ) (plan : CellPlan) (span paging : ℕ)
@@ -62,17 +62,17 @@ LouderPilotsMakeCellFiles = (width : Width) (script : List ℕ) (plan : CellPlan
     samples ≡ made_samples plan → header.check30 ≡ plan.cell.check30 →
     header.check16 ≡ plan.cell.check16 → IsCellFile width script plan span 1 header samples
 
--- What `make` writes of the script is a clean link, if the handset follows no traffic channel, or
--- one of the cell's whose frames are all distinct and on which no message directs a handoff.
+-- `make` writes for the script a clean link if the handset follows no traffic channel, or one of
+-- the cell's whose frames are all distinct and on which no message directs a handoff.
 abbrev pub LouderPilotsMakeCleanLinks : Type 0
 LouderPilotsMakeCleanLinks = (width : Width) (script : List ℕ) (plan : CellPlan)
     (span paging : ℕ) (traffic : Option Traffic) → HasLouderPilot width script plan span →
     FollowsSent plan traffic → All IsNotDirected (signaling_sent plan traffic) →
     IsCleanLink width script plan span 1 paging traffic (header_of width plan) (made_samples plan)
 
--- ---- what each command must write for the file that `make` writes of it
+-- ---- what each command must write for the file that `make` writes
 
--- Each reply that that file requires of a job of this span has a property.
+-- Each reply that this file requires of a job with span `span` has a property.
 abbrev pub HoldsOfMadeReplies : (ℕ → Job) → (CellPlan → ℕ → List ℕ → Reply → Type 0) → Type 0
 HoldsOfMadeReplies job Is = (forms script : List ℕ) (width : Width) (plan : CellPlan) (span : ℕ)
     (reply : Reply) → HasLouderPilot width script plan span →

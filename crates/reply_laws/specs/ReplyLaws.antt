@@ -1,5 +1,5 @@
--- Laws of replies: each input has one, the number of workers changes none, what each command
--- must write for a good input, and that it doesn't depend on what a handset sleeps through.
+-- Laws of replies: each input has a reply, the number of workers doesn't change it, what each
+-- command must write for a good input, and that it doesn't depend on what a handset sleeps through.
 use Rattle.std.specs.Prelude.{◌≡◌, ℕ, ◌<◌, ◌≤◌, List, length, take, All, Option, Ok, is_some, []}
 use Rattle.std.specs.Prelude.{◌↔◌, Some}
 use Rattle.reply_laws.specs.Common.{Traffic, Sample, Width, IsSampleFile, Header, best_phase, mark}
@@ -12,13 +12,13 @@ use Rattle.reply_laws.specs.Common.{trial_line, Tuning, Paging, Mark, AgreeWhere
 use Rattle.heard_events.specs.declared.channel.CodeChannel.TheVariants as channels
 use Rattle.command_line.specs.declared.job.Job.TheVariants as jobs
 
--- for each job and each list of bytes there is a reply that is required
+-- for each job and each list of bytes there is a required reply
 abbrev pub EachInputHasAReply : Type 0
 EachInputHasAReply =
     (forms : List ℕ) (job : Job) (bytes : List ℕ) → All (λ b. b < 256) bytes →
     (reply : Reply) × IsReply forms job bytes reply
 
--- the same job by n workers; `make` has none
+-- the same job with `n` workers; `make` has no workers
 abbrev pub with_workers : ℕ → Job → Job
 with_workers n (jobs.Find span workers) = jobs.Find span n
 with_workers n (jobs.Follow span workers fingers paging traffic limits) =
@@ -71,7 +71,7 @@ WritesTheFrames job span fingers channel text =
     IsReply forms job bytes
     (Ok (tuned_text text t channel samples, end_when (is_some (mark t samples (length samples)))))
 
--- for `rate2` of rate set 2, for `list` of rate set 1 by lists of codewords, for `idle` in slots
+-- `rate2`: frames of rate set 2; `list`: rate set 1 by lists of codewords; `idle`: slots
 abbrev pub Rate2WritesTheFrames : Type 0
 Rate2WritesTheFrames =
     (span workers fingers offset esn row : ℕ) →
@@ -114,8 +114,8 @@ TrialWritesItsLine =
 
 -- ---- a handset that sleeps
 
--- Two files agree while a handset is awake: the first of them tells it a mark, and they agree
--- before that and, path by path, in the samples of the slots that it hears.
+-- Two files agree while a handset is awake: the first one sets the mark, and they agree before the
+-- mark and, path by path, in the samples of the slots that the handset hears.
 pub record AgreeWhileAwake (key cycle : ℕ) (t : Tuning) (number : ℕ) (one other : List Sample) :
     Type 0 where
   pub told : Mark
@@ -123,8 +123,8 @@ pub record AgreeWhileAwake (key cycle : ℕ) (t : Tuning) (number : ℕ) (one ot
   pub before : take told.sample one ≡ take told.sample other
   pub slots : AgreeWhereHeard key cycle t number told one other (length one)
 
--- Where the slots of a paging channel are wanted of two sample files of one header that agree so,
--- each reply that the one requires the other requires.
+-- If two sample files with the same header agree so, then `idle` has the same required replies for
+-- both.
 abbrev pub SleepChangesNoReply : Type 0
 SleepChangesNoReply =
     (forms : List ℕ) (span workers fingers number key cycle : ℕ) (header : Header)

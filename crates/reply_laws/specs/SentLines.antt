@@ -1,4 +1,4 @@
--- The lines of a traffic channel's frames, and of a paging channel's slots, in a file of any origin.
+-- The lines of a traffic channel's frames and of a paging channel's slots, in a file of any origin.
 use Rattle.std.specs.List.{Contains, flat_map}
 use Rattle.std.specs.Prelude.{◌≡◌, ◌≤◌, ℕ, ◌*◌, true, List, [], ◌∷◌, length, Option, None, Some}
 use Rattle.reply_laws.specs.Common.{Sample, Width, CellPlan, TrafficPlan, event_line, frame2_line}
@@ -16,8 +16,8 @@ use Rattle.clean_frames.specs.SentFrames.{sent_bits, sent_power_bits, IsDistinct
 
 -- ---- any frames
 
--- One line for each frame of a channel that begins at the mark, a number of superframes after local
--- chip 0, or later, and that lies in the file, in order, each of which satisfies a condition.
+-- One line, in order, for each frame of a channel in the file that begins at the mark or later. The
+-- mark is `superframes` superframes after local chip 0, and each line satisfies `Is`.
 pub record AreSentLines (plan : CellPlan) (p : TrafficPlan) (Is : ℕ → List ℕ → Type 0)
     (superframes : ℕ) (text : List ℕ) : Type 0 where
   pub line : ℕ → List ℕ
@@ -25,13 +25,13 @@ pub record AreSentLines (plan : CellPlan) (p : TrafficPlan) (Is : ℕ → List �
   pub are : (frame : ℕ) → is_received plan p (superframe_chips * superframes) frame ≡ true →
       Is frame (line frame)
 
--- the text of a channel's frames, and none where no mark is set
+-- the text of a channel's frames; no text if no mark is set
 abbrev pub IsSentText : CellPlan → TrafficPlan → (ℕ → List ℕ → Type 0) → Option ℕ → List ℕ → Type 0
 IsSentText plan p Is None text = text ≡ []
 IsSentText plan p Is (Some superframes) text = AreSentLines plan p Is superframes text
 
--- In a file of any origin, as long as the cell's, what is written so of a channel that the cell
--- sends, of which something else is true, is this text from the cell's mark on. If a frame has the
+-- In a file of any origin, as long as the cell's, the text of form `form` for a channel that the
+-- cell sends and that satisfies `Sends` is this text from the cell's mark on. If a frame has the
 -- sent signs, its line is that of what is sent, whatever the other frames are.
 abbrev pub LinesComeBack : TunedText → (TrafficPlan → Type 0) →
     (CellPlan → TrafficPlan → ℕ → List ℕ → Type 0) → Type 0
@@ -46,9 +46,9 @@ LinesComeBack form Sends Is = (width : Width) (plan : CellPlan) (p : TrafficPlan
 
 -- ---- frames of rate set 1
 
--- The line of frame `frame` of a channel, which is this one: it has the frame's end and the power
--- control bits that were sent, and where the frame is distinct, it is the line of the frame that
--- was sent, as a good one.
+-- The line of frame `frame` of a channel, which is `f`: it has the frame's end and the power
+-- control bits that were sent. If the frame is distinct, it is the line of the frame that was sent,
+-- as a good frame.
 pub record IsSentLine (plan : CellPlan) (p : TrafficPlan) (frame : ℕ) (f : SetOneFrame)
     (line : List ℕ) : Type 0 where
   pub decoded : Decoded
@@ -57,20 +57,19 @@ pub record IsSentLine (plan : CellPlan) (p : TrafficPlan) (frame : ℕ) (f : Set
   pub back : IsDistinctFrame (replaced_of plan p frame) f →
       line ≡ event_line (sent_frame_event (frame_ends plan p frame) f)
 
--- the one that is sent at a number has this line
+-- the frame that is sent with number `frame` has this line
 abbrev pub IsLineOfSetOne : CellPlan → TrafficPlan → ℕ → List ℕ → Type 0
 IsLineOfSetOne plan p frame line = (f : SetOneFrame)
     × (cycled_frame (frames_of plan p) frame ≡ f ∷ []) × IsSentLine plan p frame f line
 
--- What is listed of a channel of rate set 1 has these lines, however many codewords of a rate are
--- looked at.
+-- The list of a channel of rate set 1 has these lines, for any number of codewords of a rate.
 abbrev pub ListedLinesComeBack : Type 0
 ListedLinesComeBack = (k : ℕ) → 1 ≤ k → LinesComeBack (Listed k) SendsSetOne IsLineOfSetOne
 
 -- ---- frames of rate set 2
 
--- The line of one of rate set 2: it has the frame's end and the power control bits that were sent,
--- and where the frame is distinct, its rate and its information bits, as a good frame.
+-- The line of a frame of rate set 2: it has the frame's end and the power control bits that were
+-- sent. If the frame is distinct, it also has its rate and its information bits, as a good frame.
 pub record IsSentLine2 (plan : CellPlan) (p : TrafficPlan) (frame : ℕ) (f : SetTwoFrame)
     (line : List ℕ) : Type 0 where
   pub decoded : Decoded2
@@ -79,24 +78,24 @@ pub record IsSentLine2 (plan : CellPlan) (p : TrafficPlan) (frame : ℕ) (f : Se
       line ≡ frame2_line (frame_ends plan p frame) (sent_decoded2 plan p frame f)
       (sent_bits f.power_bits)
 
--- the one that is sent at a number has this line
+-- the frame that is sent with number `frame` has this line
 abbrev pub IsLineOfSetTwo : CellPlan → TrafficPlan → ℕ → List ℕ → Type 0
 IsLineOfSetTwo plan p frame line = (f : SetTwoFrame)
     × (cycled_frame2 (frames_of plan p) frame ≡ f ∷ []) × IsSentLine2 plan p frame f line
 
--- what is written of a channel of rate set 2 has these lines
+-- the text of a channel of rate set 2 has these lines
 abbrev pub SetTwoLinesComeBack : Type 0
 SetTwoLinesComeBack = LinesComeBack RateSetTwo SendsSetTwo IsLineOfSetTwo
 
 -- ---- one codeword of each rate
 
--- the line of the event that a handset hears at this frame's end, where the reference's pilot is
--- active alone
+-- the line of the event that a handset receives at this frame's end if only the reference's pilot
+-- is active
 abbrev pub followed_frame_line : Tuning → Traffic → Mark → List Sample → SoftFrame → List ℕ
 followed_frame_line t traffic m samples frame =
     event_line (frame_heard t traffic m (reference_alone traffic m) samples frame.end frame.number)
 
--- With one codeword that is what is written of each frame, whatever is kept of its slot,
+-- With one codeword, this line is written for each frame, whatever is kept of its slot.
 abbrev pub OneCodewordFollowsFrame : Type 0
 OneCodewordFollowsFrame = (t : Tuning) (traffic : Traffic) (m : Mark) (samples : List Sample)
     (slot : List SoftFrame) (k : ℕ) →
@@ -104,7 +103,7 @@ OneCodewordFollowsFrame = (t : Tuning) (traffic : Traffic) (m : Mark) (samples :
     tuned_frame_text (Listed 1) t.check30 m slot frame
     ≡ followed_frame_line t traffic m samples frame
 
--- so of all that end within these samples, after the mark that these set.
+-- The same holds for all frames that end within these samples, after the mark that they set.
 abbrev pub OneCodewordFollows : Type 0
 OneCodewordFollows = (t : Tuning) (traffic : Traffic) (m : Mark) (samples : List Sample) →
     mark t samples (length samples) ≡ Some m →
@@ -114,10 +113,10 @@ OneCodewordFollows = (t : Tuning) (traffic : Traffic) (m : Mark) (samples : List
 
 -- ---- slots
 
--- In a file of any origin, as long as the cell's, if each frame of a paging channel from the cell's
--- mark on has the sent signs, what is written of the channel from the mark on, for a handset that
--- sleeps through all slots but those of a key and a cycle, is slot by slot the slot's line and the
--- lines of its pages.
+-- Take a file of any origin, as long as the cell's, in which each frame of a paging channel from
+-- the cell's mark on has the sent signs. A handset that sleeps through all slots but those of a key
+-- and a cycle writes for the channel, slot by slot from the mark on, the slot's line and the lines
+-- of its pages.
 abbrev pub FileSlotsComeBack : Type 0
 FileSlotsComeBack =
     (width : Width) (plan : CellPlan) (p : PagingPlan) (t : Tuning) (key cycle : ℕ)

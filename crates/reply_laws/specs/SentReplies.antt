@@ -10,15 +10,15 @@ use Rattle.reply_laws.specs.SignedReplies.{list_job, rate2_job}
 use Rattle.reply_laws.specs.SentLines.{IsLineOfSetOne, IsLineOfSetTwo, IsSentText}
 use Rattle.command_line.specs.declared.job.Job.TheVariants as jobs
 
--- a whole text that has one line for each frame, and the end that the first whole transmission
--- tells
+-- a whole text that has one line for each frame; the run ends well if a whole transmission lies in
+-- the file
 abbrev pub IsSentReply : CellPlan → TrafficPlan → (ℕ → List ℕ → Type 0) → Reply → Type 0
 IsSentReply plan p Is (Ok whole) =
     IsSentText plan p Is (told_with_sync plan plan.sync) whole.0 × (whole.1 ≡ clean_end plan)
 IsSentReply plan p Is (Err end) = ⊥
 
--- A sample file of as many samples as the span is or more, which holds what a script's cell sends,
--- and arguments that name a traffic channel that the cell sends.
+-- A sample file with at least `span` samples that holds what a script's cell sends, and arguments
+-- that name a traffic channel of the cell.
 pub record IsHeardFrom (script bytes : List ℕ) (width : Width) (plan : CellPlan) (p : TrafficPlan)
     (span fingers : ℕ) (traffic : Traffic) (header : Header) (samples : List Sample) :
     Type 0 where
@@ -28,7 +28,7 @@ pub record IsHeardFrom (script bytes : List ℕ) (width : Width) (plan : CellPla
   pub sent : Contains plan.traffic p
   pub assigned : IsAssigned p traffic
 
--- For such a file a job must write just the lines of the channel's frames.
+-- For such a file, a job must write exactly the lines of the channel's frames.
 abbrev pub RepliesComeBack : (ℕ → ℕ → ℕ → Traffic → Job) → (TrafficPlan → Type 0) →
     (CellPlan → TrafficPlan → ℕ → List ℕ → Type 0) → Type 0
 RepliesComeBack job Sends Is = (forms script bytes : List ℕ) (width : Width) (plan : CellPlan)
@@ -38,18 +38,18 @@ RepliesComeBack job Sends Is = (forms script bytes : List ℕ) (width : Width) (
     IsReply forms (job span workers fingers traffic) bytes reply →
     IsSentReply plan p (Is plan p) reply
 
--- so does `rate2` of a channel of rate set 2
+-- `rate2` does so for a channel of rate set 2
 abbrev pub Rate2RepliesComeBack : Type 0
 Rate2RepliesComeBack = RepliesComeBack rate2_job SendsSetTwo IsLineOfSetTwo
 
--- and `list` of a channel of rate set 1, with any number of codewords of a rate from 1 on
+-- `list` does so for a channel of rate set 1, with any number of codewords of a rate from 1 on
 abbrev pub ListRepliesComeBack : Type 0
 ListRepliesComeBack = (k : ℕ) → 1 ≤ k → RepliesComeBack (list_job k) SendsSetOne
     IsLineOfSetOne
 
--- So each reply that `idle` may write for a sample file with as many samples as the span is, or
--- more, which holds what a script's cell sends, where its arguments name a paging channel that the
--- cell sends, is a whole text of just these lines, with the end that the whole transmissions tell.
+-- Take a sample file with at least `span` samples that holds what a script's cell sends, and
+-- arguments that name a paging channel of the cell. Then `idle` must write exactly the lines of the
+-- channel's slots, and the run ends well if a whole transmission lies in the file.
 abbrev pub IdleRepliesComeBack : Type 0
 IdleRepliesComeBack =
     (forms script bytes : List ℕ) (width : Width) (plan : CellPlan) (p : PagingPlan)

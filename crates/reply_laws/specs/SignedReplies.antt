@@ -30,8 +30,8 @@ pub record IsFileOnPath (bytes : List ℕ) (width : Width) (plan : CellPlan) (sp
 -- ---- all channels
 
 -- If the mark is the cell's and no handoff is directed, `follow` reports what the taps make of its
--- handset's events. In these each channel comes back by its own signs. The run ends well if a mark
--- is set.
+-- handset's events. In these events, each channel comes back by its own signs. The run ends well if
+-- a mark is set.
 abbrev pub SignedFollowRepliesComeBack : Type 0
 SignedFollowRepliesComeBack =
     (forms limits bytes : List ℕ) (width : Width) (plan : CellPlan)
@@ -64,7 +64,8 @@ IsWholeReply forms limits plan span paging samples reply =
     let own = energy (take span samples) (phase_at plan plan.link.start) in
     reply ≡ Ok (run_text (kept_by limits forms) (sent_events plan own paging None), clean_end plan)
 
--- `follow` reports that if the sync channel and that paging channel have the sent signs.
+-- `follow` reports this text if the sync channel and the followed paging channel have the sent
+-- signs.
 abbrev pub SignedWholeRepliesComeBack : Type 0
 SignedWholeRepliesComeBack =
     (forms limits bytes : List ℕ) (width : Width) (plan : CellPlan) (q : PagingPlan)
@@ -77,19 +78,19 @@ SignedWholeRepliesComeBack =
 
 -- ---- one channel
 
--- A whole text that has one line for each frame after a mark, if one is set, and the end that the
--- mark tells.
+-- A whole text that has one line for each frame after the mark, if one is set. The run ends well
+-- exactly if a mark is set.
 abbrev pub IsReplyFrom : CellPlan → TrafficPlan → Option ℕ → (ℕ → List ℕ → Type 0) → Reply → Type 0
 IsReplyFrom plan p at Is (Ok whole) =
     IsSentText plan p Is at whole.0 × (whole.1 ≡ end_when (is_some at))
 IsReplyFrom plan p at Is (Err end) = ⊥
 
--- what `rate2` is asked for, with a traffic channel
+-- the job of `rate2` for a traffic channel
 abbrev pub rate2_job : ℕ → ℕ → ℕ → Traffic → Job
 rate2_job span workers fingers traffic =
     jobs.Rate2 span workers fingers traffic.offset traffic.esn traffic.row
 
--- the job of `list`, with n codewords of a rate
+-- the job of `list`, with `k` codewords of a rate
 abbrev pub list_job : ℕ → ℕ → ℕ → ℕ → Traffic → Job
 list_job k span workers fingers traffic =
     jobs.List span workers fingers traffic.offset traffic.esn traffic.row k
@@ -108,11 +109,11 @@ SignedRepliesComeBack job Sends Is = (forms bytes : List ℕ) (width : Width)
     IsReplyFrom plan p at
     (λ frame line. TrafficFrameHasSigns plan p samples frame → Is plan p frame line) reply
 
--- So does `rate2` for a channel of rate set 2.
+-- `rate2` does so for a channel of rate set 2.
 abbrev pub SignedRate2RepliesComeBack : Type 0
 SignedRate2RepliesComeBack = SignedRepliesComeBack rate2_job SendsSetTwo IsLineOfSetTwo
 
--- So does `list` for a channel of rate set 1, with any number of codewords of a rate from 1 on.
+-- `list` does so for a channel of rate set 1, with any number of codewords of a rate from 1 on.
 abbrev pub SignedListRepliesComeBack : Type 0
 SignedListRepliesComeBack = (k : ℕ) → 1 ≤ k → SignedRepliesComeBack (list_job k) SendsSetOne
     IsLineOfSetOne

@@ -1,5 +1,5 @@
--- Files that meet every premise of the laws: the file of a script without noise, one with noise of
--- the size of its margin, and all files of a cell with noise up to its margin.
+-- Files that meet every premise of the laws: the noiseless file of a script, one with noise as
+-- large as its margin, and all files of a cell with noise up to its margin.
 use Rattle.std.specs.Prelude.{◌≡◌, ◌≤◌, ◌↔◌, ◌⊎◌, ◌++◌, ◌/◌, ℕ, List, [], ◌∷◌, codes, false}
 use Rattle.std.specs.Prelude.{replicate, take, None, Option, Some, Ok}
 use Rattle.reply_laws.specs.Common.{IsSampleFile, Header, IsFreeOf, made_samples, header_of}
@@ -17,7 +17,7 @@ use Rattle.command_line.specs.declared.job.Job.TheVariants as jobs
 
 -- ---- without noise
 
--- the script `examples/second_of_paging.script`, with this number as the pilot's gain
+-- the script `examples/second_of_paging.script`, with the given number as the pilot's gain
 unfoldable pub script_with_pilot : List ℕ → List ℕ
 script_with_pilot gain =
     codes "cell pn=511 time=1000 lc=20000000000 checks=0" ++ 10
@@ -27,11 +27,11 @@ script_with_pilot gain =
     ∷ codes "paging channel=1 gain=60" ++ 10
     ∷ codes "page half 34:04ff8046c0" ++ 10 ∷ []
 
--- the script as it is there
+-- the script as that file has it
 abbrev pub second_script : List ℕ
 second_script = script_with_pilot (codes "100")
 
--- its paging channel, whose page is of the type 4, with 26 bits after it
+-- its paging channel; the page is of type 4 and has 26 bits after the type
 abbrev pub second_paging : PagingPlan
 second_paging = record {
   number = 1;
@@ -39,7 +39,7 @@ second_paging = record {
   pages = record { follows = false; body = binary 34 (0x04ff8046c0 / 64) } ∷ [];
 }
 
--- the cell that it names, with this gain of the pilot
+-- the cell that the script names, with the given pilot gain
 abbrev pub second_with : ℕ → CellPlan
 second_with gain = record (cell_with 0 1228800 Plain (Some (some_sync 0)) (second_paging ∷ []) []) {
   pilot = record { gain = gain };
@@ -48,20 +48,20 @@ second_with gain = record (cell_with 0 1228800 Plain (Some (some_sync 0)) (secon
 abbrev pub second_cell : CellPlan
 second_cell = second_with 100
 
--- the header and the bytes of the file that `make` writes of it
+-- the header and the bytes of the file that `make` writes for it
 abbrev pub second_header : Header
 second_header = header_of Sixteen second_cell
 
 abbrev pub second_file : List ℕ
 second_file = made_file Sixteen second_cell
 
--- the event of a transmission, which is known at n samples
+-- the event of transmission `sending`, which is decoded at `at` samples
 abbrev pub second_event : ℕ → ℕ → Event
 second_event at sending =
     let told = message_of second_cell.cell (some_message 0) sending in
     Sync at (sync_capsule Plain told) told
 
--- those of all whole transmissions
+-- the events of all whole transmissions
 abbrev pub second_messages : List Event
 second_messages =
     second_event 294848 0 ∷ second_event 589760 1 ∷ second_event 884672 2 ∷ second_event 1179584 3
@@ -81,19 +81,19 @@ pub record MeetsEachPremise : Type 0 where
       (made_samples second_cell)
   pub free : IsFreeOf second_cell.traffic 1
   pub follows : FollowsSent second_cell None
-  -- It is a file with noise of the size 0 too, and its cell is heard through noise of the size 0.
+  -- It is also a file with noise of size 0, and its cell is heard through noise of size 0.
   pub noisy : IsNoisyFile 0 second_file Sixteen second_cell 2048 1 second_header
       (made_samples second_cell)
   pub through : IsHeardThrough 0 Sixteen second_cell 2048
-  -- Four transmissions of the sync channel are whole, and tell the time.
+  -- Four transmissions of the sync channel are whole, and contain the time.
   pub sync : sync_sent second_cell ≡ second_messages
   -- The one reply that `follow` may write is the text of all that the cell sends, and the run ends
   -- well.
   pub required : (forms limits : List ℕ) (workers : ℕ) (reply : Reply) →
       IsReply forms (jobs.Follow 2048 workers 1 1 None limits) second_file reply ↔
       (reply ≡ Ok (second_text forms limits, Done))
-  -- So a run that returns what is required, unless memory runs out, writes exactly that. By the
-  -- clause `exact` of `RunsCommand`, the program's run does, if no call on the outside fails.
+  -- So a run that returns a required reply unless memory runs out writes exactly this text. By the
+  -- clause `exact` of `RunsCommand`, the program does so if no call on the outside fails.
   pub written : (forms limits held : List ℕ) (workers : ℕ) (status : Status)
       (new : Option (List ℕ)) →
       ((reply : Reply) →
@@ -104,14 +104,14 @@ pub record MeetsEachPremise : Type 0 where
 
 -- ---- with noise of 89
 
--- The bytes of the worked file with noise of 89, which are those of a cell whose sync channel has
--- the gain 1.
+-- The bytes of the worked file with noise of 89. They are those of a cell whose sync channel has
+-- gain 1.
 abbrev pub margin_bytes : List ℕ
 margin_bytes = made_file Sixteen (cell_beside (Some (sync_with 1)))
 
 pub record MeetsEachNoisePremise : Type 0 where
   -- They are a sample file of the cell with noise of 89, which its sync channel bears, for one
-  -- finger and any span from sixteen samples on.
+  -- finger and any span of at least sixteen samples.
   pub noisy : (span : ℕ) → 16 ≤ span → span ≤ 737280 →
       IsNoisyFile 89 margin_bytes Sixteen cell span 1 (header_of Sixteen cell) file
   -- `follow` must write exactly the text of the pilot, with the energy that the file has at the
@@ -127,12 +127,12 @@ pub record MeetsEachNoisePremise : Type 0 where
 
 -- ---- with any noise up to 89
 
--- the same cell with a pilot of the gain 2,000
+-- the same cell with a pilot gain of 2,000
 abbrev pub loud_cell : CellPlan
 loud_cell = second_with 2000
 
--- Of a script with this pilot no premise is left but that a file is near: the search finds the
--- cell's path in each file with noise of at most 89 in I and in Q of each sample, which is all that
+-- For a script with this pilot, the only remaining premise is that a file is near: the search finds
+-- the cell's path in each file with noise of at most 89 in I and in Q of each sample, the most that
 -- the sync channel bears. So each command reports what the cell sends, whatever the noise is.
 pub record ComesBackThroughAnyNoise : Type 0 where
   pub named : plan_named Sixteen (script_with_pilot (codes "2000")) ≡ Ok loud_cell

@@ -1,8 +1,8 @@
 -- A source or a sink, before a run and after it.
 use Rattle.std.specs.Prelude.{◌≡◌, ℕ, List, Option}
 
--- Its bytes before and after the run, if they are known, its counts of faults, and a type that says
--- that it is unchanged.
+-- The bytes before and after the run, if they are known, the counts of faults, and a type that
+-- states that the source or sink is unchanged.
 pub record Flow : Type 1 where
   pub before : Option (List ℕ)
   pub after : Option (List ℕ)

@@ -18,7 +18,7 @@ use Rattle.run_ends.specs.declared.status.Status.{Status}
 use Rattle.cell_script.specs.declared.script_fault.ScriptFault.TheVariants as script
 use Rattle.run_ends.specs.declared.status.Status.TheVariants as ends
 
--- the bytes of `count` samples of a cell from the place `given`
+-- the bytes of `count` samples of a cell after the first `given`
 abbrev pub piece_bytes : Width → CellPlan → ℕ → ℕ → List ℕ
 piece_bytes width plan given count =
     flat_map (sample_spelling width) (take count (drop given (made_samples plan)))
@@ -38,19 +38,19 @@ pub record WritesMadeFile (width : Width) (bytes : List ℕ) (old new : Option (
   pub named : plan_named width bytes ≡ Ok plan
   pub written : Appends old new (made_file width plan)
 
--- a text is a beginning of the file of the cell that the script names
+-- a text is a prefix of the file of the cell that the script names
 pub record BeginsMadeFile (width : Width) (rest : Option (List ℕ)) (text : List ℕ) : Type 0 where
   pub plan : CellPlan
   pub named : IfSome rest (λ bytes. plan_named width bytes ≡ Ok plan)
   pub begins : StartsWith (made_file width plan) text
 
--- known bytes grew by nothing, or by a beginning of that file
+-- known bytes grew by nothing, or by a prefix of that file
 pub record WritesNoMoreMade (width : Width) (rest old new : Option (List ℕ)) : Type 0 where
   pub text : List ℕ
   pub written : Appends old new text
   pub part : (text ≡ []) ⊎ BeginsMadeFile width rest text
 
--- a run of `make` over this source and this sink ended so
+-- what holds after a run of `make` with this source and this sink that ended with `status`
 pub record MakesFile (width : Width) (status : Status) (source sink : Flow) : Type 0 where
   pub done : status ≡ ends.Done →
       IfSome source.before (λ bytes. WritesMadeFile width bytes sink.before sink.after)

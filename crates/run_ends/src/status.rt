@@ -24,7 +24,7 @@ use std::{fmt, str};
 pub enum Status {
     /// The input was read to its end, and all text was written.
     Done,
-    /// The input was read to its end, and no sync message is in it.
+    /// The input was read to its end, and it contains no sync message.
     NoSync,
     /// The arguments of the command line aren't a command.
     BadWords,
@@ -48,7 +48,7 @@ impl Status {
         matches!(self, Status::Done)
     }
 
-    /// Returns its text.
+    /// Returns the text of the status.
     pub fn text(&self) -> Text
         ensures value { result ≡ text_of self.now }
         ensures most { length result ≤ 64 }
@@ -65,7 +65,7 @@ impl Status {
         }
     }
 
-    /// Returns its line for standard error; empty if the run is done.
+    /// Returns the line for standard error; empty if the run is done.
     pub fn line(&self) -> Text
         ensures { result ≡ end_line self.now }
     {

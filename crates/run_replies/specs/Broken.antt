@@ -12,20 +12,20 @@ use Rattle.cdma_io.specs.declared.file_fault.FileFault.TheVariants.{Short, Extra
 use Rattle.run_replies.specs.Hearing.{Listening, GainsText, file_text, span_of}
 use Rattle.run_ends.specs.declared.status.Status.TheVariants.{BadFile, ReadFault}
 
--- the file ended before its samples, or a read failed
+-- the file ended before all of its samples, or a read failed
 abbrev pub IsCut : Status → Type 0
 IsCut (BadFile (Short place)) = Unit {0}
 IsCut ReadFault = Unit {0}
 IsCut _ = ⊥
 
--- the file went on after its samples
+-- the file continued after its samples
 abbrev pub IsLong : Status → Type 0
 IsLong (BadFile (Extra place)) = Unit {0}
 IsLong _ = ⊥
 
--- The file of these bytes begins with samples, each within its width, of which there are such a
--- number, the span's or more and no more than its lawful header counts; and just their text was
--- written.
+-- These bytes begin with this lawful header and samples, each within its width. The number of
+-- samples satisfies `counted`, and is at least the span's and at most the header's. Exactly their
+-- text was written.
 pub record HasWritten (taps : List KeptTap) (job : Job) (header : Header) (bytes : List ℕ)
     (counted : ℕ → Type 0) (old new : Option (List ℕ)) : Type 0 where
   pub samples : List Sample
@@ -38,7 +38,7 @@ pub record HasWritten (taps : List KeptTap) (job : Job) (header : Header) (bytes
       (header_spelling header ++ flat_map (sample_spelling (width_of header)) samples)
   pub written : Appends old new (file_text taps job header samples)
 
--- Known bytes lost fewer at their front than a header and the span's samples.
+-- Fewer bytes than a header and `count` samples, at least one, were taken from known bytes.
 abbrev pub TakesFew : ℕ → Option (List ℕ) → Option (List ℕ) → Type 0
 TakesFew count rest left =
     IfSome rest
@@ -46,12 +46,12 @@ TakesFew count rest left =
     Consumes (Some bytes) left taken → count ≤ n → 0 < n →
     length taken < 16 + sample_len (width_of header) * n)
 
--- known bytes open no sample file
+-- known bytes do not begin a sample file
 abbrev pub IsUnopened : Option (List ℕ) → Type 0
 IsUnopened rest = IfSome rest (λ bytes. (header : Header) → ¬ (opening bytes ≡ Ok header))
 
--- If at least the span's whole samples of known bytes were taken, the text of the first of them was
--- written. Of these at most 4,096 are missing, which are read at once. All samples whose text was
+-- If `n` whole samples, at least the span's, were taken from known bytes, the text of the first of
+-- them was written: of all but at most 4,096, which are read at once. All samples whose text was
 -- written were taken.
 abbrev pub WritesFirst : List KeptTap → Job → Option (List ℕ) → Option (List ℕ) →
     Option (List ℕ) → Option (List ℕ) → Type 0
@@ -71,8 +71,8 @@ WritesAll taps job rest old new =
     (λ bytes. (header : Header) → opening bytes ≡ Ok header →
     HasWritten taps job header bytes (λ k. k ≡ header.count) old new)
 
--- A source lost the spellings of samples, of a number that satisfies the condition, each within its
--- width, and at most `most` bytes after them; and a sink got the text of these samples.
+-- The spellings of samples, each within its width, and at most `most` bytes after them were taken
+-- from a source. The number of samples satisfies `counted`, and a sink received their text.
 pub record HearsFirst (l : Listening) (width : Width) (counted : ℕ → Type 0) (most : ℕ)
     (heard : List Sample) (rest left old new : Option (List ℕ)) : Type 0 where
   pub samples : List Sample

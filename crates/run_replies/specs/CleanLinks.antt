@@ -4,9 +4,9 @@ use Rattle.run_replies.specs.Common.{run_text, tuning_to, HearsEach}
 use Rattle.std.specs.Prelude.{◌≡◌, ℕ, List, ◌++◌, Option, Some}
 use Rattle.run_replies.specs.CleanFiles.{cell_energy}
 
--- After what a sink held stands what taps make of a list of events. They are all of a handset in
--- the cell's samples, the pilot at the cell's phase first, in the order in which they are known,
--- and of each channel of the cell they are what it sends.
+-- After its earlier bytes a sink holds the text that taps write for a list of events. These are all
+-- events of a handset in the cell's samples, the pilot at the cell's phase first, in the order in
+-- which they are known. For each channel of the cell they are what it sends.
 pub record WritesEach (taps : List KeptTap) (span : ℕ) (plan : CellPlan) (paging : ℕ)
     (followed : Option Traffic) (held : List ℕ) (written : Option (List ℕ)) : Type 0 where
   pub heard : List Event

@@ -1,4 +1,4 @@
--- What the definitions of this crate cite of the crates below, and of its own types.
+-- Names from other crates that the definitions of this crate use.
 pub use Rattle.cdma_io.specs.Outside.{AppendsPrefix, ConsumesAtMost, Rose, next_count}
 pub use Rattle.cdma_io.specs.SampleFile.{HasBits, IsLawfulHeader, IsSampleFile, Reading, next_place}
 pub use Rattle.cdma_io.specs.SampleFile.{header_spelling, opening, sample_len, sample_spelling}

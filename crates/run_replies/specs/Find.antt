@@ -21,8 +21,7 @@ pub record IsSearchable (bytes : List ℕ) (span : ℕ) : Type 0 where
   pub file : IsSampleFile bytes header samples
   pub enough : span ≤ length samples
 
--- bytes that begin with a lawful header that counts at least `span` samples, and with `span` of
--- them
+-- bytes that begin with a lawful header, counting at least `span` samples, and `span` samples
 pub record BeginsFile (span : ℕ) (bytes : List ℕ) : Type 0 where
   pub header : Header
   pub samples : List Sample
@@ -32,8 +31,8 @@ pub record BeginsFile (span : ℕ) (bytes : List ℕ) : Type 0 where
   pub begins : StartsWith bytes
       (header_spelling header ++ flat_map (sample_spelling (width_of header)) samples)
 
--- known bytes, which open with this lawful header, lost it and as many samples as the span is, each
--- within its width; `count` of the samples that it counts are left
+-- this lawful header, with which known bytes open, and `span` samples, each within its width, were
+-- taken from them; `count` of the samples that the header counts remain
 pub record TakesSpan (span : ℕ) (header : Header) (samples : List Sample) (count : ℕ)
     (rest mid : Option (List ℕ)) : Type 0 where
   pub lawful : IsLawfulHeader header
@@ -44,24 +43,23 @@ pub record TakesSpan (span : ℕ) (header : Header) (samples : List Sample) (cou
       (header_spelling header ++ flat_map (sample_spelling (width_of header)) samples)
   pub opened : IfSome rest (λ bytes. opening bytes ≡ Ok header)
 
--- known bytes lost the spellings of `count` samples of this width
+-- the spellings of `count` samples of this width were taken from known bytes
 pub record PassesSamples (width : Width) (count : ℕ) (old new : Option (List ℕ)) : Type 0 where
   pub samples : List Sample
   pub counted : length samples ≡ count
   pub in_range : All (HasBits width) samples
   pub consumed : Consumes old new (flat_map (sample_spelling width) samples)
 
--- the file of these bytes was read, its text written, and the run ended as it should
+-- the file of these bytes was read, its text was written, and the run ended as required
 pub record WritesText (taps : List KeptTap) (job : Job) (status : Status) (bytes : List ℕ)
     (old new : Option (List ℕ)) : Type 0 where
   pub searchable : IsSearchable bytes (span_of job)
   pub written : Appends old new (file_text taps job searchable.header searchable.samples)
   pub ends : status ≡ file_end_of job searchable.header searchable.samples
 
--- A text is a beginning of the text of samples, as many as the span is or more and no more than the
--- header counts, each within its width, with which the file of these bytes begins after that
--- lawful header, which so is the one that they open with; and all of these samples were taken, with
--- more bytes or none.
+-- `text` is a prefix of the text of samples. A lawful header (so the one that the bytes open with),
+-- these samples, and possibly more bytes were taken from known bytes. There are at least as many
+-- samples as the span and at most as many as the header counts, each within its width.
 pub record BeginsText (taps : List KeptTap) (job : Job) (rest left : Option (List ℕ))
     (text : List ℕ) : Type 0 where
   pub header : Header
@@ -75,7 +73,7 @@ pub record BeginsText (taps : List KeptTap) (job : Job) (rest left : Option (Lis
       ((header_spelling header ++ flat_map (sample_spelling (width_of header)) samples) ++ more)
   pub begins : StartsWith (file_text taps job header samples) text
 
--- known bytes grew by nothing, or by a beginning of that text
+-- known bytes grew by nothing, or by a prefix of that text
 pub record WritesNoMore (taps : List KeptTap) (job : Job)
     (rest left old new : Option (List ℕ)) : Type 0 where
   pub text : List ℕ
@@ -88,29 +86,29 @@ IsEnd Done = Unit {0}
 IsEnd NoSync = Unit {0}
 IsEnd _ = ⊥
 
--- a fault that shows before any sample is read
+-- a fault that is found before any sample is read
 abbrev pub IsHeaderFault : FileFault → Type 0
 IsHeaderFault (Short place) = ⊥
 IsHeaderFault (Extra place) = ⊥
 IsHeaderFault ReadFault = ⊥
 IsHeaderFault _ = Unit {0}
 
--- where a file of this header ends
+-- the length in bytes of a file with this header
 abbrev pub file_end : Header → ℕ
 file_end header = 16 + sample_len (width_of header) * header.count
 
--- how many bytes are taken at most of a file that opens so: a byte more than it has, which shows
--- that it ends; or no more than a header has
+-- the most bytes that are taken from a file with this opening: one more than its length, to check
+-- that it ends, or at most the length of a header
 abbrev pub most_taken : Result Header FileFault → ℕ
 most_taken (Ok header) = file_end header + 1
 most_taken (Err fault) = 16
 
--- known bytes lost no more
+-- at most `most_taken` bytes were taken from known bytes
 abbrev pub TakesNoMore : Option (List ℕ) → Option (List ℕ) → Type 0
 TakesNoMore rest left =
     IfSome rest (λ bytes. ConsumesAtMost (most_taken (opening bytes)) (Some bytes) left)
 
--- a fault that a file of this header and of n bytes has after the header
+-- a fault after the header in a file with this header and `len` bytes
 abbrev pub IsLaterFault : ℕ → Header → ℕ → FileFault → Type 0
 IsLaterFault span header len (TooFew count) = (count ≡ header.count) × (count < span)
 IsLaterFault span header len (Short place) =
@@ -119,14 +117,14 @@ IsLaterFault span header len (Extra place) =
     (span ≤ header.count) × (place ≡ file_end header) × (place < len)
 IsLaterFault span header len _ = ⊥
 
--- the one fault of these bytes as a file of at least n samples
+-- the only fault of these bytes as a file of at least `span` samples
 abbrev pub IsFaultIn : ℕ → List ℕ → FileFault → Type 0
 IsFaultIn span bytes fault =
     (opening bytes ≡ Err fault) ⊎
     ((header : Header) × (opening bytes ≡ Ok header) ×
     IsLaterFault span header (length bytes) fault)
 
--- a fault that a reader meets in the n bytes that it has left
+-- a fault that a reader finds in the `len` bytes that remain
 abbrev pub IsRestFault : Reading → ℕ → FileFault → Type 0
 IsRestFault reading len (Short place) =
     (place ≡ next_place reading + len) × (len < sample_len (width_of reading.header) * reading.left)
@@ -134,14 +132,14 @@ IsRestFault reading len (Extra place) =
     (place ≡ file_end reading.header) × (sample_len (width_of reading.header) * reading.left < len)
 IsRestFault reading len _ = ⊥
 
--- a fault of the file or of the outside
+-- a fault of the file, or a failed read or write
 abbrev pub IsFault : Status → Type 0
 IsFault (BadFile fault) = Unit {0}
 IsFault ends.ReadFault = Unit {0}
 IsFault WriteFault = Unit {0}
 IsFault _ = ⊥
 
--- an end of a run over a sample file: no arguments and no script were at fault
+-- an end of a run over a sample file: not a fault of the arguments or of a script
 abbrev pub IsOfFiles : Status → Type 0
 IsOfFiles BadWords = ⊥
 IsOfFiles (BadScript fault) = ⊥

@@ -1,4 +1,4 @@
--- The text of what the first samples of a file show, for a file that nobody hears.
+-- The text of the findings in a file's first samples, for commands without a listener.
 use Rattle.std.specs.Prelude.{ℕ, ◌≤◌, List, take}
 use Rattle.event_tap.specs.EventLines.{event_line}
 use Rattle.run_replies.specs.Common.{Pilot}

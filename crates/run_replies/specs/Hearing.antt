@@ -1,4 +1,4 @@
--- The text for a sample file, and the events of a handset on the way.
+-- The text for a sample file, and the handset whose events determine it.
 use Rattle.run_replies.specs.Common.{sample_spelling, near_deltas, sent_events, best_phase, Sample}
 use Rattle.run_replies.specs.Common.{tuned_text, sync_sent, TunedText, Job, CellPlan, Header}
 use Rattle.run_replies.specs.Common.{Settings, run_text, HasBits, CodeChannel, Traffic, KeptTap}
@@ -39,11 +39,12 @@ settings_for header fingers paging traffic = record {
   count = header.count;
 }
 
--- of one that waits for the mark: which paging channel it would follow from there on doesn't matter
+-- the settings of a handset that only waits for the mark, so that its paging channel does not
+-- matter
 abbrev pub waiting : Header → ℕ → Settings
 waiting header fingers = settings_for header fingers 1 None
 
--- a handset of these settings, where the pilot was searched in these first samples of its file
+-- the tuning of a handset with these settings, whose pilot was searched for in these first samples
 abbrev pub tuning_for : Settings → List Sample → Tuning
 tuning_for settings first =
     record {
@@ -57,22 +58,22 @@ tuning_for settings first =
       traffic = settings.traffic;
     }
 
--- who hears a file: nobody, and this text of its first samples is all that is written; or a handset
--- whose events these taps hear; or a handset for the mark and a receiver for the frames of one
--- channel after it
+-- the listener of a file: none, with only this text of its first samples written; or a handset
+-- whose events these taps receive; or a handset for the mark, and then a receiver of one channel's
+-- frames
 pub data Listening : Type 0 where
   Unheard : List ℕ → Listening
   ByTaps : Tuning → List KeptTap → Listening
   ByFrames : Tuning → CodeChannel → TunedText → Listening
 
--- a traffic channel of these numbers
+-- the traffic channel with these numbers
 abbrev pub traffic_channel_with : ℕ → ℕ → ℕ → CodeChannel
 traffic_channel_with esn row offset =
     channels.Traffic (record { esn = esn; row = row; offset = offset })
 
--- who hears a file of this header with these first samples, command by command: these taps, if a
--- handset follows it. `find` writes the line of the best pilot. No file is received for `make` and
--- `trial`.
+-- the listener of each command for a file with this header and these first samples; these taps
+-- receive the events if a handset follows the file. `find` writes the line of the best pilot.
+-- `make` and `trial` receive no file.
 abbrev pub listening : List KeptTap → Job → Header → List Sample → Listening
 listening taps (Follow span workers fingers paging traffic limits) header first =
     ByTaps (tuning_for (settings_for header fingers paging traffic) first) taps
@@ -94,19 +95,19 @@ told (Unheard text) samples = text
 told (ByTaps t taps) samples = run_text taps (events t samples)
 told (ByFrames t channel text) samples = tuned_text text t channel samples
 
--- in how many of the first samples of a file the pilot is searched, or all are measured
+-- the number of first samples in which the pilot is searched for, or all pilots are measured
 abbrev pub span_of : Job → ℕ
 span_of job = (job_search job).span
 
--- who hears a file of this header and these samples
+-- the listener of a file with this header and these samples
 abbrev pub listening_to : List KeptTap → Job → Header → List Sample → Listening
 listening_to taps job header samples = listening taps job header (take (span_of job) samples)
 
--- the text of a file, or of one of which only the first samples are known
+-- the text of a file, or of its first samples if only these are known
 unfoldable pub file_text : List KeptTap → Job → Header → List Sample → List ℕ
 file_text taps job header samples = told (listening_to taps job header samples) samples
 
--- who hears ends well where a message told the time
+-- whether a sync message set the mark; true without a listener
 abbrev pub is_told : Listening → List Sample → Bool
 is_told (Unheard text) samples = true
 is_told (ByTaps t taps) samples = is_some (mark t samples (length samples))
@@ -119,23 +120,23 @@ end_when told = if told then Done else NoSync
 unfoldable pub file_end_of : Job → Header → List Sample → Status
 file_end_of job header samples = end_when (is_told (listening_to [] job header samples) samples)
 
--- no file for this job needs a message that tells the time: nobody hears it
+-- a job whose files need no sync message, because it has no listener
 abbrev pub IsUnheard : Job → Type 0
 IsUnheard job =
     (header : Header) (first samples : List Sample) →
     is_told (listening [] job header first) samples ≡ true
 
--- what is told of a clean link: the pilot at the cell's phase, all whole transmissions, the whole
--- pages of the paging channel that is followed, and the frames of the traffic channel that is, with
--- the messages that their signaling spells and the pilot sets
+-- the events of a clean link: the pilot at the cell's phase, all whole transmissions, the whole
+-- pages of the followed paging channel, and the frames of the followed traffic channel with the
+-- messages that their signaling spells and the pilot sets
 unfoldable pub clean_events : ℕ → CellPlan → ℕ → Option Traffic → List Event
 clean_events span plan paging traffic = sent_events plan (cell_energy span plan) paging traffic
 
--- how a run over a clean link ends: each whole transmission tells the time
+-- how a run over a clean link ends: the first whole sync transmission sets the mark
 abbrev pub clean_end : CellPlan → Status
 clean_end plan = end_when (nat_lt 0 (length (sync_sent plan)))
 
--- ---- what the search hands on
+-- ---- the results of the search
 
 -- the paths near the best phase of samples, as many as the receiver has fingers
 abbrev pub AreNearTo : List Sample → ℕ → ℕ → Near → Type 0
@@ -143,33 +144,34 @@ AreNearTo samples phase fingers near =
     (near.count ≡ fingers) ×
     (near.deltas ≡ near_deltas samples phase fingers ++ replicate (3 - fingers) (pos 0))
 
--- one to three fingers, one of the seven paging channels, and a traffic channel beside it, or none
+-- one to three fingers, one of the seven paging channels, and a traffic channel that fits it, or
+-- none
 abbrev pub IsLawfulHandset : ℕ → ℕ → Option Traffic → Type 0
 IsLawfulHandset fingers paging traffic =
     IsFingers fingers × IsPaging paging × IsLawfulTraffic paging traffic
 
--- from one to three of them, the best phase first
+-- one to three paths, the best phase first
 abbrev pub AreReady : Near → Type 0
 AreReady near = (1 ≤ near.count) × (near.count ≤ 3) × (slice_get near.deltas 0 ≡ Some (pos 0))
 
--- ---- what a sink got of it
+-- ---- what a sink received
 
--- a sink got what is told of these samples beyond what is told of those before
+-- a sink received the part of the text of `heard` that follows the text of `before`
 pub record GainsText (l : Listening) (before heard : List Sample) (old new : Option (List ℕ)) :
     Type 0 where
   pub text : List ℕ
   pub written : Appends old new text
   pub all : told l before ++ text ≡ told l heard
 
--- a sink got a beginning of that
+-- a sink received a prefix of that part
 pub record GainsPrefix (l : Listening) (before heard : List Sample) (old new : Option (List ℕ)) :
     Type 0 where
   pub text : List ℕ
   pub written : Appends old new text
   pub begins : StartsWith (told l heard) (told l before ++ text)
 
--- a source lost the spellings of at most `most` samples, each within its width, with more bytes or
--- none; and a sink got a beginning of their text
+-- the spellings of at most `most` samples, each within its width, and possibly more bytes were
+-- taken from a source; a sink received a prefix of their text
 pub record LosesSamples (l : Listening) (width : Width) (most : ℕ) (heard : List Sample)
     (rest left old new : Option (List ℕ)) : Type 0 where
   pub samples : List Sample

@@ -1,5 +1,5 @@
--- The contract of a run that receives a sample file, and of a run of any job, which ended with this
--- status over this source and this sink. That of a run of `make` is in `run_ends/specs/Make`.
+-- The contracts of a run that receives a sample file, and of a run of any job, over its status,
+-- source and sink. The contract of a run of `make` is in `run_ends/specs/Make`.
 use Rattle.run_replies.specs.Common.{ConsumesAtMost, Rose, FileFault, KeptTap, Job, Status}
 use Rattle.std.specs.Prelude.{◌≡◌, ◌≢◌, ℕ, ◌≤◌, ◌⊎◌, List, IfSome}
 use Rattle.std.specs.Io.KnownBytes.{Appends, IsAtEnd}
@@ -44,7 +44,7 @@ pub record ReceivesFile (taps : List KeptTap) (job : Job) (status : Status)
   pub later_source : source.faults ≤ source.faults_after
   pub later_sink : sink.faults ≤ sink.faults_after
 
--- a job was done, with taps of these forms
+-- a job was run, with taps of these forms
 pub record RunsJob (forms : List ℕ) (job : Job) (status : Status)
     (source sink : Flow) : Type 0 where
   pub kind : IsEndOf job status

@@ -1,4 +1,4 @@
--- The output of the command `survey`: the first ranks of the pilots, a line each.
+-- The output of the command `survey`: the first ranks of the pilots, one line each.
 use Rattle.run_replies.specs.Common.{Sample}
 use Rattle.std.specs.Prelude.{ℕ, List, ◌++◌, take, codes, decimal}
 use Rattle.std.specs.Fmt.{signed_decimal}
@@ -16,7 +16,7 @@ rank_line rank =
 unfoldable pub ranks_text : List Rank → List ℕ
 ranks_text ranks = flat_map rank_line ranks
 
--- those of the first ranks of samples, if the pilot of offset 0 has the phase `base`, and each
--- pilot is measured at the phases up to `width` chips from its own
+-- the lines of the first `top` ranks of samples, if the pilot of offset 0 has the phase `base`, and
+-- each pilot is measured at the phases up to `width` chips from its own
 unfoldable pub survey_text : ℕ → ℕ → ℕ → List Sample → List ℕ
 survey_text base width top samples = ranks_text (take top (ranking samples base width))

@@ -25,7 +25,7 @@ use Rattle.run_ends.specs.declared.status.Status.TheVariants as ends
 abbrev pub Reply : Type 0
 Reply = Result (List ℕ × Status) Status
 
--- the bytes are a sample file of as many samples as the span is or more, and this is its text and
+-- the bytes are a sample file with at least as many samples as the span, and these are its text and
 -- its end
 pub record IsWholeFile (taps : List KeptTap) (job : Job) (bytes text : List ℕ)
     (end : Status) : Type 0 where
@@ -70,7 +70,7 @@ IsTrialReply number (Err end) = ⊥
 
 -- ---- command by command: `make` reads a script, `trial` nothing, and all others a sample file
 
--- the taps of these forms that hear a file
+-- the taps of these forms that receive the events of a file
 abbrev pub taps_for : Job → List ℕ → List KeptTap
 taps_for job forms = kept_by (job_limits job) forms
 
@@ -80,41 +80,40 @@ IsReply forms (Make width) = IsScriptReply width
 IsReply forms (Trial number workers) = λ bytes. IsTrialReply number
 IsReply forms job = IsFileReply (taps_for job forms) job
 
--- what memory may run out after, or a write fail after: a good beginning of the input
+-- a good beginning of the input, after which memory may run out or a write may fail
 abbrev pub IsPromising : Job → List ℕ → Type 0
 IsPromising (Make width) = λ bytes. IsOk (plan_named width bytes)
 IsPromising (Trial number workers) = λ bytes. Unit {0}
 IsPromising job = BeginsFile (span_of job)
 
--- a run that reads its input to the end, where it ends well; a trial reads nothing
+-- a run that reads its input to the end if it ends well; a trial reads nothing
 abbrev pub ReadsInput : Job → Type 0
 ReadsInput (Trial number workers) = ⊥
 ReadsInput job = Unit {0}
 
--- what may have been written, whatever the answer: a beginning of the text of what the input begins
--- with, and of no more than was taken of it
+-- what may have been written, whatever the reply: a prefix of the text for the beginning of the
+-- input, and for no more of it than was taken
 abbrev pub Begins : List ℕ → Job → Option (List ℕ) → Option (List ℕ) → List ℕ → Type 0
 Begins forms (Make width) = λ rest left text. BeginsMadeFile width rest text
 Begins forms (Trial number workers) = λ rest left text. StartsWith (trial_line number) text
 Begins forms job = BeginsText (taps_for job forms) job
 
--- what was written where the input breaks off, or a read failed: the text of the first of the
--- samples that were taken; and nothing of a script, which is read before anything is written, as
--- this type says
+-- what was written if the input breaks off or a read failed: the text of the first of the samples
+-- that were taken. For a script it is nothing, as `Unwritten` states: it is read before any write
 abbrev pub WritesTaken : List ℕ → Job → Type 0 → Option (List ℕ) → Option (List ℕ) →
     Option (List ℕ) → Option (List ℕ) → Type 0
 WritesTaken forms (Make width) Unwritten = λ rest left old new. Unwritten
 WritesTaken forms (Trial number workers) Unwritten = λ rest left old new. Unit {0}
 WritesTaken forms job Unwritten = WritesFirst (taps_for job forms) job
 
--- and where it goes on after its samples: their whole text
+-- what was written if the input continues after its samples: their whole text
 abbrev pub WritesWhole : List ℕ → Job → Option (List ℕ) → Option (List ℕ) → Option (List ℕ) → Type 0
 WritesWhole forms (Make width) = λ rest old new. Unit {0}
 WritesWhole forms (Trial number workers) = λ rest old new. Unit {0}
 WritesWhole forms job = WritesAll (taps_for job forms) job
 
--- how many bytes are taken of the input at most, however the run ends: of a file a byte more than
--- its header counts, of a script a byte more than it may have, and for a trial none
+-- the most bytes that are taken from the input, however the run ends: for a file one more than its
+-- header counts, for a script one more than its limit, and for a trial none
 abbrev pub BoundsInput : Job → Option (List ℕ) → Option (List ℕ) → Type 0
 BoundsInput (Make width) = λ rest left. ConsumesAtMost 1048577 rest left
 BoundsInput (Trial number workers) = λ rest left. ConsumesAtMost 0 rest left
@@ -126,7 +125,7 @@ IsLawfulInput (Make width) = λ bytes. IsOk (plan_named width bytes)
 IsLawfulInput (Trial number workers) = λ bytes. Unit {0}
 IsLawfulInput job = λ bytes. IsSearchable bytes (span_of job)
 
--- the input is known to have no fault, and no read of it failed; a trial has none
+-- the input is known to have no fault, and no read of it failed; a trial has no input
 abbrev pub ReadsWell : Job → Option (List ℕ) → Type 0 → Type 0
 ReadsWell (Trial number workers) rest Failed = Unit {0}
 ReadsWell job None Failed = ⊥
@@ -141,7 +140,7 @@ IsFileEnd (ends.BadScript fault) = ⊥
 IsFileEnd (ends.BadFile fault) = fault ≢ file.ReadFault
 IsFileEnd status = Unit {0}
 
--- and over a script
+-- an end of a run over a script
 abbrev pub IsScriptEnd : Status → Type 0
 IsScriptEnd ends.BadWords = ⊥
 IsScriptEnd ends.NoSync = ⊥
@@ -149,14 +148,14 @@ IsScriptEnd (ends.BadFile fault) = ⊥
 IsScriptEnd (ends.BadScript fault) = fault ≢ script.OutOfMemory
 IsScriptEnd status = Unit {0}
 
--- and over no input
+-- an end of a trial, which has no input
 abbrev pub IsTrialEnd : Status → Type 0
 IsTrialEnd ends.Done = Unit {0}
 IsTrialEnd ends.WriteFault = Unit {0}
 IsTrialEnd ends.NoMemory = Unit {0}
 IsTrialEnd status = ⊥
 
--- the ends of a run for a job; where nobody hears a file, no message is missing
+-- the ends of a run for a job; without a listener, no sync message can be missing
 abbrev pub IsEndOf : Job → Status → Type 0
 IsEndOf (Make width) = IsScriptEnd
 IsEndOf (Trial number workers) = IsTrialEnd
@@ -172,30 +171,30 @@ IsVerdict (ends.BadFile fault) = Unit {0}
 IsVerdict (ends.BadScript fault) = Unit {0}
 IsVerdict status = ⊥
 
--- a fault that shows before anything is written
+-- a fault that is found before anything is written
 abbrev pub IsEarlyFault : Status → Type 0
 IsEarlyFault (ends.BadFile fault) = IsHeaderFault fault
 IsEarlyFault (ends.BadScript fault) = Unit {0}
 IsEarlyFault status = ⊥
 
--- a run answered this, and the sink's bytes grew by it; of a fault only the end is fixed
+-- a run returned this reply, and the sink's bytes grew by it; for a fault only the end is fixed
 abbrev pub Answers : Reply → Status → Option (List ℕ) → Option (List ℕ) → Type 0
 Answers (Ok whole) status old new = (status ≡ whole.1) × Appends old new whole.0
 Answers (Err end) status old new = status ≡ end
 
--- the sink held these bytes
+-- the same for a sink that held these bytes before
 abbrev pub AnswersAfter : List ℕ → Reply → Status → Option (List ℕ) → Type 0
 AnswersAfter held (Ok whole) status new = (status ≡ whole.1) × (new ≡ Some (held ++ whole.0))
 AnswersAfter held (Err end) status new = status ≡ end
 
--- a run answered what is required of it
+-- a run returned a required reply
 pub record IsAnswered (asks : Reply → Type 0) (status : Status) (old new : Option (List ℕ)) :
     Type 0 where
   pub reply : Reply
   pub required : asks reply
   pub answers : Answers reply status old new
 
--- known bytes grew by nothing, or by such a text
+-- known bytes grew by nothing, or by a text that satisfies `begins`
 pub record GainsNothingOr (begins : List ℕ → Type 0) (old new : Option (List ℕ)) : Type 0 where
   pub text : List ℕ
   pub written : Appends old new text

@@ -1,4 +1,4 @@
--- The output of the command `trial`: how much a handset receives of the link of a number.
+-- The output of the command `trial`: the counts of what a handset receives on a number's link.
 use Rattle.run_replies.specs.Common.{Sample, best_phase, made_samples, header_of, events, Tuning}
 use Rattle.run_replies.specs.Common.{Event, Frame, Settings, is_frame, is_page, is_sync}
 use Rattle.std.specs.Prelude.{◌^◌, ℕ, ◌+◌, ◌≤◌, Bool, false, if◌then◌else◌, List, ◌++◌, length}
@@ -18,7 +18,7 @@ is_good event = false
 abbrev pub count_of : (Event → Bool) → List Event → ℕ
 count_of is events = length (filter is events)
 
--- how many events of each kind there are
+-- the number of events of each kind
 unfoldable pub counts_of : List Event → Counts
 counts_of events = record {
   syncs = count_of is_sync events;
@@ -30,7 +30,7 @@ counts_of events = record {
 abbrev pub one_if : Bool → ℕ
 one_if is = if is then 1 else 0
 
--- one event more
+-- the counts after another event
 abbrev pub counts_with : Counts → Event → Counts
 counts_with counts event = record {
   syncs = counts.syncs + one_if (is_sync event);
@@ -39,7 +39,7 @@ counts_with counts event = record {
   good = counts.good + one_if (is_good event);
 }
 
--- each leaves room for `more` more below 2^63
+-- each count can grow by `more` without exceeding 2^63
 pub record LeavesRoom (counts : Counts) (more : ℕ) : Type 0 where
   pub syncs : counts.syncs + more ≤ 2 ^ 63
   pub pagings : counts.pagings + more ≤ 2 ^ 63
@@ -58,7 +58,7 @@ trial_settings number =
 abbrev pub trial_samples : ℕ → List Sample
 trial_samples number = made_samples (trial_plan number)
 
--- those in which the pilot is searched
+-- the samples in which the pilot is searched for
 abbrev pub trial_span : ℕ → List Sample
 trial_span number = take 2048 (trial_samples number)
 

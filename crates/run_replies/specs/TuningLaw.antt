@@ -1,12 +1,12 @@
--- A handset is tuned by its file, and is on the path of the cell in it.
+-- A handset is tuned by its file, and lies on the path of the file's cell.
 use Rattle.run_replies.specs.Common.{Traffic, Sample, Width, Header, near_deltas, best_phase}
 use Rattle.run_replies.specs.Common.{CellPlan, IsOnPath}
 use Rattle.std.specs.Prelude.{◌≡◌, ℕ, List, length, take, Option}
 use Rattle.clean_signal.specs.NearFiles.{IsNearFile}
 use Rattle.run_replies.specs.Hearing.{settings_for, tuning_for}
 
--- Each handset of a run is tuned by the file's header and by the pilot in its first samples, as
--- many as the span is, over the receiver's fingers.
+-- Each handset of a run is tuned by the file's header and by the pilot in its first `span` samples,
+-- over the receiver's fingers.
 abbrev pub HandsetsAreTuned : Type 0
 HandsetsAreTuned =
     (span : ℕ) (header : Header) (samples : List Sample) (fingers paging : ℕ)
@@ -17,8 +17,8 @@ HandsetsAreTuned =
     × (t.deltas ≡ near_deltas first (best_phase first) fingers)
     × (t.check30 ≡ header.check30) × (t.check16 ≡ header.check16)
 
--- So where the file holds what a lawful cell sends, with any noise, the search finds the cell's
--- path and there is one finger, it lies on that path.
+-- So suppose that the file contains what a lawful cell sends with any noise, the search finds the
+-- cell's path, and there is one finger. Then the handset lies on that path.
 abbrev pub HandsetsLieOnThePath : Type 0
 HandsetsLieOnThePath =
     (e : ℕ) (width : Width) (plan : CellPlan) (span fingers paging : ℕ)

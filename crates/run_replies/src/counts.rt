@@ -1,4 +1,4 @@
-//! How many events a trial's handset reported.
+//! The number of events that a trial's handset returned.
 
 ghost use Rattle.std.specs.Prelude.{◌≡◌, ◌≤◌, ◌+◌, ◌^◌, ◌++◌, List, [], length};
 ghost use Rattle.mobile_core.specs.Standing.{StandsFor, has_room, steps_left};
@@ -10,7 +10,7 @@ use event_tap::Text;
 use heard_events::Event;
 use mobile_core::Mobile;
 
-/// How many events of each kind a handset reported.
+/// The number of events of each kind that a handset returned.
 #[derive(Clone, Copy)]
 pub struct Counts {
     /// Messages of the sync channel.
@@ -19,12 +19,12 @@ pub struct Counts {
     pub pagings: u64,
     /// Frames of the traffic channel.
     pub frames: u64,
-    /// Those of them that are good.
+    /// Good frames of the traffic channel.
     pub good: u64,
 }
 
 impl Counts {
-    /// None yet.
+    /// Returns counts of 0.
     #[tactic(auto, unfolding(crate::specs::Trials::counts_of))]
     pub fn none() -> Counts
         ensures value { result ≡ counts_of [] }
@@ -38,7 +38,7 @@ impl Counts {
         }
     }
 
-    /// One event more.
+    /// Counts another event.
     pub fn add(&mut self, event: &Event)
         requires { LeavesRoom self.old 1 }
         ensures { self.new ≡ counts_with self.old event.now }
@@ -71,7 +71,7 @@ impl Counts {
     }
 }
 
-/// Gives samples to a handset and counts its events.
+/// Passes samples to a handset and counts its events.
 pub fn count_events(mobile: &mut Mobile, samples: &[Sample], counts: &mut Counts)
     requires room { length samples.now ≤ has_room mobile.old }
     requires few { LeavesRoom counts.old (steps_left mobile.old) }

@@ -1,4 +1,4 @@
-//! What the first samples of a file show, for a file that nobody hears.
+//! The findings in a file's first samples, for commands without a listener.
 
 ghost use Rattle.command_line.specs.Args.{IsBase, IsTop, IsWidth, IsWorkers};
 ghost use Rattle.event_tap.specs.EventLines.{event_line};
@@ -18,16 +18,16 @@ use short_code::Codes;
 use std::alloc::Global;
 use std::thread::Threads;
 
-/// What the first samples of a file show, for a file that nobody hears.
+/// The findings in a file's first samples, for commands without a listener.
 #[derive(Drop)]
 pub enum Findings {
     /// The strongest pilot.
     Pilot(Best),
-    /// How strong each pilot is.
+    /// The strengths of the pilots.
     Ranks {
         /// The ranks of all 512 pilots, strongest first.
         ranks: Survey,
-        /// How many of them are written, at most 512.
+        /// The number of ranks that are written, at most 512.
         top: u16,
     },
 }
@@ -57,9 +57,9 @@ impl Findings {
     }
 }
 
-/// Searches the pilot in a file's first samples (TIA/EIA-95-B, 7.1.3.1.9), by this many workers.
+/// Searches a file's first samples for the pilot (TIA/EIA-95-B, 7.1.3.1.9) with `workers` workers.
 ///
-/// Fails only if there is no memory.
+/// Fails only if memory runs out.
 pub fn find_pilot<R: Threads + Sync, G: Gate + Sync>(
     rt: &R,
     alloc: Global,
@@ -78,11 +78,11 @@ pub fn find_pilot<R: Threads + Sync, G: Gate + Sync>(
     Ok(Findings::Pilot(best))
 }
 
-/// Ranks the pilots by their strength in a file's first samples (TIA/EIA-95-B, 7.1.3.2.1), each in
-/// a window of `width` chips on either side of its phase, beginning from the phase `base` of pilot
-/// 0. The lines of the first `top` are to be written.
+/// Ranks the pilots by their strength in a file's first samples (TIA/EIA-95-B, 7.1.3.2.1). Each is
+/// measured within `width` chips on either side of its phase; pilot 0 has the phase `base`. The
+/// lines of the first `top` ranks are to be written.
 ///
-/// Fails only if there is no memory.
+/// Fails only if memory runs out.
 #[tactic(auto, unfolding(crate::specs::Ranks::survey_text))]
 pub fn rank_pilots<R: Threads + Sync, G: Gate + Sync>(
     rt: &R,

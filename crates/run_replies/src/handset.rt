@@ -35,7 +35,7 @@ pub fn settings_for(header: &Header, fingers: u8, paging: u8, traffic: Option<Tr
     }
 }
 
-/// Returns the settings that receive the link of a number with this header: one finger, paging
+/// Returns the settings to receive the link of trial `number` with this header: one finger, paging
 /// channel 1, and the traffic channel whose frames are drawn from the number.
 pub fn trial_settings(number: u64, header: &Header) -> Settings
     requires { header.now ≡ header_of Sixteen (trial_plan number) }
@@ -72,8 +72,8 @@ pub fn open_handset(
     Mobile::new(alloc, settings, codes, best, near)
 }
 
-/// Opens such a handset in its own box.
-// Its frame holds the handset several times over, and is free again before the handset hears.
+/// Opens a handset as [`open_handset`] does, in its own box.
+// Not inlined: its frame holds several copies of the handset, and is freed before the handset runs.
 #[inline(never)]
 pub fn boxed_handset(
     alloc: Global,

@@ -1,4 +1,4 @@
-//! Gives the events of a handset to taps, which write their text.
+//! Passes the events of a handset to taps, which write their text.
 
 ghost use Rattle.cdma_io.specs.Outside.{AppendsPrefix, HasCause};
 ghost use Rattle.event_tap.specs.Taps.{IsKept, KeptTap, run_taps};
@@ -13,9 +13,9 @@ use chip_core::Sample;
 use event_tap::KeepsTaps;
 use mobile_core::Mobile;
 
-/// Gives the taps the first event of a handset, which is the pilot. [`Mobile::step`] returns all
-/// events of a handset, so the pilot too: it ends at no sample, and a step without samples returns
-/// it.
+/// Passes the first event of a handset, its pilot, to the taps. [`Mobile::step`] returns all events
+/// of a handset, including the pilot. The pilot ends at no sample, so a step without samples
+/// returns it.
 pub fn tell_pilot<T: KeepsTaps, K: Sink>(
     mobile: &mut Mobile,
     taps: &mut T,
@@ -39,7 +39,7 @@ pub fn tell_pilot<T: KeepsTaps, K: Sink>(
     taps.tell(&event, sink)
 }
 
-/// Gives samples to a handset and each of its events to the taps.
+/// Passes samples to a handset, and each of its events to the taps.
 pub fn tell_events<T: KeepsTaps, K: Sink>(
     mobile: &mut Mobile,
     samples: &[Sample],

@@ -1,17 +1,17 @@
 //! The required output for a job and its input: the text for a sample file or the file for a
 //! script, and how a run ends (`run_ends::Status`).
 //!
-//! The definitions say it without any code: who hears a file, command by command, and the texts of
-//! a file (`Hearing`), of ranks (`Ranks`) and of a trial (`Trials`), the replies (`Replies`), and
-//! what is promised if the input breaks off or a call on the outside fails (`Find`, `Broken`). What
-//! a run of the program and its process promise are the records of `Runs` and `JobRuns`; what they
-//! say of a clean link comes of the laws of `clean_link`.
+//! The definitions specify it without any code: the listener of each command and the text of a file
+//! (`Hearing`), the texts of ranks (`Ranks`) and of a trial (`Trials`), and the replies
+//! (`Replies`). `Find` and `Broken` specify the guarantees if the input breaks off or a call on the
+//! outside fails. The records of `Runs` and `JobRuns` are the contracts of a run and of its
+//! process. Their clauses about a clean link follow from the laws of `clean_link`.
 //!
-//! The code is the part of a run that is the same for all listeners: it opens a file
-//! ([`open_span`]) and gives its samples to a listener ([`hear_file`], [`FileListener`]), opens a
-//! handset for it ([`open_handset`]), writes what a file's first samples show ([`Findings`]) and
-//! the events of a handset ([`tell_events`]), counts those of a trial ([`Counts`]), and flushes and
-//! reports what a run wrote ([`pass_on`], [`report`]).
+//! The code is the part of a run that is the same for all listeners. It opens a file
+//! ([`open_span`]) and a handset for it ([`open_handset`]), and passes the samples to a listener
+//! ([`hear_file`], [`FileListener`]). It writes the findings in a file's first samples
+//! ([`Findings`]) and the events of a handset ([`tell_events`]), and counts those of a trial
+//! ([`Counts`]). It flushes the output ([`pass_on`]) and reports how a run ended ([`report`]).
 #![tactic(auto)]
 
 mod counts;

@@ -1,4 +1,4 @@
-//! What takes the samples of a file.
+//! The consumer of a file's samples.
 
 ghost use Rattle.cdma_io.specs.Outside.{AppendsPrefix, HasCause};
 ghost use Rattle.event_tap.specs.Taps.{IsKept, KeptTap};
@@ -13,18 +13,18 @@ use event_tap::KeepsTaps;
 
 /// A listener that takes the samples of a file in pieces and writes their text to a sink.
 pub trait FileListener {
-    // Its text can be written.
+    // The listener's text can be written.
     ghost can_begin: { Self → Type 0 };
 
-    // Who listens is this listener, it has taken no sample, and these taps are to receive its
-    // events.
+    // This listener implements this `Listening` and has taken no sample, and these taps are to
+    // receive its events.
     ghost fresh: { Listening → Self → List KeptTap → Type 0 };
 
-    // Who listens is this listener, it has taken these samples and all of their text was written,
-    // and these taps are kept after them.
+    // This listener implements this `Listening` and has taken these samples, all of their text was
+    // written, and these taps are kept after them.
     ghost hearing: { Listening → Self → List KeptTap → List TheSample → Type 0 };
 
-    // It takes n more samples.
+    // It has room for n more samples.
     ghost has_room: { Self → ℕ → Type 0 };
 
     /// Writes the text that comes before any sample is taken: the pilot's line, or the lines of the
@@ -69,12 +69,12 @@ pub trait FileListener {
             GainsPrefix l heard (heard ++ samples.now) (K.written sink.old) (K.written sink.new)) }
         ensures cause { HasCause (K.faults sink.old) (K.faults sink.new) result };
 
-    /// Whether a sync message has set the time; true if nobody listens.
+    /// Whether a sync message has set the time; true if none is needed.
     fn is_told(&self) -> bool
         ensures { (l : Listening) (kept : List KeptTap) (heard : List TheSample) →
             hearing l self.now kept heard → result ≡ is_told l heard };
 
-    // One that takes samples takes fewer.
+    // A listener with room for `left` samples has room for fewer.
     ghost fewer: { (listener : Self) (left n : ℕ) → has_room listener left → n ≤ left →
         has_room listener n };
 }

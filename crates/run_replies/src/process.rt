@@ -15,9 +15,9 @@ use run_ends::Status;
 use std::alloc::Global;
 use std::io::Write;
 
-/// A sink that may buffer what it was given until it is flushed.
+/// A sink that may buffer bytes until it is flushed.
 pub trait Output: Sink {
-    // Nothing is held back.
+    // No bytes are still buffered.
     ghost is_flushed: { Self → Bool };
 
     /// Writes out what is buffered.
@@ -31,7 +31,7 @@ pub trait Output: Sink {
 }
 
 impl<W: Write> Output for WriterSink<W> {
-    // What a flush passes on is the writer's to say, and std promises nothing of it.
+    // What a flush passes on depends on the writer; std guarantees nothing about it.
     ghost is_flushed = { λ _. true };
 
     fn flush(&mut self) -> Result<(), Failed> {
@@ -83,8 +83,8 @@ pub fn pass_on<K: Output>(status: Status, sink: &mut K) -> Status
     flushed(status, flush)
 }
 
-/// Returns the status of a run that found no memory for its taps. Invalid arguments are reported as
-/// such whatever memory there is.
+/// Returns the status of a run that could not allocate its taps. Invalid arguments are still
+/// reported as such.
 pub fn without_taps(alloc: Global, args: &[String]) -> Status
     ensures bad_words { (result ≡ Status.BadWords) ↔ (job_named args.now ≡ None) }
     ensures either { (result ≡ Status.BadWords) ⊎ (result ≡ Status.NoMemory) }

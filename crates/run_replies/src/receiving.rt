@@ -59,8 +59,8 @@ fn end_when(told: bool) -> Result<(), Status>
     if told { Ok(()) } else { Err(Status::NoSync) }
 }
 
-/// Reads the remaining samples in pieces, gives them to the listener, and checks that the file ends
-/// after them.
+/// Reads the remaining samples in pieces, passes them to the listener, and checks that the file
+/// ends after them.
 fn hear_rest<S: Source, L: FileListener, T: KeepsTaps, K: Sink>(
     reader: &mut SampleReader,
     source: &mut S,
@@ -123,9 +123,8 @@ fn hear_rest<S: Source, L: FileListener, T: KeepsTaps, K: Sink>(
     Ok(())
 }
 
-/// Gives a file's samples to a listener: `first`, those that were read by [`open_span`], and then
-/// the remaining ones, which are read in pieces through `piece`. Checks that the file ends after
-/// them.
+/// Passes a file's samples to a listener: `first`, read by [`open_span`], and then the remaining
+/// ones, read in pieces into `piece`. Checks that the file ends after them.
 ///
 /// Returns [`Status::NoSync`] if no sync message was received, and [`Status::WriteFault`] if the
 /// text could not be written.
@@ -144,7 +143,7 @@ pub fn hear_file<S: Source, L: FileListener, T: KeepsTaps, K: Sink>(
     requires room { L.has_room listener.old reader.header.count }
     requires tellable { L.can_begin listener.old }
     requires kept { All IsKept (T.kept taps.old) }
-    // Whatever bytes the file had before its span was read, and whatever faults were counted.
+    // For any bytes of the file before its span was read, and any earlier count of faults.
     ensures { (job : Job) (before : Option (List ℕ)) (faults : ℕ) →
         TakesSpan (span_of job) reader.header first.now reader.left before (S.rest source.old) →
         L.fresh (listening (T.kept taps.old) job reader.header first.now) listener.old

@@ -6,7 +6,7 @@ use chip_core::{OutOfMemory, Sample};
 use short_code::Codes;
 use std::alloc::Global;
 
-/// How many samples are taken or written at once, at most, after those that are searched.
+/// The greatest number of samples that are taken or written at once, after those of the search.
 pub const PIECE: usize = 4096;
 
 /// The buffers of a run.
@@ -16,13 +16,13 @@ pub struct Workspace {
     pub codes: Codes,
     /// Memory for the samples that the pilot search uses.
     pub span: Vec<Sample>,
-    /// Room for a piece of the others.
+    /// Memory for a piece of the remaining samples.
     pub piece: Vec<Sample>,
     ghost piece_len: { vec_len piece ≡ 4096 },
 }
 
 impl Workspace {
-    /// Makes one for a span of `samples` samples.
+    /// Allocates the buffers for a span of `samples` samples.
     pub fn new(alloc: Global, samples: usize) -> Result<Workspace, OutOfMemory>
         ensures { IfOk result (λ w. vec_len w.span ≡ samples) }
     {

@@ -17,7 +17,7 @@ ghost use Rattle.cell_plan.specs.declared.plan.CellPlan.{CellPlan};
 ghost use Rattle.cell_script.specs.declared.script_fault.ScriptFault.TheVariants.{Line};
 
 /// `Line { n }` is the smallest number n, counted from 1, such that no script whose lines state a
-/// plan begins with lines 1 to n. If a script ends too early n is the number of the line after the
+/// plan begins with lines 1 to n. If a script ends too early, n is the number of the line after the
 /// last, and some script whose lines state a plan begins with all of its lines.
 pub fn line_fault_is_the_first_that_no_script_has()
     ensures counted { (script : List ℕ) (n : ℕ) → stated_plan script ≡ Err n → 1 ≤ n }
@@ -32,16 +32,16 @@ pub fn line_fault_is_the_first_that_no_script_has()
         (take m (lines other) ≡ take m (lines script)) }
 {}
 
-/// A script is answered `Line { n }` exactly if it isn't too big, and its lines state no plan with
-/// this n.
+/// A script is rejected with `Line { n }` exactly if it isn't too big, and its lines state no plan
+/// because of line n.
 pub fn line_faults_come_first()
     ensures { (width : TheWidth) (script : List ℕ) (n : ℕ) →
         (plan_named width script ≡ Err (Line n)) ↔
         ((length script ≤ 1048576) × (stated_plan script ≡ Err n)) }
 {}
 
-/// A number has one spelling in a script, which is the decimal numeral that is printed; so has a
-/// number with a sign, of 16 bits.
+/// A number has only one spelling in a script, the decimal numeral that is printed for it. The same
+/// holds for a signed number of 16 bits.
 pub fn numbers_have_one_spelling()
     ensures signed { (z : ℤ) (text : List ℕ) → (signed_in text ≡ Some z) ↔
         ((text ≡ signed_decimal z) × FitsSigned w16 z) }
@@ -60,7 +60,7 @@ pub fn named_plan_is_lawful()
 {}
 
 /// Each page of the plan that a script names is a message of the paging channel, and the
-/// half-frames of a channel's pages carry just their capsules, in order, whatever the form of the
+/// half-frames of a channel's pages carry exactly their capsules, in order, for any form of the
 /// checks.
 pub fn named_pages_are_carried()
     ensures messages { (width : TheWidth) (script : List ℕ) (plan : CellPlan) →
@@ -70,8 +70,8 @@ pub fn named_pages_are_carried()
         All (IsCarried (sent_paging_rate plan.sync) form) plan.paging }
 {}
 
-/// The script that is written of a plan which a script states, states it too; and where a script
-/// names the plan, the one that is written names it, if it has at most 1,048,576 bytes.
+/// If a script states a plan, the script written for this plan states it too. If a script names a
+/// plan, the written one names it too, provided that it has at most 1,048,576 bytes.
 pub fn written_script_names_its_plan()
     ensures stated { (script : List ℕ) (plan : CellPlan) → stated_plan script ≡ Ok plan →
         stated_plan (script_of plan) ≡ Ok plan }

@@ -15,7 +15,7 @@ despread phase [] = []
 despread phase (s ∷ samples) =
     times (of_sample s) (conjugate (code_point phase)) ∷ despread (phase + 1) samples
 
--- signs, as +1 and -1 are
+-- a pair of signs, each of absolute value at most 1
 pub record IsUnit (signs : ℤ × ℤ) : Type 0 where
   pub i : unsigned_abs signs.0 ≤ 1
   pub q : unsigned_abs signs.1 ≤ 1

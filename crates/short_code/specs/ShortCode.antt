@@ -4,16 +4,16 @@ use Rattle.std.specs.Prelude.{ℕ, zero, suc, ◌-◌, Bool, true, false, cond, 
 use Rattle.std.specs.Prelude.{◌==◌, map}
 use Rattle.chip_core.specs.Bits.{parity, places, sign}
 
--- the delays of the recursions, in chips: I(n) is the sum of the earlier chips at these distances,
--- and Q(n) likewise
+-- the delays of the recursions, in chips: I(n) is the sum modulo 2 of the earlier chips at these
+-- distances, and Q(n) likewise
 abbrev pub i_lags : List ℕ
 i_lags = 15 ∷ 10 ∷ 8 ∷ 7 ∷ 6 ∷ 2 ∷ []
 
 abbrev pub q_lags : List ℕ
 q_lags = 15 ∷ 12 ∷ 11 ∷ 10 ∷ 9 ∷ 5 ∷ 4 ∷ 3 ∷ []
 
--- the chip at this distance before the next one, in a list with the newest first; zeros stand
--- before chip 0
+-- the chip at this distance before the next one, in a list with the newest first; chips before chip
+-- 0 are zeros
 abbrev pub chip_back : List Bool → ℕ → Bool
 chip_back before lag = get_or before (lag - 1) false
 
@@ -23,7 +23,7 @@ chips_to lags zero = true ∷ []
 chips_to lags (suc n) = let before = chips_to lags n in
     parity (map (chip_back before) lags) ∷ before
 
--- chip 32,767 is inserted
+-- chip n of a code: chip 32,767 is the inserted 0
 abbrev pub code_chip : List ℕ → ℕ → Bool
 code_chip lags n = cond (n == 32767) false (get_or (chips_to lags n) 0 false)
 

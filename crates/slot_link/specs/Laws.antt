@@ -22,7 +22,7 @@ use Rattle.slot_mode.specs.Slots.{is_monitored}
 use Rattle.heard_events.specs.PagingStreams as heard
 use Rattle.heard_events.specs.declared.channel.CodeChannel.TheVariants as channels
 
--- the bits of the four frames from frame `first` on, where a channel sends these in each frame
+-- the bits of the four frames from frame `first` on, if a channel sends `bits_of k` in frame k
 abbrev pub bits_in_slot : (ℕ → List Bool) → ℕ → List Bool
 bits_in_slot bits_of first = flat_map (λ k. bits_of (first + k)) (places 4)
 
@@ -30,15 +30,15 @@ bits_in_slot bits_of first = flat_map (λ k. bits_of (first + k)) (places 4)
 abbrev pub placed_message : Placed → PagingMessage
 placed_message p = message_in p.page.body
 
--- The pages of one round of a cycle, which begins a number of half-frames after the first one,
--- whose run begins in the four frames from frame `first` on, and which also end in them, in order.
+-- The pages of one round of a cycle whose run begins in the four frames from frame `first` on and
+-- which also end in them, in order. The round begins `half_frames` half-frames after the first one.
 -- A run begins with a half-frame; a page ends with its last bit.
 abbrev pub round_in_slot : ℕ → ℕ → List Placed → List PagingMessage
 round_in_slot first half_frames pages =
     map placed_message (filter (is_between (2 * first) (2 * (first + 4)) half_frames) pages)
 
--- Those of all rounds of the cycle: the first 2 (first + 4) are enough, because no later round
--- begins before the slot ends.
+-- The pages of all rounds of the cycle: the first 2 (first + 4) rounds are enough, because no later
+-- one begins before the slot ends.
 unfoldable pub pages_in_slot : Rate → CheckForm → List Page → ℕ → List PagingMessage
 pages_in_slot rate form pages first =
     flat_map
@@ -46,47 +46,46 @@ pages_in_slot rate form pages first =
     (placed (half_frame_body rate) form 0 0 pages))
     (places (2 * (first + 4)))
 
--- Slot n is that of the cell's superframe n, of 98,304 chips from local chip 98,304 n on, and has
--- the paging channels' frames from 4 n on. How many of the slots from slot `first` on end in the
--- file:
+-- Slot n is the cell's superframe n: 98,304 chips from local chip 98,304 n on, with the paging
+-- channels' frames from 4 n on. The number of slots from slot `first` on that end in the file:
 abbrev pub slots_to_end : CellPlan → ℕ → ℕ
 slots_to_end plan first = end_chip plan / superframe_chips - first
 
--- the line of slot n, with the number of samples at which it ends and its time, and those of its
--- pages
+-- the line of slot n, with the number of samples at which it ends and its time, and the lines of
+-- its pages
 abbrev pub sent_slot : CellPlan → PagingPlan → ℕ → List ℕ
 sent_slot plan p n =
     slot_lines (superframe_chips * (n + 1) - plan.link.start) (plan.cell.time + n)
     (pages_in_slot (sent_paging_rate plan.sync) plan.cell.check30 p.pages (4 * n))
 
--- of the slots from slot `first` on that end in the file, counted from it on, those that the
--- handset of a key monitors in a cycle
+-- the slots that the handset of a key monitors in a cycle, among those from slot `first` on that
+-- end in the file, counted from slot `first`
 abbrev pub monitored_slots : ℕ → ℕ → CellPlan → ℕ → List ℕ
 monitored_slots key cycle plan first =
     filter (λ i. is_monitored (plan.cell.time + (first + i)) key cycle)
     (places (slots_to_end plan first))
 
--- what is written of these after a mark at the first chip of slot `first`, where one is set
+-- the lines of these slots after a mark at the first chip of slot `first`, if one is set
 abbrev pub slots_after_mark : ℕ → ℕ → CellPlan → PagingPlan → Option ℕ → List ℕ
 slots_after_mark key cycle plan p None = []
 slots_after_mark key cycle plan p (Some first) =
     flat_map (λ i. sent_slot plan p (first + i)) (monitored_slots key cycle plan first)
 
--- with the values 2 and 3 of PRAT no paging channel is heard
+-- these lines, or none if the cell sends no sync channel or its PRAT is 2 or 3
 abbrev pub slots_after : ℕ → ℕ → CellPlan → PagingPlan → Option ℕ → Option SyncPlan → List ℕ
 slots_after key cycle plan p at None = []
 slots_after key cycle plan p at (Some sync) =
     if nat_lt sync.message.prat 2 then slots_after_mark key cycle plan p at else []
 
 -- What is written for the handset of a key that monitors one of the cell's paging channels in a
--- cycle: the first whole transmission of the sync channel tells the mark.
+-- cycle: the first whole transmission of the sync channel sets the mark.
 unfoldable pub slots_sent : ℕ → ℕ → CellPlan → PagingPlan → List ℕ
 slots_sent key cycle plan p = slots_after key cycle plan p (told_with_sync plan plan.sync) plan.sync
 
 -- ---- frames
 
 -- the symbols of n frames from frame `first` on, frame after frame in the order in which they are
--- sent, of a source of bits whose encoder continues from frame to frame
+-- sent, for a source of bits whose encoder continues from frame to frame
 abbrev pub sent_in_span : Channel → (ℕ → List Bool) → ℕ → ℕ → List Bool
 sent_in_span c bits_of first frames =
     flat_map (λ j. sent c.shape c.repeats (continued_symbols bits_of (first + j))) (places frames)
@@ -101,8 +100,8 @@ SpansComeBackBySigns =
     HaveSigns (sent_in_span c bits_of first frames) softs →
     own_bits c frames own softs ≡ bits_of (first + own)
 
--- So the bits of a slot are those that are sent in its four frames, though each is decoded with its
--- neighbours in the slot alone.
+-- So the bits of a slot are those that are sent in its four frames, though each frame is decoded
+-- only with its neighbors in the slot.
 abbrev pub SlotBitsComeBackBySigns : Type 0
 SlotBitsComeBackBySigns =
     (rate : Rate) (bits_of : ℕ → List Bool) (first : ℕ) (softs : List ℤ) →
@@ -112,9 +111,9 @@ SlotBitsComeBackBySigns =
 
 -- ---- pages
 
--- The bits of four frames of a cycle of pages, from any frame on, spell just the pages whose run
--- begins in these frames and which end in them, in order. Of a page that was under way before them
--- nothing is heard.
+-- The bits of four frames of a cycle of pages, from any frame on, spell exactly the pages whose run
+-- begins in these frames and which end in them, in order. Nothing is received of a page that was
+-- under way before them.
 abbrev pub SlotPagesComeBack : Type 0
 SlotPagesComeBack =
     (rate : Rate) (form : CheckForm) (pages : List Page) (first : ℕ) → AreWholePages rate pages →
@@ -124,8 +123,8 @@ SlotPagesComeBack =
 
 -- ---- in a file
 
--- A handset with one finger, which lies on the path of a cell that sends this paging channel, and a
--- mark that is the cell's.
+-- A handset with one finger on the path of a cell that sends this paging channel, and a mark that
+-- is the cell's.
 pub record HearsSlots (width : Width) (plan : CellPlan) (p : PagingPlan) (t : Tuning) (m : Mark)
     (superframes : ℕ) : Type 0 where
   pub receivable : IsReceivable width plan
@@ -133,7 +132,7 @@ pub record HearsSlots (width : Width) (plan : CellPlan) (p : PagingPlan) (t : Tu
   pub sent : Contains plan.paging p
   pub cell : IsCellMark plan m superframes
 
--- Of slot i, counted from the mark on, just the pages come back that are sent in it.
+-- Exactly the pages that are sent in slot i, counted from the mark on, come back from it.
 abbrev pub AreSlotPages : CellPlan → PagingPlan → Tuning → Mark → ℕ → ℕ → List Sample → Type 0
 AreSlotPages plan p t m superframes i samples =
     slot_pages t.check30 (heard.paging_rate m.prat)
@@ -141,8 +140,8 @@ AreSlotPages plan p t m superframes i samples =
     (slot_softs samples (channel_stream t (channels.Paging p.number) m) i))
     ≡ pages_in_slot (sent_paging_rate plan.sync) plan.cell.check30 p.pages (4 * (superframes + i))
 
--- So it is for each slot from the mark on that ends in a file of any origin, if the soft values of
--- its four frames have the signs that are sent.
+-- This holds for each slot from the mark on that ends in a file of any origin, if the soft values
+-- of its four frames have the sent signs.
 abbrev pub SlotsComeBack : Type 0
 SlotsComeBack =
     (width : Width) (plan : CellPlan) (p : PagingPlan) (t : Tuning) (m : Mark)
@@ -151,9 +150,9 @@ SlotsComeBack =
     ((k : ℕ) → k < 4 → PagingFrameHasSigns plan p samples (4 * (superframes + i) + k)) →
     AreSlotPages plan p t m superframes i samples
 
--- If each of the channel's frames from a mark on has them, the lines of the slots, for a handset
--- that sleeps through all slots but those of a key and a cycle, are what the cell sends: slot by
--- slot the slot's line, and the lines of its pages.
+-- If each of the channel's frames from a mark on has these signs, what is written for a handset
+-- that sleeps through all slots but those of a key and a cycle is what the cell sends: slot by
+-- slot, the slot's line and the lines of its pages.
 abbrev pub SlotTextsComeBack : Type 0
 SlotTextsComeBack =
     (width : Width) (plan : CellPlan) (p : PagingPlan) (t : Tuning) (key cycle : ℕ)

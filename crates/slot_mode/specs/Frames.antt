@@ -5,16 +5,16 @@ use Rattle.chip_core.specs.Bits.{places}
 use Rattle.quality_bits.specs.declared.rate.Rate.{Rate}
 use Rattle.frame_decoder.specs.Spans.{paging_channel, own_bits}
 
--- A frame's span is the frame itself and its neighbours among the four. Its first frame; 0 has none
--- before it,
+-- A frame's span is the frame itself and its neighbours among the four. The span's first frame;
+-- frame 0 has no frame before it.
 abbrev pub slot_span_first : ℕ → ℕ
 slot_span_first frame = frame - 1
 
--- and the frame at which it ends; 3 has none after it
+-- the frame at which the span ends; frame 3 has no frame after it
 abbrev pub span_end : ℕ → ℕ
 span_end frame = min (frame + 2) 4
 
--- the soft values of a frame's span, of those of the slot, 384 a frame
+-- the soft values of a frame's span, taken from those of the slot, 384 per frame
 abbrev pub slot_span_softs : List ℤ → ℕ → List ℤ
 slot_span_softs softs frame =
     take (384 * (span_end frame - slot_span_first frame)) (drop (384 * slot_span_first frame) softs)

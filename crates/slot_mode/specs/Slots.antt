@@ -2,24 +2,24 @@
 -- 80 ms.
 use Rattle.std.specs.Prelude.{ℕ, ◌+◌, ◌-◌, ◌*◌, ◌/◌, ◌%◌, ◌^◌, ◌==◌, Bool, bit_xor}
 
--- The key's two halves and six times its lowest 12 bits, added bit by bit; times 40,503, of which
--- the highest 11 bits of the lowest 16 are the slot.
+-- The exclusive or of the key's two halves and six times its lowest 12 bits, times 40,503. The slot
+-- is the highest 11 of the lowest 16 bits of this product.
 abbrev pub slot_of : ℕ → ℕ
 slot_of key =
     let low = key % 65536 in
     let high = key / 65536 in
     40503 * bit_xor (bit_xor low high) (6 * (key % 4096)) % 65536 / 32
 
--- how many slots a cycle has: 16 for index 0, and twice as many for each index more
+-- the number of slots of a cycle: 16 for index 0, doubled for each further index
 abbrev pub slot_period : ℕ → ℕ
 slot_period cycle = 16 * 2 ^ cycle
 
--- whether the slot of a time is one that the handset of a key monitors: modulo the cycle's length
--- the time is the key's slot
+-- whether the handset of a key monitors the slot of a time: the time and the key's slot are equal
+-- modulo the cycle's length
 abbrev pub is_monitored : ℕ → ℕ → ℕ → Bool
 is_monitored time key cycle = time % slot_period cycle == slot_of key % slot_period cycle
 
--- the first monitored time of all from one on
+-- the first monitored time that is `from` or later
 abbrev pub next_monitored : ℕ → ℕ → ℕ → ℕ
 next_monitored from key cycle =
     from + (slot_of key % slot_period cycle + slot_period cycle - from % slot_period cycle)

@@ -6,7 +6,7 @@ use Rattle.slot_mode.specs.Frames.{slot_span_first, span_end}
 slots : map slot_of (0 ∷ 1 ∷ 0x12345678 ∷ 0xffffffff ∷ []) ≡ 0 ∷ 668 ∷ 956 ∷ 1877 ∷ []
 slots = refl
 
--- the halves aren't alike: the lower one counts once more
+-- the halves aren't interchangeable: the lower one enters the hash twice
 halves : map slot_of (0x00010000 ∷ 0x56781234 ∷ []) ≡ 1265 ∷ 767 ∷ []
 halves = refl
 
@@ -19,11 +19,11 @@ not_monitored = refl
 monitored : is_monitored 1008 0 0 ≡ true
 monitored = refl
 
--- 1008 is an odd number of times 16
+-- 1008 is an odd multiple of 16
 not_in_two : is_monitored 1008 0 1 ≡ false
 not_in_two = refl
 
--- 668 is 12 modulo 16, and 1004 is too
+-- 668 and 1004 are both 12 modulo 16
 next : next_monitored 1003 1 0 ≡ 1004
 next = refl
 

@@ -49,7 +49,7 @@ fn frame_bits(decoder: &mut Decoder, rate: Rate, softs: &[i64; 1536], frame: u8)
     paging_span(decoder, rate, &softs[from..to], frame - first)
 }
 
-/// Adds a frame's bits after those of the frames before it.
+/// Appends a frame's bits to those of the frames before it.
 fn append_all(out: &mut HalfBits, bits: &Bits)
     requires { length out.old + length bits.now ≤ 11264 }
     ensures { out.new ≡ out.old ++ bits.now }
@@ -59,14 +59,14 @@ fn append_all(out: &mut HalfBits, bits: &Bits)
     }
 }
 
-/// Returns the bits of the slot at which a handset is awake, frame after frame: eight half-frames,
-/// of 96 bits each at 9,600 bits a second and of 48 at 4,800.
+/// Returns the bits of the slot in which a handset is awake, frame after frame: eight half-frames,
+/// each of 96 bits at 9,600 bits per second, or of 48 at 4,800.
 ///
-/// `softs` has the soft values of the slot's four frames in the sent order, 384 a frame, with the
-/// scrambling removed; a soft value is positive if its symbol is more likely a 0. Each frame is
-/// decoded in a span (`paging_span`) of itself and its neighbors among these four. So the span of
-/// the first frame has no frame before it, that of the last has none after it, and no frame of
-/// another slot is used. The decoder must have room for the bits of three frames.
+/// `softs` contains the soft values of the slot's four frames in the sent order, 384 per frame,
+/// with the scrambling removed; a soft value is positive if its symbol is more likely a 0. Each
+/// frame is decoded in a span (`paging_span`) of itself and its neighbors among these four. So the
+/// span of the first frame has no frame before it, that of the last has none after it, and no frame
+/// of another slot is used. The decoder must have room for the bits of three frames.
 ///
 /// TIA/EIA-95-B, 6.6.2.1.1.3: a handset in slotted mode receives its slots; 7.1.3.4: a slot of 80
 /// ms has four frames.

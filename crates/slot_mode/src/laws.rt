@@ -3,9 +3,9 @@
 ghost use Rattle.slot_mode.specs.Laws.{ComesAgain, ComesInTime, ComesOnce, HasOneRemainder};
 ghost use Rattle.slot_mode.specs.Laws.{IsAmongShorter, IsOfNeighbours, IsHeardAsEver};
 
-/// A handset monitors one slot in each cycle: exactly one of as many consecutive times as its cycle
-/// has slots, and every time that is a whole number of cycles later. So exactly the times of one
-/// remainder are monitored.
+/// A handset monitors one slot in each cycle: exactly one among as many consecutive times as the
+/// cycle has slots, and every time that is a whole number of cycles later. So exactly the times
+/// with one remainder modulo the cycle's length are monitored.
 pub fn one_slot_in_each_cycle()
     ensures again { ComesAgain }
     ensures in_time { ComesInTime }
@@ -19,8 +19,8 @@ pub fn longer_cycles_skip_slots()
 {}
 
 /// The frames of a span are the frame itself and its neighbours among the slot's four. The two
-/// middle frames have both neighbors there, so their bits are those that a handset in non-slotted
-/// mode decodes.
+/// middle frames have both neighbours in the slot, so their bits are those that a handset in
+/// non-slotted mode decodes.
 pub fn spans_lie_in_the_slot()
     ensures neighbours { IsOfNeighbours }
     ensures middle { IsHeardAsEver }

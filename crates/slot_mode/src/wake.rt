@@ -9,7 +9,7 @@ use std::marker::Model;
 /// The number of slots of the shortest cycle, which lasts 1.28 seconds.
 const SHORTEST_CYCLE: u64 = 16;
 
-/// Returns how many slots a cycle of this index has.
+/// Returns the number of slots of the cycle with this index.
 fn period(cycle: u8) -> u64
     requires { cycle ≤ 7 }
     ensures { result ≡ slot_period cycle }
@@ -17,12 +17,12 @@ fn period(cycle: u8) -> u64
     SHORTEST_CYCLE << cycle
 }
 
-/// Returns whether the handset with this key monitors the slot at a time.
+/// Returns whether the handset with this key monitors the slot at `time`.
 ///
 /// `time` is the system time in units of 80 ms, each of which is a slot, `key` the key of the
 /// handset, and `cycle` the index of its cycle, 0 to 7. A cycle of index 0 has 16 slots, and each
-/// next index doubles that. TIA/EIA-95-B, 6.6.2.1.1.3: the handset monitors the slot if the time
-/// and its slot number are equal modulo the cycle's length.
+/// further index doubles the number. TIA/EIA-95-B, 6.6.2.1.1.3: the handset monitors the slot if
+/// the time and its slot number are equal modulo the cycle's length.
 pub fn monitored(time: u64, key: u32, cycle: u8) -> bool
     requires { cycle ≤ 7 }
     ensures { result ≡ is_monitored time key cycle }
@@ -56,8 +56,8 @@ impl Model for Wake {
 }
 
 impl Wake {
-    /// Returns the handset of a key, awake at a time. Returns `None` exactly if it does not monitor
-    /// the slot of this time in its cycle. `cycle` is its index, 0 to 7.
+    /// Returns the handset with key `key`, awake at `time`; `None` exactly if it does not monitor
+    /// the slot of this time in its cycle, whose index, 0 to 7, is `cycle`.
     pub fn new(time: u64, key: u32, cycle: u8) -> Option<Wake>
         requires { cycle ≤ 7 }
         ensures { SomeIff result (IsTrue (is_monitored time key cycle))

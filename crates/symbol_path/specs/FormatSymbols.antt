@@ -25,11 +25,11 @@ abbrev pub repeated_as : SentSymbols → ℕ → ℕ
 repeated_as (Every kind) i = address (shape_of kind) i
 repeated_as Kept i = repeated_symbol i
 
--- those of a frame of a traffic channel, where some are dropped or none
+-- the symbols that a traffic channel's frame sends, by whether some are dropped
 abbrev pub which_sent : Bool → SentSymbols
 which_sent drops = if drops then Kept else Every Data
 
--- ---- those of a format
+-- ---- the symbols of a format
 -- which code symbol a frame sends as symbol i
 abbrev pub place_in : {R : Type 0} → FrameFormat R → ℕ → ℕ
 place_in format i =
@@ -41,6 +41,6 @@ format_symbols format information =
     sent_by (place_in format) 384
     (code_symbols (replicate 8 false) (format_codeword format information))
 
--- for each code symbol the sum of the soft values of the symbols that are sent for it
+-- for each code symbol, the sum of the soft values of the symbols that are sent for it
 abbrev pub gathered_in : {R : Type 0} → FrameFormat R → List ℤ → List ℤ
 gathered_in format softs = gathered_by (place_in format) 384 (2 * bits_in format) softs

@@ -17,7 +17,7 @@ scrambling state mask = scrambling_chips state mask 384
 abbrev pub group_scrambling : ℕ → ℕ → List Bool
 group_scrambling state mask = scrambling_chips state mask 24
 
--- where a group's power control bit begins, from the scrambling bits of the group before
+-- the place at which a group's power control bit begins, from the previous group's scrambling bits
 abbrev pub power_start : List Bool → ℕ
 power_start previous =
     8 * digit (get_or previous 23 false) + 4 * digit (get_or previous 22 false) +
@@ -30,13 +30,13 @@ power_place state mask zero = power_start (group_scrambling (before state 1536) 
 power_place state mask (suc g) =
     24 * suc g + power_start (group_scrambling (after state (1536 * g)) mask)
 
--- the places of a frame's 16 power control bits, of two symbols each
+-- the places of the symbols that a frame's 16 power control bits replace, two for each bit
 unfoldable pub power_places : ℕ → ℕ → List ℕ
 power_places state mask =
     flat_map (λ g. power_place state mask g ∷ (power_place state mask g + 1) ∷ []) (places 16)
 
--- Symbol i of a frame with its power control bits: that of the symbol's group of 24, where the
--- symbol is at one of these places.
+-- Symbol i of a frame with its power control bits: the bit of its group of 24 if i is one of these
+-- places, otherwise the symbol itself.
 abbrev pub symbol_or_power_bit : List ℕ → List Bool → List Bool → ℕ → Bool
 symbol_or_power_bit replaced power_bits symbols i =
     if list_any (λ place. place == i) replaced then get_or power_bits (i / 24) false

@@ -25,7 +25,7 @@ shape_of Data = data_shape
 abbrev pub size : Shape → ℕ
 size s = 2 ^ s.width * s.columns
 
--- a number of m bits with its bits in reverse
+-- a number of m bits with its bits in reverse order
 abbrev pub reversed : ℕ → ℕ → ℕ
 reversed m n = number (reverse (binary m n))
 
@@ -33,12 +33,12 @@ reversed m n = number (reverse (binary m n))
 abbrev pub address : Shape → ℕ → ℕ
 address s i = 2 ^ s.width * (i % s.columns) + reversed s.width (i / s.columns)
 
--- where a repeated symbol is sent
+-- the place at which a repeated symbol is sent
 abbrev pub place : Shape → ℕ → ℕ
 place s a = s.columns * reversed s.width (a % 2 ^ s.width) + a / 2 ^ s.width
 
--- the code symbols in the order in which they are sent, where a key gives the number of the code
--- symbol that is sent at each of n places
+-- the code symbols in the order in which they are sent: `key` gives the number of the code symbol
+-- that is sent at each of n places
 unfoldable pub sent_by : (ℕ → ℕ) → ℕ → List Bool → List Bool
 sent_by key count symbols = map (λ i. get_or symbols (key i) false) (places count)
 
@@ -48,11 +48,11 @@ gathered_by key count code_symbols softs =
     map (λ c. total (map (λ i. get_or softs i (pos 0)) (filter (λ i. key i == c) (places count))))
     (places code_symbols)
 
--- which code symbol is sent as symbol i, where each is repeated equally often
+-- which code symbol is sent as symbol i, if each is repeated the same number of times
 abbrev pub code_symbol : Shape → ℕ → ℕ → ℕ
 code_symbol s repeats i = address s i / repeats
 
--- so the code symbols in the order in which they are sent, and the sums for them
+-- the code symbols in the order in which they are sent, and the sums for them
 abbrev pub sent : Shape → ℕ → List Bool → List Bool
 sent s repeats symbols = sent_by (code_symbol s repeats) (size s) symbols
 

@@ -14,7 +14,7 @@ kept_symbol a = 6 * (a / 4) + get_or (0 ∷ 1 ∷ 3 ∷ 5 ∷ []) (a % 4) 0
 abbrev pub repeated_symbol : ℕ → ℕ
 repeated_symbol i = kept_symbol (address data_shape i)
 
--- which code symbol is
+-- which code symbol is sent as symbol i
 abbrev pub place2 : Rate2 → ℕ → ℕ
 place2 rate i = repeated_symbol i / repeats_of2 rate
 
@@ -26,17 +26,17 @@ sent2 rate code = sent_by (place2 rate) 384 code
 abbrev pub is_dropped : ℕ → Bool
 is_dropped k = k % 6 == 2 || k % 6 == 4
 
--- repeated symbol k is sent as one symbol, and as no other
+-- repeated symbol k is sent as exactly one symbol
 pub record IsSentOnce (k : ℕ) : Type 0 where
   pub sent_as : ℕ
   pub below : sent_as < 384
   pub is : repeated_symbol sent_as ≡ k
   pub alone : (i : ℕ) → i < 384 → repeated_symbol i ≡ k → i ≡ sent_as
 
--- each of the others is sent once
+-- each repeated symbol that isn't dropped is sent once
 abbrev pub IsKeptOnce : Type 0
 IsKeptOnce = (k : ℕ) → k < 576 → is_dropped k ≡ false → IsSentOnce k
 
--- and these never
+-- a dropped symbol is never sent
 abbrev pub IsDropped : Type 0
 IsDropped = (i : ℕ) → i < 384 → is_dropped (repeated_symbol i) ≡ false

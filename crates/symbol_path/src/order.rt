@@ -23,8 +23,8 @@ fn reversed(width: u8, number: u16) -> u16
     turned
 }
 
-/// Returns which of the repeated symbols, in the order before interleaving, a frame sends as its
-/// symbol `i`.
+/// Returns the number, in the order before interleaving, of the repeated symbol that a frame sends
+/// as its symbol `i`.
 ///
 /// TIA/EIA-95-B, 7.1.3.1.5: with m = 7 and J = 1 on the sync channel, and m = 6 and J = 6 on the
 /// others, it is 2^m (i mod J) plus the m bits of floor(i / J) in reverse order.

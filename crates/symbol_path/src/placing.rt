@@ -20,7 +20,7 @@ use chip_core::air::{DATA_SYMBOLS, SYNC_SYMBOLS};
 pub(crate) enum SentSymbols {
     /// Every symbol, in the order of a frame's form.
     Every(Kind),
-    /// Of each six symbols all but the third and the fifth, in the order of a frame of data.
+    /// All but the third and the fifth of each six symbols, in the order of a data frame.
     Kept,
 }
 

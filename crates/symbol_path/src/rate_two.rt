@@ -38,7 +38,7 @@ impl Rate2 {
     ghost use Rattle.symbol_path.specs.RatesTwo.{repeats_of2, information_of2, quality_of2};
     ghost use Rattle.symbol_path.specs.RatesTwo.{symbols_of};
 
-    /// Returns how often each code symbol is sent: 1, 2, 4 or 8 times.
+    /// Returns how often each code symbol is repeated: 1, 2, 4 or 8 times.
     pub fn repeats(&self) -> u8
         ensures value { result ≡ repeats_of2 self.now }
         ensures some { 1 ≤ result }

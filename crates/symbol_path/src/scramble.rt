@@ -37,8 +37,8 @@ fn symbol_chips(state: &mut State, mask: u64, out: &mut [bool])
 /// Computes the scrambling bits of the frame of 384 symbols that begins at a state of the long
 /// code, under a mask of 42 bits.
 ///
-/// TIA/EIA-95-B, 7.1.3.1.6: each symbol lasts 64 chips, and is added modulo 2 to the first
-/// long-code chip of them.
+/// TIA/EIA-95-B, 7.1.3.1.6: each symbol lasts 64 chips, and is added modulo 2 to the long-code chip
+/// at the first of them.
 pub fn scramble_bits(state: &State, mask: u64, out: &mut ScramblingBits)
     requires { mask < 2 ^ 42 }
     ensures { out.new ≡ scrambling state.now mask }
@@ -47,10 +47,10 @@ pub fn scramble_bits(state: &State, mask: u64, out: &mut ScramblingBits)
     symbol_chips(&mut at, mask, out);
 }
 
-/// Returns the symbol, 0 to 15 of its group of 24, at which a power control bit begins, from the
-/// scrambling bits of the group before.
+/// Returns the place, 0 to 15 in its group of 24 symbols, at which a power control bit begins, from
+/// the scrambling bits of the previous group.
 ///
-/// TIA/EIA-95-B, 7.1.3.1.7: it is the number of the last four of these bits, the last of which is
+/// TIA/EIA-95-B, 7.1.3.1.7: the last four of these bits are its binary digits, the last one being
 /// the most significant.
 pub fn power_start(previous: &[bool; 24]) -> u8
     ensures value { result ≡ power_start previous.now }
@@ -74,12 +74,12 @@ fn group_bits(state: &mut State, mask: u64) -> [bool; 24]
     bits
 }
 
-/// Returns which 32 symbols of the frame that begins at a state are replaced by its 16 power
-/// control bits, in rising order.
+/// Returns the places, in rising order, of the 32 symbols that 16 power control bits replace in the
+/// frame that begins at a state.
 ///
 /// TIA/EIA-95-B, 7.1.3.1.7: a frame has 16 groups of 24 symbols, and in each a power control bit
-/// replaces two symbols. The scrambling bits of the group before give the place at which it begins;
-/// the group before the first is the last of the frame before.
+/// replaces two symbols. The scrambling bits of the previous group give the place at which it
+/// begins; for the first group, that is the last group of the previous frame.
 pub fn power_places(state: &State, mask: u64) -> PowerPlaces
     requires { mask < 2 ^ 42 }
     ensures value { result ≡ power_places state.now mask }

@@ -2,6 +2,6 @@
 use Rattle.std.specs.Prelude.{ℕ, ◌+◌, ◌/◌, Bool, List, length}
 pub use Rattle.quality_bits.specs.Pieces.{CapsuleStandsFor}
 
--- how many superframes a capsule takes: each has three frames, and so 93 bits of body
+-- the number of superframes of a capsule; each has three frames, and so 93 bits of body
 abbrev pub superframes_of : List Bool → ℕ
 superframes_of capsule = (length capsule + 92) / 93

@@ -1,4 +1,4 @@
--- The layout after the message type, and the message as contents of it.
+-- The layout after the message type, and the message as contents of that layout.
 use Rattle.sync_message.specs.Common.{SyncFields}
 use Rattle.std.specs.Prelude.{ℕ, ◌==◌, if◌then◌else◌, Bool, List, [], ◌∷◌, get_or, Option, None}
 use Rattle.std.specs.Prelude.{Some}
@@ -8,7 +8,7 @@ use Rattle.message_layout.specs.declared.contents.Contents.{Contents}
 use Rattle.message_layout.specs.declared.layout.Presence.TheVariants.{UnlessLeft}
 use Rattle.sync_message.specs.Rows.{freq_row, sync_values, sync_widths}
 
--- the frequency is there unless 3 bits are left
+-- the frequency is present unless 3 bits are left
 abbrev pub sync_message_shape : MessageShape
 sync_message_shape = record {
   fixed = sync_widths;
@@ -38,7 +38,7 @@ sync_contents m = record {
   rest = m.rest;
 }
 
--- the message of these values
+-- the message with these values
 unfoldable pub sync_of : List ℕ → Option ℕ → List Bool → SyncFields
 sync_of values freq rest = record {
   prev = get_or values 0 0;
@@ -59,7 +59,7 @@ sync_of values freq rest = record {
 abbrev pub sync_from : Contents → SyncFields
 sync_from c = sync_of c.fixed (freq_from c.group) c.rest
 
--- the message that a body says after its type, 1
+-- the message that a body spells after its type, 1
 unfoldable pub sync_body_reading : List Bool → Option SyncFields
 sync_body_reading body = do
   kind ← number_part 8 body

@@ -11,7 +11,7 @@ use Rattle.sync_message.specs.SyncMessage.{sync_capsule}
 abbrev pub is_whole_capsule : List Bool → Bool
 is_whole_capsule capsule = length capsule % 8 == 0 && nat_le (length capsule) 1184
 
--- the message whose capsule the list is
+-- the message whose capsule is the list
 unfoldable pub sync_reading : CheckForm → List Bool → Option SyncFields
 sync_reading form capsule =
     if is_whole_capsule capsule then if_spelled (sync_capsule form) capsule

@@ -3,7 +3,7 @@ use Rattle.sync_message.specs.Common.{SyncFields}
 use Rattle.std.specs.Prelude.{ℕ, List, [], ◌∷◌, codes, map}
 pub use Rattle.chip_core.specs.Fields.{in_widths}
 
--- a field: its name in lines of text, and in how many bits it is sent
+-- a field: its name in lines of text, and the number of bits in which it is sent
 pub record Row : Type 0 where
   pub name : List ℕ
   pub width : ℕ
@@ -11,7 +11,7 @@ pub record Row : Type 0 where
 abbrev pub row : List ℕ → ℕ → Row
 row name width = record { name = name; width = width }
 
--- in the order in which they are sent
+-- the fields in the order in which they are sent
 abbrev pub sync_rows : List Row
 sync_rows =
     row (codes "prev") 8
@@ -27,7 +27,7 @@ sync_rows =
     ∷ row (codes "prat") 2
     ∷ []
 
--- CDMA_FREQ, after those where there is one
+-- CDMA_FREQ, which follows those fields if it is present
 abbrev pub freq_row : Row
 freq_row = row (codes "freq") 11
 

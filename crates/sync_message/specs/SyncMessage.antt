@@ -12,7 +12,7 @@ use Rattle.sync_message.specs.Rows.{in_widths, sync_values, sync_widths}
 abbrev pub fixed_fields : SyncFields → List Field
 fixed_fields m = field 8 1 ∷ in_widths sync_widths (sync_values m)
 
--- the type, and what the message says by its layout
+-- the type, and the message spelled by its layout
 unfoldable pub sync_body : SyncFields → List Bool
 sync_body m = binary 8 1 ++ spelling sync_message_shape (sync_contents m)
 

@@ -49,7 +49,7 @@ with_freq_octets : number (take 8 (sync_capsule Plain with_freq)) ≡ 0x1a
 unfolding with_freq shortest sync_capsule sync_body spelling capsule binary check_bits places
 with_freq_octets = refl
 
--- what is read is what was spelled
+-- reading returns the message that was spelled
 shortest_read : sync_reading Plain (sync_capsule Plain shortest) ≡ Some shortest
 unfolding shortest sync_reading sync_body_reading sync_of reading fields_at group_at presence_at
     octets_at records_at number_part part_at sync_capsule sync_body spelling capsule binary

@@ -3,7 +3,7 @@
 use chip_core::Bits;
 
 /// The content of a Sync Channel Message, each field as a number of the width that the standard
-/// gives it.
+/// specifies.
 ///
 /// TIA/EIA-95-B, 7.7.1.3.
 #[derive(Clone, Copy, PartialEq, Eq, Debug)]

@@ -23,8 +23,8 @@ pub fn octets_tell_the_rest()
         IsSome m.freq × (length m.rest ≡ 8 * (octets M30 (sync_body m) - 26)) }
 {}
 
-/// Reading a list by the places of the fields gives a message exactly if the list is the message's
-/// capsule.
+/// Reading a list by the places of the fields returns a message exactly if the list is the
+/// message's capsule.
 pub fn reading_turns_spelling_back()
     ensures { (form : TheForm) (capsule : List Bool) (m : TheFields) →
         (sync_reading form capsule ≡ Some m) ↔ (IsSyncMessage m × (capsule ≡ sync_capsule form m)) }

@@ -1,4 +1,4 @@
-//! The layout of the fields after the message type, and a message as contents of it.
+//! The layout of the fields after the message type, and messages as contents of that layout.
 
 ghost use Rattle.sync_message.specs.Common.{in_widths, FieldsFit, IsOf};
 ghost use Rattle.std.specs.Prelude.{◌≡◌, ◌<◌, ◌≤◌, ◌^◌, drop, length, IfSome};
@@ -38,7 +38,7 @@ pub(crate) fn read_body(body: &BitSlice<'_>) -> Option<SyncFields>
     Some(fields_from(&contents))
 }
 
-/// Reads the bits from a place on by the layout.
+/// Reads the bits from place `from` on by the layout.
 fn read_contents(body: &BitSlice<'_>, from: u16) -> Option<Contents>
     requires { from ≤ length body.now }
     ensures found { IfSome result (λ c. IsOf sync_message_shape c) }
@@ -60,7 +60,7 @@ pub(crate) fn contents_of(fields: &SyncFields) -> Contents
     }
 }
 
-/// The values of the fields that each message has, in the table's order.
+/// Returns the values of the fields that each message has, in the table's order.
 pub(crate) fn values_of(fields: &SyncFields) -> [u64; 11]
     ensures { result ≡ sync_values fields.now }
 {

@@ -40,9 +40,9 @@ impl Model for SyncMessage {
 }
 
 impl SyncMessage {
-    /// Makes the message of these fields. Returns `None` exactly if a value does not fit its width,
-    /// or the length of the rest is not admitted: 3 bits without a frequency, 0 to 976 in steps of
-    /// 8 with one.
+    /// Makes the message with these fields. Returns `None` exactly if a value does not fit its
+    /// width, or the length of the rest is not allowed: 3 bits without a frequency, 0 to 976 in
+    /// steps of 8 with one.
     pub fn new(fields: SyncFields) -> Option<SyncMessage>
         ensures { SomeIff result (IsSyncMessage fields) fields }
     {

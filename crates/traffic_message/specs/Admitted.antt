@@ -4,7 +4,7 @@ use Rattle.std.specs.Prelude.{◌≡◌, ◌&&◌, Bool, List, length, drop, nat
 use Rattle.traffic_message.specs.Messages.{Message, traffic_message_body, IsTrafficMessage}
 use Rattle.traffic_message.specs.Reading.{head_at, part_reading}
 
--- whether there is a head, and what stands after it is read by the layout of its form
+-- whether there is a head, and the bits after it can be read by the layout of their form
 unfoldable pub traffic_admits : List Bool → Bool
 traffic_admits body =
     nat_le 17 (length body)

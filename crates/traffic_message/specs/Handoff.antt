@@ -8,9 +8,9 @@ use Rattle.traffic_message.specs.Widths.{search_widths, time_widths}
 use Rattle.traffic_message.specs.declared.fields.DirectionFields.{DirectionFields}
 use Rattle.traffic_message.specs.declared.fields.Search.{Search}
 
--- When it takes effect and its number; SEARCH_INCLUDED, and the search parameters where it is 1;
--- HARD_INCLUDED, which is 0; ADD_LENGTH and that many octets of additional fields; and as many
--- records as fit, one at least, each of a pilot's offset, the combination indicator and the row.
+-- Its time and its number; SEARCH_INCLUDED, and the search parameters if it is 1; HARD_INCLUDED,
+-- which is 0; ADD_LENGTH and that number of octets of additional fields; and as many records as
+-- fit, at least one, each with a pilot's offset, the combination indicator and the row.
 abbrev pub direction_shape : MessageShape
 direction_shape = record {
   fixed = time_widths;
@@ -35,12 +35,12 @@ abbrev pub search_group : Option Search → Option (List ℕ)
 search_group None = None
 search_group (Some search) = Some (search_values search)
 
--- the search parameters fit where there are any
+-- the search parameters fit, if there are any
 abbrev pub SearchFits : Option Search → Type 0
 SearchFits None = Unit {0}
 SearchFits (Some search) = FieldsFit (in_widths search_widths (search_values search))
 
--- what the message says, which fits
+-- the contents of the message, which fit
 abbrev pub direction_contents : DirectionFields → Contents
 direction_contents m = record {
   fixed = time_values m;
@@ -54,11 +54,11 @@ abbrev pub IsHandoffDirection : DirectionFields → Type 0
 IsHandoffDirection m = IsOf direction_shape (direction_contents m)
 
 -- READ
--- where HARD_INCLUDED stands: after the search parameters where SEARCH_INCLUDED is 1
+-- the place of HARD_INCLUDED: after the search parameters if SEARCH_INCLUDED is 1
 unfoldable pub hard_place : List Bool → ℕ
 hard_place bits = if number_at 9 1 bits == 1 then 34 else 10
 
--- whether HARD_INCLUDED is there and 1
+-- whether HARD_INCLUDED is present and 1
 unfoldable pub is_hard : List Bool → Bool
 is_hard bits = number_at (hard_place bits) 1 bits == 1
 
@@ -89,7 +89,7 @@ abbrev pub search_from : Option (List ℕ) → Option Search
 search_from None = None
 search_from (Some values) = Some (search_of values)
 
--- the message that says so
+-- the message with these contents
 abbrev pub direction_from : Contents → DirectionFields
 direction_from c =
     direction_of c.fixed (search_from c.group) c.octets (get_or c.columns 0 [])

@@ -13,14 +13,14 @@ in_traffic_values m =
 abbrev pub in_traffic_shape : MessageShape
 in_traffic_shape = plain_shape in_traffic_widths [] 0 None
 
--- what the message says, which fits
+-- the contents of the message, which fit
 abbrev pub in_traffic_contents : InTrafficFields → Contents
 in_traffic_contents m = plain_contents (in_traffic_values m) ([] ∷ [] ∷ [] ∷ []) m.rest
 
 abbrev pub IsInTraffic : InTrafficFields → Type 0
 IsInTraffic m = IsOf in_traffic_shape (in_traffic_contents m)
 
--- the fields of these values
+-- the fields with these values
 unfoldable pub in_traffic_of : List ℕ → List Bool → InTrafficFields
 in_traffic_of values rest = record {
   sid = get_or values 0 0;
@@ -36,6 +36,6 @@ in_traffic_of values rest = record {
   rest = rest;
 }
 
--- the message that says so
+-- the message with these contents
 abbrev pub in_traffic_from : Contents → InTrafficFields
 in_traffic_from c = in_traffic_of c.fixed c.rest

@@ -1,4 +1,4 @@
--- The layouts after the head, and the messages as contents of them.
+-- The layouts of the head and of the content after it, and the messages as their contents.
 use Rattle.traffic_message.specs.Common.{digit, in_widths, plain_contents, plain_shape, LineNames}
 use Rattle.traffic_message.specs.Common.{MessageShape, spelling, Contents, Head}
 use Rattle.std.specs.Prelude.{ℕ, ◌==◌, ◌&&◌, if◌then◌else◌, not, Bool, List, [], ◌∷◌, get_or, codes}
@@ -33,7 +33,7 @@ head_shape = plain_shape typed_widths [] 0 None
 abbrev pub head_contents : ℕ → Head → Contents
 head_contents kind h = plain_contents (kind ∷ head_values h) ([] ∷ [] ∷ [] ∷ []) []
 
--- the head after the type
+-- the head whose values follow that of the type
 abbrev pub head_in : List ℕ → Head
 head_in values = record {
   ack_seq = get_or values 1 0;
@@ -43,7 +43,7 @@ head_in values = record {
 }
 
 -- WHAT STANDS AFTER A HEAD
--- its form, by the type where nothing is encrypted
+-- the form of the content, by the type if nothing is encrypted
 abbrev pub form_at : ℕ → ℕ → List Bool → BodyForm
 form_at kind encryption bits =
     if (encryption == 0) && (kind == 7) then forms.Parameters
@@ -94,7 +94,7 @@ body_from forms.Update kind c = bodies.Neighbors (update_from c)
 body_from forms.Direction kind c = bodies.Handoff (direction_from c)
 body_from forms.Plain kind c = bodies.Other kind c.rest
 
--- what is spelled so
+-- the bits that spell the content
 abbrev pub bits_of : TrafficBody → List Bool
 bits_of b = spelling (traffic_shape_of (form_in b)) (traffic_contents_of b)
 

@@ -9,7 +9,7 @@ use Rattle.traffic_message.specs.Neighbors.{IsNeighborUpdate}
 use Rattle.traffic_message.specs.declared.body.TrafficBody.{TrafficBody}
 use Rattle.traffic_message.specs.declared.body.TrafficBody.TheVariants as bodies
 
--- a message: what stands after its type, and what it says
+-- a message: its head and its content
 pub record Message : Type 0 where
   pub head : Head
   pub body : TrafficBody
@@ -21,13 +21,13 @@ kind_of (bodies.Neighbors m) = 8
 kind_of (bodies.Handoff m) = 17
 kind_of (bodies.Other kind bits) = kind
 
--- the body of the message's capsule: the type, the head, and what stands after it
+-- the body of the message's capsule: the type, the head and the content after it
 unfoldable pub traffic_message_body : Message → List Bool
 traffic_message_body m = binary 8 (kind_of m.body)
     ++ (spelled (head_fields m.head) ++ bits_of m.body)
 
--- A type with fields of its own is read by them where nothing is encrypted; a hard handoff is
--- passed on as it is.
+-- A type with fields of its own is read by them if nothing is encrypted; a hard handoff is passed
+-- on as it is.
 abbrev pub IsOfKind : Head → TrafficBody → Type 0
 IsOfKind head (bodies.System m) = (head.encryption ≡ 0) × IsInTraffic m
 IsOfKind head (bodies.Neighbors m) = (head.encryption ≡ 0) × IsNeighborUpdate m

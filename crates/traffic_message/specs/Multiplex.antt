@@ -5,13 +5,13 @@ use Rattle.quality_bits.specs.declared.rate.Rate.{Rate}
 use Rattle.quality_bits.specs.declared.rate.Rate.TheVariants.{R9600, R4800, R2400, R1200}
 use Rattle.traffic_message.specs.declared.multiplex.Mux.{Mux}
 
--- how many bits of primary traffic the mode bits TM leave
+-- the number of bits of primary traffic for the mode bits TM
 abbrev pub primary_bits : Bool → Bool → ℕ
 primary_bits tm1 tm0 = cond tm1 (cond tm0 0 16) (cond tm0 40 80)
 
--- At 9600 bits per second the mixed mode bit MM stands in front. Where it is 1, the traffic type
--- bit TT and two mode bits TM follow, then primary traffic, and then signaling if TT is 0,
--- otherwise secondary traffic.
+-- At 9600 bits per second the first bit is the mixed mode bit MM. If it is 1, the traffic type bit
+-- TT and two mode bits TM follow, then primary traffic, and then signaling if TT is 0, otherwise
+-- secondary traffic.
 unfoldable pub split_9600 : List Bool → Mux
 split_9600 bits =
     let size = primary_bits (get_or bits 2 false) (get_or bits 3 false) in

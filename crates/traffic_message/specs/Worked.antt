@@ -68,12 +68,12 @@ unfolding other first_head traffic_body_reading is_traffic_body head_at head_of 
     binary
 other_read = refl
 
--- 16 bits have no head
+-- 16 bits are too few for a head
 too_short : traffic_body_reading (replicate 16 false) ≡ None
 unfolding traffic_body_reading is_traffic_body
 too_short = refl
 
--- what is read is what was spelled, with the check in its form
+-- what is read is what was spelled, but only with the right form of the check
 other_again : (traffic_reading Complemented (traffic_capsule Complemented other) ≡ Some other)
     × (traffic_reading Plain (traffic_capsule Complemented other) ≡ None)
 unfolding other first_head traffic_reading traffic_capsule traffic_message_body spelling
@@ -114,7 +114,7 @@ one_pilot_spelled : traffic_message_body one_pilot ≡ binary 56 0x11007101ff0a0
 unfolding one_pilot no_head traffic_message_body spelling binary
 one_pilot_spelled = refl
 
--- with HARD_INCLUDED 1 it is passed on as it is
+-- with HARD_INCLUDED 1 the message is passed on as it is
 hard : traffic_body_reading (binary 56 0x11007111ff0a00)
     ≡ Some (record { head = no_head; body = Other 17 (drop 17 (binary 56 0x11007111ff0a00)) })
 unfolding no_head traffic_body_reading is_traffic_body head_at head_of part_reading reading
@@ -122,7 +122,7 @@ unfolding no_head traffic_body_reading is_traffic_body head_at head_of part_read
     binary
 hard = refl
 
--- with search parameters, an additional octet and two records; PWR_COMB_IND stands before the row
+-- with search parameters, an additional octet and two records; PWR_COMB_IND precedes the row
 two_pilots : Message
 unfolding no_head
 two_pilots = record {
@@ -146,7 +146,7 @@ unfolding two_pilots no_head traffic_message_body spelling traffic_body_reading 
     part_at records_at is_hard hard_place direction_of search_of binary
 two_pilots_again = refl
 
--- without a record it is none
+-- without a record it is not a message
 no_pilot : traffic_body_reading (binary 32 0x11007100) ≡ None
 unfolding traffic_body_reading is_traffic_body head_at head_of part_reading reading fields_at
     group_at presence_at octets_at number_part part_at records_at is_hard hard_place binary
@@ -169,13 +169,13 @@ two_neighbors : traffic_message_body (record {
 unfolding first_head traffic_message_body spelling binary
 two_neighbors = refl
 
--- without a neighbor it is none
+-- without a neighbor it is not a message
 no_neighbor : traffic_body_reading (binary 24 0x080008) ≡ None
 unfolding traffic_body_reading is_traffic_body head_at head_of part_reading reading fields_at
     group_at presence_at octets_at number_part part_at records_at binary
 no_neighbor = refl
 
--- encrypted, it is passed on as it is
+-- an encrypted message is passed on as it is
 secret : traffic_body_reading (binary 24 0x080088)
     ≡ Some (record { head = record no_head { encryption = 1 }; body = Other 8 (binary 7 8) })
 unfolding no_head traffic_body_reading is_traffic_body head_at head_of part_reading reading
@@ -202,7 +202,7 @@ parameters_spelled : traffic_message_body (record {
 unfolding first_head traffic_message_body spelling binary
 parameters_spelled = refl
 
--- 67 bits after the head are enough, and 63 aren't
+-- the fields have 67 bits: 71 bits after the head are enough, and 63 aren't
 enough : (traffic_body_reading (binary 8 7 ++ replicate 80 false)
     ≡ Some (record {
       head = no_head;
@@ -226,7 +226,7 @@ unfolding no_head traffic_body_reading is_traffic_body head_at head_of part_read
 enough = (refl, refl)
 
 -- SIGNALING
--- a capsule of six octets in two parts of frames; a start in the middle drops it
+-- a capsule of six octets in the signaling parts of two frames; a start in the middle drops it
 parts : List (List Bool)
 unfolding binary
 parts = (true ∷ (binary 8 6 ++ replicate 31 true)) ∷ (false ∷ replicate 39 true) ∷ []

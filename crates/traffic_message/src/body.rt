@@ -25,7 +25,7 @@ pub enum TrafficBody {
     Neighbors(NeighborUpdate),
     /// Type 17 without a hard handoff.
     Handoff(HandoffDirection),
-    /// Any other type, and any encrypted message.
+    /// Any other type, any hard handoff, and any encrypted message.
     Other {
         /// The message type, 8 bits.
         kind: u8,
@@ -80,7 +80,7 @@ impl TrafficBody {
         }
     }
 
-    /// Adds the content after the head.
+    /// Appends the content after the head to `body`.
     pub(crate) fn append_to(&self, body: &mut Bits)
         requires { length body.old + length (bits_of self.now) ≤ 1184 }
         ensures { body.new ≡ body.old ++ bits_of self.now }

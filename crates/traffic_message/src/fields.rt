@@ -11,9 +11,9 @@ pub struct Head {
     pub ack_seq: u8,
     /// MSG_SEQ: the message's own number.
     pub msg_seq: u8,
-    /// ACK_REQ: whether it wants an acknowledgement.
+    /// ACK_REQ: whether it requests an acknowledgement.
     pub ack_req: bool,
-    /// ENCRYPTION: how what follows is encrypted; 0 if it isn't.
+    /// ENCRYPTION: how the bits after the head are encrypted; 0 if they aren't.
     pub encryption: u8,
 }
 
@@ -35,9 +35,9 @@ pub struct InTrafficFields {
     pub winr: u8,
     /// T_ADD: the strength at which a pilot becomes a candidate.
     pub tadd: u8,
-    /// T_DROP: the strength below which its timer runs.
+    /// T_DROP: the strength below which a pilot's timer runs.
     pub tdrop: u8,
-    /// T_COMP: by how much a candidate has to pass an active pilot.
+    /// T_COMP: by how much a candidate has to exceed an active pilot.
     pub tcomp: u8,
     /// T_TDROP: how long a pilot's timer runs.
     pub ttdrop: u8,
@@ -60,17 +60,17 @@ pub struct UpdateFields {
     pub rest: Bits,
 }
 
-/// The search parameters that a handoff direction may bring. `SEARCH_FIELDS` has the widths of the
-/// fields.
+/// The search parameters that a handoff direction may contain. `SEARCH_FIELDS` has the widths of
+/// the fields.
 #[derive(Clone, Copy, PartialEq, Eq, Debug)]
 pub struct Search {
     /// SRCH_WIN_A: the search window of active and candidate pilots.
     pub wina: u8,
     /// T_ADD: the strength at which a pilot becomes a candidate.
     pub tadd: u8,
-    /// T_DROP: the strength below which its timer runs.
+    /// T_DROP: the strength below which a pilot's timer runs.
     pub tdrop: u8,
-    /// T_COMP: by how much a candidate has to pass an active pilot.
+    /// T_COMP: by how much a candidate has to exceed an active pilot.
     pub tcomp: u8,
     /// T_TDROP: how long a pilot's timer runs.
     pub ttdrop: u8,
@@ -89,12 +89,12 @@ pub struct DirectionFields {
     pub hdm: u8,
     /// The search parameters, if SEARCH_INCLUDED, 1 bit, is 1.
     pub search: Option<Search>,
-    /// The additional fields: ADD_LENGTH, 3 bits, octets.
+    /// The additional fields, whose number of octets is ADD_LENGTH, 3 bits.
     pub extra: Bits,
     /// PILOT_PN of each record, 9 bits: the offset of the pilot code, in units of 64 chips.
     pub pns: Numbers,
-    /// PWR_COMB_IND of each record, 1 bit: whether its power control bits are those of the record
-    /// before.
+    /// PWR_COMB_IND of each record, 1 bit: whether its power control bits are those of the previous
+    /// record.
     pub combs: Numbers,
     /// CODE_CHAN of each record, 8 bits: the Walsh row of the traffic channel.
     pub rows: Numbers,

@@ -13,8 +13,8 @@ use crate::fields::{DirectionFields, Search};
 use message_layout::{BitSlice, Contents, FieldValues};
 use std::marker::Model;
 
-/// The content of an Extended Handoff Direction Message after its head: fields that fit, and a
-/// record or more. Contracts see the fields.
+/// The content of an Extended Handoff Direction Message after its head: fields that fit, and at
+/// least one record. Contracts see the fields.
 ///
 /// TIA/EIA-95-B, 7.7.3.3.2.17.
 #[derive(Clone, Copy, PartialEq, Eq, Debug)]
@@ -39,7 +39,7 @@ impl Model for HandoffDirection {
 
 impl HandoffDirection {
     /// Returns the content of the message: each record has a pilot, a combination indicator and a
-    /// row, so the three lists have one length.
+    /// row, so the three lists have the same length.
     pub fn fields(&self) -> DirectionFields
         ensures value { result ≡ self.now }
         ensures spelled { IsHandoffDirection result }
@@ -91,7 +91,7 @@ impl HandoffDirection {
     }
 }
 
-/// Whether HARD_INCLUDED is there and set in the fields from a place on.
+/// Whether the fields from place `from` on contain HARD_INCLUDED, and it is set.
 #[tactic(auto, unfolding(crate::specs::Handoff::is_hard))]
 pub(crate) fn is_hard_handoff(bits: &BitSlice<'_>, from: u16) -> bool
     requires { from ≤ length bits.now }
@@ -100,7 +100,7 @@ pub(crate) fn is_hard_handoff(bits: &BitSlice<'_>, from: u16) -> bool
     is_set(bits, from, hard_at(bits, from))
 }
 
-/// Whether the bit at a place of those from another on is there and set.
+/// Whether bit `place` of those from place `from` on is present and set.
 fn is_set(bits: &BitSlice<'_>, from: u16, place: u16) -> bool
     requires { from ≤ length bits.now }
     ensures { result ≡ (number_at place 1 (drop from bits.now) == 1) }
@@ -119,7 +119,7 @@ fn hard_at(bits: &BitSlice<'_>, from: u16) -> u16
     if is_set(bits, from, 9) { 34 } else { 10 }
 }
 
-/// The fields of what was read.
+/// The fields with these contents.
 #[tactic(auto, unfolding(crate::specs::Handoff::direction_of))]
 fn fields_from(contents: &Contents) -> DirectionFields
     requires times { FieldsFit (in_widths time_widths (time_values (direction_from contents.now))) }
@@ -139,7 +139,7 @@ fn fields_from(contents: &Contents) -> DirectionFields
     }
 }
 
-/// The search parameters that were read.
+/// The search parameters with the values of `group`, if there are any.
 fn search_in(group: &Option<FieldValues>) -> Option<Search>
     requires { SearchFits (search_from group.now) }
     ensures { result ≡ search_from group.now }
@@ -150,7 +150,7 @@ fn search_in(group: &Option<FieldValues>) -> Option<Search>
     }
 }
 
-/// The search parameters as the layout has them.
+/// The values of the search parameters, in the form of the layout.
 fn group_of(search: Option<Search>) -> Option<FieldValues>
     ensures { result ≡ search_group search }
 {
@@ -175,7 +175,7 @@ impl Search {
     }
 }
 
-/// The search parameters of these values.
+/// The search parameters with these values.
 #[tactic(auto, unfolding(crate::specs::Handoff::search_of))]
 fn search_from_values(values: &FieldValues) -> Search
     requires { FieldsFit (in_widths search_widths (search_values (search_of values.now))) }

@@ -71,7 +71,7 @@ impl InTraffic {
     }
 }
 
-/// The fields of these values.
+/// The fields with these values.
 #[tactic(auto, unfolding(crate::specs::InTraffic::in_traffic_of))]
 fn fields_of(values: &FieldValues, rest: Bits) -> InTrafficFields
     requires { FieldsFit (in_widths in_traffic_widths

@@ -20,7 +20,7 @@ pub(crate) enum BodyForm {
     Update,
     /// As an Extended Handoff Direction Message without a hard handoff.
     Direction,
-    /// As bits that are passed on.
+    /// As bits that are passed on unchanged.
     Plain,
 }
 
@@ -94,9 +94,9 @@ const NEIGHBOR_UPDATE: MessageLayout = MessageLayout {
     most: Some(7),
 };
 
-/// The Extended Handoff Direction Message: the search parameters after SEARCH_INCLUDED, the
-/// additional fields after HARD_INCLUDED, which is 0, and ADD_LENGTH, and of each record PILOT_PN,
-/// PWR_COMB_IND and CODE_CHAN.
+/// The Extended Handoff Direction Message: its first fields; SEARCH_INCLUDED and the search
+/// parameters; HARD_INCLUDED, which is 0, ADD_LENGTH and the additional fields; and PILOT_PN,
+/// PWR_COMB_IND and CODE_CHAN of each record.
 const HANDOFF_DIRECTION: MessageLayout = MessageLayout {
     name: "handoff",
     fixed: &TIME_FIELDS,

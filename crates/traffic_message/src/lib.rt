@@ -1,6 +1,6 @@
-//! Traffic frames' parts under multiplex option 1 (TIA/EIA-95-B, 7.1.3.5.11), the signaling
-//! messages of the traffic channel (7.7.3), spelled and read, and the framer that cuts their
-//! capsules out of the signaling parts. The layouts of the messages are own, after the standard's.
+//! The parts of traffic frames under multiplex option 1 (TIA/EIA-95-B, 7.1.3.5.11), the spelling
+//! and reading of the traffic channel's signaling messages (7.7.3), and the framer that cuts their
+//! capsules out of the signaling parts. The layouts are this project's own, after the standard's.
 #![tactic(auto)]
 
 mod body;

@@ -1,4 +1,4 @@
-//! The messages, to and from their bodies and capsules.
+//! Conversion of messages to and from their bodies and capsules.
 
 ghost use Rattle.traffic_message.specs.Common.{FieldsFit, FillsCapsule, M16};
 ghost use Rattle.std.specs.Prelude.{◌≡◌, IfSome, Some};
@@ -121,7 +121,7 @@ fn has_head(body: &BitSlice<'_>) -> bool
     body.len() >= 17 && fills_capsule(Kind::M16, body.len())
 }
 
-/// The head of these values, of which the first is the type.
+/// The head with these values; the first value is the type.
 fn head_from(values: &FieldValues) -> Head
     requires { FieldsFit (head_fields (head_in values.now)) }
     ensures { result ≡ head_in values.now }
@@ -147,7 +147,7 @@ impl Head {
         ]
     }
 
-    /// The head after this type, as their layout has both.
+    /// The contents of the type and the head, in the form of their layout.
     fn contents(&self, kind: u8) -> Contents
         ensures { result ≡ head_contents kind self.now }
     {

@@ -20,8 +20,8 @@ pub struct Mux {
     pub secondary: Option<Bits>,
 }
 
-/// Takes the information bits of a frame apart: at 9600 bits per second by the bits MM, TT and TM
-/// in front; at the other rates all are primary traffic.
+/// Splits the information bits of a frame into its parts: at 9600 bits per second by the leading
+/// bits MM, TT and TM; at the other rates all bits are primary traffic.
 #[tactic(auto, unfolding(crate::specs::Multiplex::split))]
 pub fn split_frame(rate: Rate, bits: &Bits) -> Mux
     requires { length bits.now ≡ information_of rate }
@@ -33,7 +33,7 @@ pub fn split_frame(rate: Rate, bits: &Bits) -> Mux
     }
 }
 
-/// Takes the information bits of a frame of 9600 bits per second apart.
+/// Splits the information bits of a frame of 9600 bits per second into its parts.
 fn split_full(bits: &Bits) -> Mux
     requires { length bits.now ≡ 172 }
     ensures { result ≡ split_9600 bits.now }
@@ -60,7 +60,7 @@ fn only_primary(primary: Bits) -> Mux
     }
 }
 
-/// A frame of primary traffic, and of secondary traffic if TT is 1, otherwise of signaling.
+/// A frame of primary traffic, with secondary traffic if TT is 1, otherwise with signaling.
 fn mixed(tt: bool, primary: Bits, other: Bits) -> Mux
     ensures { result ≡ record {
       primary = primary;
@@ -75,7 +75,7 @@ fn mixed(tt: bool, primary: Bits, other: Bits) -> Mux
     }
 }
 
-/// Returns how many bits of primary traffic the mode bits TM leave.
+/// Returns the number of bits of primary traffic for the mode bits TM.
 fn primary_size(tm1: bool, tm0: bool) -> u16
     ensures value { result ≡ primary_bits tm1 tm0 }
     ensures most { result ≤ 80 }

@@ -10,8 +10,8 @@ use chip_core::Numbers;
 use message_layout::Contents;
 use std::marker::Model;
 
-/// The content of a Neighbor List Update Message after its head: fields that fit, and a neighbor or
-/// more. Contracts see the fields.
+/// The content of a Neighbor List Update Message after its head: fields that fit, and at least one
+/// neighbor. Contracts see the fields.
 ///
 /// TIA/EIA-95-B, 7.7.3.3.2.8.
 #[derive(Clone, Copy, PartialEq, Eq, Debug)]
@@ -43,7 +43,7 @@ impl NeighborUpdate {
         self.fields
     }
 
-    /// The value of the first field, as `UPDATE_FIELDS` has it.
+    /// The value of the field of `UPDATE_FIELDS`.
     pub fn values(&self) -> [u64; 1]
         ensures { result ≡ update_values self.now }
     {

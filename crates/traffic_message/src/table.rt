@@ -9,11 +9,11 @@ use message_layout::{field_rows, name_in};
 /// The names of the fields after the type of each message, in the order of transmission, each with
 /// its number of bits: ACK_SEQ, MSG_SEQ, ACK_REQ and ENCRYPTION.
 ///
-/// TIA/EIA-95-B, 7.7.3.2.1. Whatever spells, reads or prints a message goes by these tables.
+/// TIA/EIA-95-B, 7.7.3.2.1. All code that spells, reads or prints a message uses these tables.
 pub const HEAD_FIELDS: [(&str, u8); 4] = [("ack", 3), ("seq", 3), ("req", 1), ("enc", 2)];
 
-/// Hands a macro the fields of the In-Traffic System Parameters Message after the head, in the
-/// order of transmission: for each its place, its name and its number of bits.
+/// Passes to a macro the fields of the In-Traffic System Parameters Message after the head, in the
+/// order of transmission: the place, the name and the number of bits of each.
 macro_rules! in_traffic_fields {
     ($made:ident $(, $($with:tt)+)?) => {
         $made! {
@@ -44,7 +44,7 @@ pub const UPDATE_FIELDS: [(&str, u8); 1] = [("inc", 4)];
 /// TIA/EIA-95-B, 7.7.3.3.2.17.
 pub const TIME_FIELDS: [(&str, u8); 3] = [("use", 1), ("action", 6), ("hdm", 2)];
 
-/// The names of the search parameters that it may bring, each with its number of bits.
+/// The names of the search parameters that such a message may have, each with its number of bits.
 pub const SEARCH_FIELDS: [(&str, u8); 5] = [
     ("wina", 4),
     ("tadd", 6),
@@ -69,7 +69,7 @@ pub fn in_traffic_name(i: usize) -> &'static str
     name_in(&IN_TRAFFIC_FIELDS, i)
 }
 
-/// The name of field `i` of the first of a handoff direction, counted from 0.
+/// The name of field `i` of `TIME_FIELDS`, counted from 0.
 pub fn time_name(i: usize) -> &'static str
     requires { i < 3 }
     ensures { result.now ≡ get_or time_names i [] }

@@ -21,11 +21,11 @@ use Rattle.cell_script.specs.Spelling.{script_of}
 
 -- ---- draws
 
--- the generator's state after a draw: a linear congruence of 64 bits
+-- the generator's state after a draw: a linear congruence modulo 2^64
 abbrev pub past_draw : ℕ → ℕ
 past_draw state = (6364136223846793005 * state + 1442695040888963407) % 2 ^ 64
 
--- what a draw from a state gives: the upper 32 bits of the state after it
+-- the number drawn from a state: the upper 32 bits of the state after the draw
 abbrev pub drawn : ℕ → ℕ
 drawn state = past_draw state / 2 ^ 32
 
@@ -48,7 +48,7 @@ rate_numbered k =
 abbrev pub rate_drawn : ℕ → Rate
 rate_drawn state = rate_numbered (drawn state % 4)
 
--- how many draws stand after that of its rate
+-- the number of draws for a frame's information bits, after the draw of its rate
 abbrev pub bits_of_frame : ℕ → ℕ
 bits_of_frame state = information_of (rate_drawn state)
 
@@ -60,7 +60,7 @@ frame_drawn state = record {
   power_bits = bits_drawn (past_draws (past_draw state) (bits_of_frame state)) 16;
 }
 
--- the state after it
+-- the state after a frame
 abbrev pub past_frame : ℕ → ℕ
 past_frame state = past_draws (past_draws (past_draw state) (bits_of_frame state)) 16
 
@@ -73,7 +73,7 @@ past_frames state (suc n) = past_frame (past_frames state n)
 unfoldable pub frames_drawn : ℕ → ℕ → List TrafficFrame
 frames_drawn state n = map (λ k. frame_drawn (past_frames state k)) (places n)
 
--- ---- what a number tells
+-- ---- what a number determines
 
 -- the state of the long code at the cell's time: of 42 bits, and not 0
 abbrev pub state_of_draws : ℕ → ℕ → ℕ
@@ -90,11 +90,11 @@ trial_cell number = record {
   check16 = Complemented;
 }
 
--- the electronic serial number of the handset that follows it
+-- the electronic serial number of the handset that follows the link
 unfoldable pub trial_serial_number : ℕ → ℕ
 trial_serial_number number = drawn (past_draws number 4)
 
--- the hundred frames that are sent to it
+-- the hundred frames that are sent to that handset
 unfoldable pub trial_frames : ℕ → List TrafficFrame
 trial_frames number = frames_drawn (past_draws number 5) 100
 
@@ -137,11 +137,11 @@ traffic_plan_of line frames = record {
   frames = frames;
 }
 
--- two seconds of a link that leaves the samples as they are
+-- two seconds of a link that leaves the samples unchanged
 abbrev pub trial_link : LinkPlan
 trial_link = record { factor = record { i = pos 1; q = pos 0 }; start = 0; samples = 2457600 }
 
--- the channels other than those of traffic
+-- the paging channel of a cell, with one page
 abbrev pub trial_paging : ℕ → PagingPlan
 trial_paging pn = record { number = 1; gain = 60; pages = trial_page pn ∷ [] }
 

@@ -14,7 +14,7 @@ use Rattle.trial_link.specs.Trial.{followed_line, trial_serial_number}
 first_draw : drawn 0 ≡ 0x14057b7e
 first_draw = refl
 
--- a draw whose state is the greatest
+-- a draw from the greatest state
 last_number : drawn 18446744073709551615 ≡ 0xbbb38751
 last_number = refl
 

@@ -1,5 +1,5 @@
-//! The script of a trial: a number tells the plan of a whole link, and the script is that of the
-//! plan.
+//! The script of a trial: a number determines the plan of a whole link, and the script is the
+//! plan's.
 #![tactic(auto)]
 
 pub mod laws;

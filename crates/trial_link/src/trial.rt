@@ -1,4 +1,4 @@
-//! The script of a trial: a number tells a whole link, by a generator of numbers.
+//! The script of a trial: a whole link, drawn from a number by a generator.
 
 ghost use Rattle.std.specs.Prelude.{◌≡◌, ◌≤◌, ◌<◌, ◌%◌, ◌==◌, [], ◌∷◌, IfOk, OnOk, length};
 ghost use Rattle.cell_plan.specs.Stated.{IsStatedCell};
@@ -14,10 +14,10 @@ use std::alloc::Global;
 use symbol_path::Rate;
 use sync_message::SyncFields;
 
-/// How many frames the followed traffic channel has.
+/// The number of frames of the followed traffic channel.
 const FRAMES: u8 = 100;
 
-/// A generator of numbers: a linear congruence of 64 bits, of which each draw gives the upper half.
+/// A linear congruential generator with 64 bits of state; each draw returns their upper half.
 #[derive(Clone, Copy)]
 struct Draws {
     state: u64,
@@ -58,7 +58,7 @@ impl Draws {
         bits
     }
 
-    /// The next power control bits, sixteen.
+    /// The next 16 power control bits.
     fn power_bits(&mut self) -> PowerBits
         ensures value { result ≡ trial.bits_drawn self.old.state 16 }
         ensures state { self.new.state ≡ trial.past_draws self.old.state 16 }
@@ -105,7 +105,7 @@ impl Draws {
         if state == 0 { 1 } else { state }
     }
 
-    /// The cell, with which the draws begin.
+    /// The cell, which takes the first draws.
     #[tactic(auto, unfolding(crate::specs::Trial::trial_cell, crate::specs::Trial::past_draws))]
     fn cell(&mut self) -> CellIdentity
         ensures value { result ≡ trial.trial_cell self.old.state }
@@ -134,8 +134,8 @@ fn sixteen(bits: &Bits) -> PowerBits
     groups
 }
 
-/// The electronic serial number of the handset that follows the link of a number's script: on
-/// Walsh row 8, with FRAME_OFFSET 0.
+/// The electronic serial number of the handset that follows the link of a number's script, on Walsh
+/// row 8 with FRAME_OFFSET 0.
 #[tactic(auto, unfolding(crate::specs::Trial::trial_serial_number))]
 pub fn trial_serial_number(number: u64) -> u32
     ensures { result ≡ trial.trial_serial_number number }
@@ -145,10 +145,10 @@ pub fn trial_serial_number(number: u64) -> u32
     draws.draw()
 }
 
-/// The script of a number: two seconds of a cell with a pilot, a sync and a paging channel and
-/// three traffic channels, of which the first has a hundred frames of all rates. Its values are
-/// drawn from the number, and the same number gives the same script. It names a lawful plan,
-/// whatever the number: see [`crate::laws::trial_scripts_are_lawful`].
+/// Returns the script of a number: two seconds of a cell with a pilot, a sync and a paging channel,
+/// and three traffic channels. The first of these has a hundred frames of all rates. The values are
+/// drawn from the number, so the same number gives the same script. For every number it names a
+/// lawful plan: see [`crate::laws::trial_scripts_are_lawful`].
 ///
 /// Returns [`OutOfMemory`] if allocation fails.
 #[tactic(auto, unfolding(crate::specs::Trial::trial_text))]
@@ -251,7 +251,7 @@ fn traffic_channels(
     Ok(traffic)
 }
 
-/// A traffic channel with the gain that all three have.
+/// A traffic channel with the gain of all three.
 fn traffic_channel(row: u8, esn: u32, offset: u8, frames: Series<TrafficFrame>) -> TrafficPlan
     ensures { result ≡
         record { row = row; esn = esn; offset = offset; gain = 40; frames = frames } }

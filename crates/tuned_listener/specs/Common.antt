@@ -1,4 +1,4 @@
--- What the definitions of this crate cite of the crates below, and of its own types.
+-- Names from other crates that the definitions of this crate use.
 pub use Rattle.chip_core.specs.Air.{IsListLength, data_frame_chips, superframe_chips}
 pub use Rattle.chip_core.specs.declared.check_form.CheckForm.{CheckForm}
 pub use Rattle.chip_core.specs.declared.sample.Sample.{Sample}

@@ -12,32 +12,32 @@ use Rattle.event_tap.specs.declared.tuned_text.TunedText.{TunedText}
 use Rattle.event_tap.specs.declared.tuned_text.TunedText.TheVariants.{Listed, RateSetTwo, Slots}
 use Rattle.tuned_listener.specs.declared.frame_writer.FrameWriter.TheVariants as writers
 
--- which text it writes
+-- the kind of text that it writes
 abbrev pub tuned_text_of : FrameWriter → TunedText
 tuned_text_of (writers.RateSetTwo decoder) = RateSetTwo
 tuned_text_of (writers.Listed decoder k) = Listed k
 tuned_text_of (writers.Slots slots) = Slots slots.key slots.cycle
 
--- its decoder takes a frame, and lists from 1 to 16 codewords; or it is ready for slots
+-- its decoder has room for a frame and lists 1 to 16 codewords, or it is ready for slots
 abbrev pub IsReady : FrameWriter → Type 0
 IsReady (writers.RateSetTwo decoder) = 288 ≤ decoder
 IsReady (writers.Listed decoder k) = (192 ≤ decoder) × IsListLength k
 IsReady (writers.Slots slots) = IsReadyForSlots slots
 
--- which texts there are
+-- the parameters of the text are in range
 abbrev pub IsLawfulText : TunedText → Type 0
 IsLawfulText RateSetTwo = Unit {0}
 IsLawfulText (Listed k) = IsListLength k
 IsLawfulText (Slots key cycle) = cycle ≤ 7
 
--- where it hears slots it does by this check, and keeps these frames of a slot
+-- if it decodes slots, it checks messages in this form and keeps these frames of a slot
 abbrev pub HoldsFrames : FrameWriter → CheckForm → List SoftFrame → Type 0
 HoldsFrames (writers.RateSetTwo decoder) check slot = Unit {0}
 HoldsFrames (writers.Listed decoder k) check slot = Unit {0}
 HoldsFrames (writers.Slots slots) check slot = (slots.check ≡ check) × HoldsSlot slots slot
 
--- A receiver has taken these samples after those, a sink got the text of the frames that end
--- within them, and the writer keeps what they leave of a slot.
+-- A receiver that had taken the samples `before` has now taken `heard`, a sink took the text of the
+-- frames that end in between, and the writer keeps the frames of the last slot.
 pub record WritesFrames (t : Tuning) (channel : CodeChannel) (m : Mark) (form : TunedText)
     (tuner : Tuner) (writer : FrameWriter) (before heard : List Sample) (old new : Option (List ℕ))
     : Type 0 where
@@ -47,7 +47,7 @@ pub record WritesFrames (t : Tuning) (channel : CodeChannel) (m : Mark) (form : 
   pub tuned : IsTunedTo t channel m tuner heard
   pub holds : HoldsFrames writer t.check30 (slot_after [] (soft_frames t channel m heard))
 
--- a sink got a beginning of that text
+-- a sink took a beginning of that text
 pub record WritesFramesPart (t : Tuning) (channel : CodeChannel) (m : Mark) (form : TunedText)
     (before heard : List Sample) (old new : Option (List ℕ)) : Type 0 where
   pub text : List ℕ

@@ -10,7 +10,7 @@ use Rattle.event_tap.specs.declared.tuned_text.TunedText.TheVariants.{Slots}
 
 -- ---- slots by their times
 
--- What is written are the lines of the slots that are heard,
+-- The text consists of the lines of the slots that are heard,
 abbrev pub IsWrittenByTimes : Type 0
 IsWrittenByTimes =
     (key cycle : ℕ) (t : Tuning) (number : ℕ) (m : Mark) (samples : List Sample) →
@@ -18,7 +18,7 @@ IsWrittenByTimes =
     tuned_text (Slots key cycle) t (Paging number) samples
     ≡ lines_by_times key cycle t number m samples
 
--- and nothing where no mark is set.
+-- and is empty if no mark is set.
 abbrev pub NeedsMark : Type 0
 NeedsMark =
     (key cycle : ℕ) (t : Tuning) (number : ℕ) (samples : List Sample) →
@@ -27,8 +27,8 @@ NeedsMark =
 
 -- ---- sleep
 
--- Two files agree in the samples of a slot that begins at reference sample u: those that a finger
--- has of it begin as much earlier as the finger's samples come.
+-- Two files agree in the samples of a slot that begins at reference sample u. The samples that a
+-- finger takes for the slot begin earlier by the finger's delta.
 abbrev pub AgreeInSlot : List Sample → List Sample → ℕ → List ℤ → Type 0
 AgreeInSlot one other u [] = Unit {0}
 AgreeInSlot one other u (delta ∷ deltas) =
@@ -36,15 +36,15 @@ AgreeInSlot one other u (delta ∷ deltas) =
     ≡ take superframe_chips (drop (unsigned_abs (pos u -ℤ delta)) other))
     × AgreeInSlot one other u deltas
 
--- they do in each slot that is heard in n samples
+-- they agree in each slot that is heard in n samples
 abbrev pub AgreeWhereHeard : ℕ → ℕ → Tuning → ℕ → Mark → List Sample → List Sample → ℕ → Type 0
 AgreeWhereHeard key cycle t number m one other n =
     (slot : ℕ) →
     IsTrue (is_heard key cycle t.count (channel_stream t (Paging number) m) m n slot) →
     AgreeInSlot one other (m.sample + superframe_chips * slot) t.deltas
 
--- Two files of one length, and of one tuning, of which one sets a mark, and that agree before it
--- and in the slots that are heard, have one text.
+-- Two files have the same text if they have the same length and tuning, one of them sets a mark,
+-- and they agree before the mark and in the slots that are heard.
 abbrev pub SleepsThroughTheRest : Type 0
 SleepsThroughTheRest =
     (key cycle : ℕ) (t : Tuning) (number : ℕ) (m : Mark) (one other : List Sample) →

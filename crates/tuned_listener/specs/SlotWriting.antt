@@ -16,7 +16,7 @@ pages_ending check size bits =
     flat_map (λ capsule. option_to_list (paging_reading check capsule))
     (option_to_list (half_frame_capsule_ending size bits))
 
--- the message of a page, where there is one
+-- the message of a page, if there is one
 abbrev pub page_list : Option Page → List PagingMessage
 page_list None = []
 page_list (Some page) = page.message ∷ []
@@ -26,7 +26,7 @@ pub record HoldsSlot (w : SlotWriter) (slot : List SoftFrame) : Type 0 where
   pub count_is : w.kept ≡ length slot
   pub softs_are : take (384 * w.kept) w.softs ≡ flat_map (λ (f : SoftFrame). f.descrambled) slot
 
--- its decoder takes three frames, and what it keeps is so small that it may be decoded
+-- its decoder has room for three frames, and the soft values it keeps are small enough to decode
 pub record IsReadyForSlots (w : SlotWriter) : Type 0 where
   pub decodes : w.decoder ≡ 576
   pub few : w.kept ≤ 4

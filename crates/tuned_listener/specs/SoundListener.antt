@@ -16,20 +16,20 @@ pub record CanOpenFor (channel : CodeChannel) (near : Near) : Type 0 where
   pub most : near.count ≤ 3
   pub first : slice_get near.deltas 0 ≡ Some (pos 0)
 
--- a handset ahead of the mark was told none, and a receiver can be opened in its place; and the
--- mark that a receiver is after is one of a file
+-- a handset ahead of the mark has not set one, and a receiver can be opened to replace it; the mark
+-- of a receiver is sound
 pub record IsSoundHearer (hearer : Hearer) : Type 0 where
   pub ahead : (mobile : Mobile) (channel : CodeChannel) (phase : ℕ) (near : Near) →
       hearer ≡ Ahead mobile channel phase near → IsUntold mobile × CanOpenFor channel near
   pub after : (m : Mark) (tuner : Tuner) → hearer ≡ After m tuner → IsSoundMark m
 
--- a handset has taken no sample after this mark, and a receiver can be opened in its place
+-- a handset has taken no sample after this mark, and a receiver can be opened to replace it
 abbrev pub CanOpen : Hearer → Mark → Type 0
 CanOpen (Ahead mobile channel phase near) m =
     (samples_taken mobile ≤ m.sample) × CanOpenFor channel near
 CanOpen (After already tuner) m = ⊥
 
--- so it is with who hears, and the writer takes a frame
+-- the part that takes the samples is sound, and the writer is ready for a frame
 pub record IsSoundListener (hearer : Hearer) (writer : FrameWriter) : Type 0 where
   pub hears : IsSoundHearer hearer
   pub ready : ∥ IsReady writer ∥₁

@@ -14,32 +14,32 @@ use Rattle.tuned_listener.specs.declared.tuned.TunedListener.{TunedListener}
 use Rattle.tuned_listener.specs.declared.tuner.Tuner.{Tuner}
 use Rattle.event_tap.specs.declared.tuned_text.TunedText.{TunedText}
 
--- what a receiver after the mark is opened for is what a handset is tuned to
+-- the parameters with which the receiver is opened are those of the tuning and the channel
 pub record OpensFor (t : Tuning) (channel for_channel : CodeChannel) (phase : ℕ) (near : Near)
     : Type 0 where
   pub phase_is : t.phase ≡ phase
   pub deltas_are : t.deltas ≡ take near.count near.deltas
   pub channel_is : for_channel ≡ channel
 
--- a handset ahead of the mark has taken these samples, in whose place such a receiver is opened
+-- a handset ahead of the mark, which such a receiver will replace, has taken these samples
 pub record WaitsFor (t : Tuning) (channel : CodeChannel) (mobile : Mobile)
     (for_channel : CodeChannel) (phase : ℕ) (near : Near) (heard : List Sample) : Type 0 where
   pub opens : OpensFor t channel for_channel phase near
   pub ahead : ListensAhead t mobile heard
 
--- a receiver has taken these samples, which set the mark that it is after
+-- a receiver after a mark has taken these samples, which set that mark
 pub record ListensAfter (t : Tuning) (channel : CodeChannel) (m : Mark) (tuner : Tuner)
     (heard : List Sample) : Type 0 where
   pub marked : mark t heard (length heard) ≡ Some m
   pub tuned : IsTunedTo t channel m tuner heard
 
--- the one or the other
+-- a handset or a receiver has taken these samples in this way
 abbrev pub ListensFrom : Tuning → CodeChannel → Hearer → List Sample → Type 0
 ListensFrom t channel (Ahead mobile for_channel phase near) heard =
     WaitsFor t channel mobile for_channel phase near heard
 ListensFrom t channel (After m tuner) heard = ListensAfter t channel m tuner heard
 
--- a handset was told this mark, which the samples set that it has taken
+-- a handset, which such a receiver will replace, has taken these samples, which set this mark
 abbrev pub WasTold : Tuning → CodeChannel → Hearer → Mark → List Sample → Type 0
 WasTold t channel (Ahead mobile for_channel phase near) m heard =
     OpensFor t channel for_channel phase near × IsMarkedAt t mobile m heard
@@ -54,22 +54,22 @@ pub record ListensTuned (t : Tuning) (channel : CodeChannel) (form : TunedText) 
   pub holds : HoldsFrames l.writer t.check30 (slot_after [] (after_mark t channel heard))
   pub listens : ListensFrom t channel l.hearer heard
 
--- a handset waits for the mark
+-- whether a handset waits for the mark
 abbrev pub is_ahead : Hearer → Bool
 is_ahead (Ahead mobile channel phase near) = true
 is_ahead (After m tuner) = false
 
--- how many samples of the file are left to whom
+-- how many samples of the file are left to the handset or the receiver
 abbrev pub room_of : Hearer → ℕ
 room_of (Ahead mobile channel phase near) = has_room mobile
 room_of (After m tuner) = samples_left tuner
 
--- how many samples of the file are left to it
+-- how many samples of the file are left to the listener
 abbrev pub tuned_room : TunedListener → ℕ
 tuned_room l = room_of l.hearer
 
--- It has taken these samples after those, and a sink got the text of the frames that end within
--- them.
+-- The listener, which had taken the samples `before`, has now taken `heard`, and a sink took the
+-- text of the frames that end in between.
 pub record TellsTuned (t : Tuning) (channel : CodeChannel) (form : TunedText) (l : TunedListener)
     (before heard : List Sample) (old new : Option (List ℕ)) : Type 0 where
   pub text : List ℕ
@@ -77,7 +77,7 @@ pub record TellsTuned (t : Tuning) (channel : CodeChannel) (form : TunedText) (l
   pub all : tuned_text form t channel before ++ text ≡ tuned_text form t channel heard
   pub listens : ListensTuned t channel form l heard
 
--- a sink got a beginning of that text
+-- a sink took a beginning of that text
 pub record TellsTunedPart (t : Tuning) (channel : CodeChannel) (form : TunedText)
     (before heard : List Sample) (old new : Option (List ℕ)) : Type 0 where
   pub text : List ℕ

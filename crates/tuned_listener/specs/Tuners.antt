@@ -9,7 +9,7 @@ use Rattle.tuned_listener.specs.FrameReceiving.{HasGiven}
 use Rattle.tuned_listener.specs.declared.tuner.Tuner.{Tuner}
 use Rattle.tuned_listener.specs.declared.tuner.TunerStep.{TunerStep}
 
--- It receives this channel after this mark, has taken these samples of a file, and given the
+-- It receives this channel after this mark, has taken these samples of a file, and has returned the
 -- frames that end within them.
 pub record IsTunedTo (t : Tuning) (channel : CodeChannel) (m : Mark) (r : Tuner)
     (heard : List Sample) : Type 0 where
@@ -21,10 +21,10 @@ pub record IsTunedTo (t : Tuning) (channel : CodeChannel) (m : Mark) (r : Tuner)
 abbrev pub samples_left : Tuner → ℕ
 samples_left r = r.count - r.ring.taken
 
--- From one state to another it took the first of these samples, as many as the step says, at least
--- one where there is one, and gave the frame that it says, which ends at the last of them: that is
--- just what the samples taken now have beyond those taken before. Where it gave none it took all.
--- A frame's soft values are so small that those of three frames may be decoded together.
+-- Between these states it took the first `step.taken` of these samples, at least one if there is
+-- one. It returned the frame `step.frame`, which ends at the last of them, and no other frame ends
+-- within them. If it returned none, it took all samples. A frame's soft values are so small that
+-- those of three frames may be decoded together.
 pub record IsTunerStep (before after : Tuner) (samples : List Sample) (step : TunerStep)
     : Type 0 where
   pub most : step.taken ≤ length samples

@@ -14,7 +14,7 @@ use reception::{FrameReceiver, Scrambling, reference_fingers};
 use short_code::Codes;
 use symbol_path::power_places;
 
-/// The scrambling of a channel, whose frame 0 begins at the mark or at its offset after it.
+/// Returns the scrambling of a channel whose frame 0 begins at the channel's offset after the mark.
 fn scrambling_of(channel: &CodeChannel, mark: &Mark) -> Scrambling
     requires lawful { IsLawful channel.now }
     requires mark { IsSoundMark mark.now }
@@ -51,7 +51,8 @@ impl ChannelReceiver {
     ghost use Rattle.rake_finger.specs.Held.{HoldsLast};
     ghost use Rattle.reception.specs.Softs.{frame_most};
 
-    /// The receiver of a channel, for a base station at a phase and near it, before any frame ends.
+    /// Opens the receiver of a channel, before any frame ends, for the base station at `phase` and
+    /// the paths `near` it.
     pub(crate) fn open(
         mark: &Mark,
         channel: &CodeChannel,
@@ -80,7 +81,7 @@ impl ChannelReceiver {
         }
     }
 
-    /// Returns how many samples have been taken when the frame ends that comes next.
+    /// Returns how many samples have been taken when the next frame ends.
     pub(crate) fn end(&self) -> u64
         ensures { result ≡ self.now.frames.clock.end }
     {
@@ -109,7 +110,7 @@ impl ChannelReceiver {
         })
     }
 
-    /// The frame whose last sample has just come.
+    /// Returns the frame whose last sample has just been taken.
     fn coming(&self, ring: &SampleRing, codes: &Codes) -> SoftFrame
         requires sound { IsSoundChannelReceiver self.now }
         requires room { ring.now.room ≡ 65536 }
@@ -132,7 +133,7 @@ impl ChannelReceiver {
         }
     }
 
-    /// Returns the frame whose last sample has just come, and proceeds to the next frame.
+    /// Returns the frame whose last sample has just been taken, and proceeds to the next frame.
     pub(crate) fn take_frame(&mut self, ring: &SampleRing, codes: &Codes) -> SoftFrame
         requires sound { IsSoundChannelReceiver self.old }
         requires room { ring.now.room ≡ 65536 }

@@ -32,9 +32,9 @@ use viterbi::Decoder;
 pub(crate) enum FrameWriter {
     /// Decodes frames of rate set 2.
     RateSetTwo { decoder: Decoder },
-    /// Decodes frames of rate set 1 with the first `k` codewords of a rate, from 1 to 16.
+    /// Decodes frames of rate set 1 from the first `k` codewords of each rate, 1 to 16.
     Listed { decoder: ListDecoder, k: u8 },
-    /// Hears the slots of a paging channel that a handset monitors.
+    /// Decodes the slots of a paging channel that a handset monitors.
     Slots(SlotWriter),
 }
 
@@ -95,8 +95,8 @@ fn write_listed<K: Sink>(
 }
 
 impl FrameWriter {
-    /// The writer of a text, whose messages have a check of this form. It allocates a decoder, and
-    /// that is all that can fail.
+    /// Opens the writer of a text, whose messages have checks of the form `check`. Only the
+    /// allocation of a decoder can fail.
     pub(crate) fn open(
         alloc: Global,
         text: TunedText,
@@ -122,7 +122,7 @@ impl FrameWriter {
         }
     }
 
-    /// Writes what is made of the next frame after a mark.
+    /// Writes the text of the next frame after `mark`.
     fn write<K: Sink>(&mut self, mark: &Mark, frame: &SoftFrame, sink: &mut K) -> Result<(), Failed>
         requires ready { IsReady self.old }
         requires mark { IsSoundMark mark.now }
@@ -150,7 +150,7 @@ impl FrameWriter {
         }
     }
 
-    /// Writes what is made of the frame with which a step ends, if there is one.
+    /// Writes the text of the frame with which a step ends, if there is one.
     fn write_shown<K: Sink>(
         &mut self,
         mark: &Mark,
@@ -184,8 +184,8 @@ impl FrameWriter {
     }
 }
 
-/// Gives samples to the receiver of a channel's frames after a mark, and writes what is made of
-/// each frame that ends within them.
+/// Passes samples to the receiver of a channel's frames after `mark`, and writes the text of each
+/// frame that ends within them.
 pub(crate) fn hear_frames<K: Sink>(
     tuner: &mut Tuner,
     mark: &Mark,

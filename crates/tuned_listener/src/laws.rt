@@ -12,7 +12,7 @@ pub fn slots_are_written_by_their_times()
 {}
 
 /// The text for a sleeping handset doesn't depend on what it sleeps through: it is the same for two
-/// files of one tuning and one length that agree before the mark and, path by path, in the samples
+/// files of the same tuning and length that agree before the mark and, path by path, in the samples
 /// of its slots.
 pub fn sleep_hides_the_rest()
     ensures { SleepsThroughTheRest }

@@ -9,16 +9,16 @@ ghost use Rattle.tuned_listener.specs.Marking.{IsMarkedAt, IsUntold, ListensAhea
 use chip_core::Sample;
 use mobile_core::{Mark, Mobile};
 
-/// How far a handset came.
+/// The progress of a handset.
 #[derive(Clone, Copy)]
 pub struct Reached {
-    /// How many of the samples it took.
+    /// The number of samples that it took.
     pub taken: usize,
-    /// The mark; `None` if none is set, and then all samples were taken.
+    /// The mark; `None` if none is set, in which case all samples were taken.
     pub mark: Option<Mark>,
 }
 
-/// Gives samples to a handset without a mark, up to the step that sets one, or all.
+/// Passes samples to a handset without a mark, up to the step that sets one, or all of them.
 pub fn step_to_mark(mobile: &mut Mobile, samples: &[Sample]) -> Reached
     requires room { length samples.now ≤ has_room mobile.old }
     requires untold { IsUntold mobile.old }

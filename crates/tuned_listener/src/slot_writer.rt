@@ -32,31 +32,30 @@ pub(crate) struct SlotWriter {
     key: u32,
     /// The index of its cycle, 0 to 7.
     cycle: u8,
-    /// The check of capsules.
+    /// The form of the capsules' checks.
     check: CheckForm,
-    /// The soft values of the frames that are kept of a slot, 384 a frame, descrambled by the
-    /// scrambling.
+    /// The descrambled soft values of the frames that are kept of a slot, 384 per frame.
     softs: [i64; 4 * DATA_SYMBOLS],
-    /// How many frames are kept, from the slot's first on.
+    /// The number of frames that are kept, from the slot's first on.
     kept: u8,
 }
 
-/// The place of a frame in its slot, 0 to 3, by its number from the mark on.
+/// Returns the place of a frame in its slot, 0 to 3, from its number counted from the mark on.
 fn place_in_slot(number: u64) -> u8
     ensures { result ≡ number % 4 }
 {
     (number % u64::from(SLOT_FRAMES)) as u8
 }
 
-/// Whether a frame at a place of a slot continues the `kept` frames of it; the first one always
-/// does.
+/// Returns whether a frame at `place` of a slot continues the slot's `kept` frames. The first frame
+/// always does.
 fn goes_on(place: u8, kept: u8) -> bool
     ensures { IsTrue result ↔ ((place ≡ 0) ⊎ (place ≡ kept)) }
 {
     place == 0 || place == kept
 }
 
-/// The system time of the slot of a frame after a mark, in units of 80 ms.
+/// Returns the system time of the slot of a frame after a mark, in units of 80 ms.
 fn slot_time(mark: &Mark, number: u64) -> u64
     requires { IsSoundMark mark.now }
     ensures { result ≡ mark.now.time + number / 4 }
@@ -71,8 +70,8 @@ struct Page {
     message: PagingMessage,
 }
 
-/// Gives the framer the next bit of a slot and returns the message that it completes; `None` if it
-/// completes none or one with a fault.
+/// Passes the next bit of a slot to the framer, and returns the message that the bit completes;
+/// `None` if it completes none, or one with a fault.
 fn page_after(framer: &mut HalfFramer, bit: bool, check: CheckForm) -> Option<Page>
     ensures size { framer.new.size ≡ framer.old.size }
     ensures stands { (bits : List Bool) → HalfFramesStandFor framer.old bits →
@@ -87,7 +86,7 @@ fn page_after(framer: &mut HalfFramer, bit: bool, check: CheckForm) -> Option<Pa
     }
 }
 
-/// Returns how many messages the bits of a slot have.
+/// Returns the number of messages in the bits of a slot.
 fn count_pages(bits: &HalfBits, rate: Rate, check: CheckForm) -> u16
     requires rate { IsPagingRate rate }
     ensures { result ≡ length (slot_pages check rate bits.now) }
@@ -103,7 +102,7 @@ fn count_pages(bits: &HalfBits, rate: Rate, check: CheckForm) -> u16
 
 /// Writes the line of a message of a slot, if there is one.
 ///
-/// `at` is the number of samples at which the slot ends.
+/// `at` is the number of samples taken when the slot ends.
 #[tactic(auto, unfolding(event_tap::specs::EventLines::event_line))]
 fn write_page<K: Sink>(at: u64, page: &Option<Page>, sink: &mut K) -> Result<(), Failed>
     ensures ok { OnOk result (Appends (K.written sink.old) (K.written sink.new)
@@ -123,9 +122,9 @@ fn write_page<K: Sink>(at: u64, page: &Option<Page>, sink: &mut K) -> Result<(),
     write_event(&event, sink)
 }
 
-/// Writes the lines of the messages that the bits of a slot have.
+/// Writes the lines of the messages in the bits of a slot.
 ///
-/// `at` is the number of samples at which the slot ends.
+/// `at` is the number of samples taken when the slot ends.
 fn write_pages<K: Sink>(
     at: u64,
     bits: &HalfBits,
@@ -148,9 +147,9 @@ fn write_pages<K: Sink>(
     Ok(())
 }
 
-/// Writes the lines of a slot whose bits these are.
+/// Writes the lines of a slot, given its bits.
 ///
-/// `at` is the number of samples at which it ends, and `time` its system time in units of 80 ms.
+/// `at` is the number of samples taken when it ends, `time` its system time in units of 80 ms.
 fn write_lines<K: Sink>(
     at: u64,
     time: u64,
@@ -171,8 +170,8 @@ fn write_lines<K: Sink>(
 }
 
 impl SlotWriter {
-    /// The writer of the slots that the handset of a key monitors in a cycle, 0 to 7. It allocates
-    /// a decoder, and that is all that can fail.
+    /// Opens the writer of the slots that a handset monitors, by its key and the index of its
+    /// cycle, 0 to 7. Only the allocation of a decoder can fail.
     pub(crate) fn open(
         alloc: Global,
         key: u32,
@@ -253,11 +252,11 @@ impl SlotWriter {
         write_lines(frame.end, time, &bits, rate, *check, sink)
     }
 
-    /// Takes the next frame after a mark and writes the lines of the slot that it ends, if that is
+    /// Takes the next frame after `mark`, and writes the lines of the slot that it ends, if that is
     /// monitored.
     ///
-    /// Returns [`Failed`] only if the sink's count of faults rose, and the sink got then a
-    /// beginning of the lines.
+    /// Returns [`Failed`] only if the sink's count of faults rose. The sink then took a beginning
+    /// of the lines.
     pub(crate) fn write<K: Sink>(
         &mut self,
         mark: &Mark,

@@ -1,5 +1,5 @@
-//! A listener for the frames of one channel: a handset up to the step that sets the mark, and after
-//! it a receiver of only these frames.
+//! A listener for the frames of one channel: a handset up to the step that sets the mark, and then
+//! a receiver of only these frames.
 
 ghost use Rattle.tuned_listener.specs.SoundListener.{IsSoundListener};
 
@@ -18,7 +18,7 @@ use std::alloc::Global;
 /// The part that takes the next samples.
 #[derive(Drop)]
 enum Hearer {
-    /// The handset that waits for the mark, and for what the receiver after it is opened.
+    /// The handset that waits for the mark, and the parameters with which its successor is opened.
     Ahead {
         mobile: Mobile,
         /// The channel.
@@ -28,7 +28,7 @@ enum Hearer {
         /// The paths near it.
         near: Near,
     },
-    /// The receiver of the channel's frames, and the mark that it is after.
+    /// The receiver of the channel's frames after the mark, and that mark.
     After {
         mark: Mark,
         tuner: Tuner,
@@ -45,7 +45,7 @@ impl Hearer {
     ghost use Rattle.tuned_listener.specs.SoundListener.{CanOpen, IsSoundHearer};
     ghost use Rattle.tuned_listener.specs.TunedListening.{ListensFrom, WasTold, is_ahead, room_of};
 
-    /// Replaces the handset by the receiver of the frames after a mark. A receiver that is already
+    /// Replaces the handset by the receiver of the frames after `mark`. A receiver that is already
     /// there stays.
     fn opened(self, mark: Mark) -> (Hearer, ())
         requires mark { IsSoundMark mark }
@@ -73,11 +73,10 @@ impl Hearer {
     }
 }
 
-/// The listener of one channel of the reference base station, which writes what is made of its
-/// frames.
+/// The listener of one channel of the reference base station, which writes the text of its frames.
 ///
-/// Up to the step that sets the mark a handset takes the samples, and after it a receiver of the
-/// channel's frames.
+/// A handset takes the samples up to the step that sets the mark, and a receiver of the channel's
+/// frames takes those after it.
 #[derive(Drop)]
 pub struct TunedListener {
     hearer: Hearer,
@@ -101,11 +100,11 @@ impl TunedListener {
     ghost use Rattle.event_tap.specs.TunedTexts.{IsLawfulTuned, tuned_text};
     ghost use Rattle.event_tap.specs.declared.tuned_text.TunedText.{TunedText as TheText};
 
-    /// The listener of a channel, for a base station at a phase and near it, instead of a handset
-    /// that has taken no sample of a file. The messages of a paging channel have checks of the form
-    /// that the handset was made with.
+    /// Opens the listener of a channel of the base station at `phase`, with the paths `near` it,
+    /// from a handset that has taken no sample of a file. The messages of a paging channel have
+    /// checks of the form that the handset was made with.
     ///
-    /// It allocates a decoder, and that is all that can fail.
+    /// Only the allocation of a decoder can fail.
     pub fn open(
         alloc: Global,
         mobile: Mobile,
@@ -134,7 +133,7 @@ impl TunedListener {
         Ok(TunedListener { hearer, writer })
     }
 
-    /// Whether a mark is set.
+    /// Returns whether the mark is set.
     pub fn is_told(&self) -> bool
         ensures { (t : Tuning) (channel : TheChannel) (form : TheText) (heard : List TheSample) →
             ListensTuned t channel form self.now heard →
@@ -143,12 +142,11 @@ impl TunedListener {
         matches!(self.hearer, Hearer::After { .. })
     }
 
-    /// Takes samples, and writes what is made of each frame that ends within them.
+    /// Takes samples, and writes the text of each frame that ends within them.
     ///
-    /// The samples are those of the file that follow on those taken before, as many of them as
-    /// there are or fewer. Returns [`Failed`] only if the sink's count of faults rose, and the sink
-    /// got then a beginning of the text.
-    // Its frame holds a handset, and is not to lie beneath that of who hears all channels.
+    /// `samples` are the next samples of the file, not more than it has left. Returns [`Failed`]
+    /// only if the sink's count of faults rose. The sink then took a beginning of the text.
+    // Not inlined: its stack frame holds a handset, which would enlarge that of its caller.
     #[inline(never)]
     pub fn hear<K: Sink>(&mut self, samples: &[Sample], sink: &mut K) -> Result<(), Failed>
         requires room { length samples.now ≤ tuned_room self.old }
@@ -168,8 +166,9 @@ impl TunedListener {
         self.write_frames(&samples[taken..], sink)
     }
 
-    /// Gives samples to the handset up to the step that sets the mark, or all, and replaces it by
-    /// the receiver of the frames if the mark is set. If it was set before, no sample is taken.
+    /// Passes samples to the handset up to the step that sets the mark, or all of them, and then
+    /// replaces it by the receiver of the frames if the mark is set. Returns the number of samples
+    /// taken: 0 if the mark was set before.
     fn reach_mark(&mut self, samples: &[Sample]) -> usize
         requires room { length samples.now ≤ tuned_room self.old }
         ensures most { result ≤ length samples.now }
@@ -193,8 +192,8 @@ impl TunedListener {
         taken
     }
 
-    /// Gives samples to the receiver of the frames, if there is one, and writes what is made of
-    /// each frame that ends within them.
+    /// Passes samples to the receiver of the frames, if there is one, and writes the text of each
+    /// frame that ends within them.
     fn write_frames<K: Sink>(&mut self, samples: &[Sample], sink: &mut K) -> Result<(), Failed>
         requires room { length samples.now ≤ tuned_room self.old }
         requires all { is_ahead self.old.hearer ≡ true → length samples.now ≡ 0 }

@@ -9,17 +9,17 @@ use pilot_search::Near;
 use rake_finger::SampleRing;
 use short_code::Codes;
 
-/// How many samples a step took, and which frame ends there.
+/// The number of samples that a step took, and the frame that ends with them.
 #[derive(Clone, Copy)]
 pub struct TunerStep {
-    /// How many of the samples were taken.
+    /// The number of samples taken.
     pub taken: usize,
     /// The frame that ends with the last sample taken; `None` if all samples were taken and no
     /// frame ends within them.
     pub frame: Option<SoftFrame>,
 }
 
-/// The receiver of the frames of one channel of the reference base station, from the mark on: it
+/// The receiver of the frames of one channel of the reference base station, from the mark on. It
 /// takes the samples of a file in pieces of any size and returns each frame when its last sample
 /// has been taken.
 ///
@@ -27,7 +27,7 @@ pub struct TunerStep {
 /// symbols each, whatever the rate (TIA/EIA-95-B, 7.1.3.4 and 7.1.3.5).
 #[derive(Drop)]
 pub struct Tuner {
-    /// How many samples the file has.
+    /// The number of samples in the file.
     count: u64,
     /// The last samples.
     ring: SampleRing,
@@ -47,11 +47,11 @@ impl Tuner {
     ghost use Rattle.heard_events.specs.Tuning.{Tuning};
     ghost use Rattle.rake_finger.specs.Held.{HoldsLast};
 
-    /// Makes the receiver of a channel after a mark, given the phase of the base station and the
-    /// paths near it, in a file of `taken` samples so far.
+    /// Makes the receiver of a channel after a mark in a file of `count` samples, given the phase
+    /// of the base station and the paths near it.
     ///
-    /// The ring holds 65,536 samples and has taken the first samples of the file, at most up to the
-    /// mark; the receiver takes those after them. Allocates nothing.
+    /// The ring has room for 65,536 samples and has taken the first samples of the file, at most up
+    /// to the mark; the receiver takes those after them. Allocates nothing.
     pub fn open(
         count: u64,
         ring: SampleRing,
@@ -87,10 +87,10 @@ impl Tuner {
         }
     }
 
-    /// Takes samples up to the end of the next frame, or all.
+    /// Takes samples up to the end of the next frame, or all of them.
     ///
     /// `samples` are the next ones of the file. If the step returns a frame, it took exactly the
-    /// samples up to the frame's end, and the caller passes the others again.
+    /// samples up to the frame's end, and the caller passes the rest again.
     pub fn step(&mut self, samples: &[Sample]) -> TunerStep
         requires { length samples.now ≤ samples_left self.old }
         ensures { IsTunerStep self.old self.new samples.now result }

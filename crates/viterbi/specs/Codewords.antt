@@ -10,8 +10,8 @@ pub record Codeword : Type 0 where
   pub start : List Bool
   pub bits : List Bool
 
--- the number that the bits spell from the last to the first: of codewords of equal score the one of
--- the lesser number is better
+-- the number that the bits spell from the last to the first; of two codewords with equal scores the
+-- one with the lesser number is better
 abbrev pub rank : Codeword → ℕ
 rank w = number (reverse (w.start ++ w.bits))
 
@@ -20,14 +20,14 @@ abbrev pub codeword_count : Ends → ℕ → ℕ
 codeword_count Zero n = 2 ^ (n - 8)
 codeword_count Free n = 2 ^ (n + 8)
 
--- the allowed codewords of n bits by rising rank: number r of them
+-- codeword r of the allowed codewords of n bits, by rising rank
 abbrev pub codeword_at : Ends → ℕ → ℕ → Codeword
 codeword_at Zero n r =
     record { start = replicate 8 false; bits = reverse (binary (n - 8) r) ++ replicate 8 false }
 codeword_at Free n r = let joined = reverse (binary (n + 8) r) in record
     { start = take 8 joined; bits = drop 8 joined }
 
--- how well soft values agree with symbols, as a codeword's score is called here
+-- the correlation of soft values with symbols: how well they agree
 abbrev pub correlation : List ℤ → List Bool → ℤ
 correlation = agreement
 
@@ -35,7 +35,7 @@ correlation = agreement
 abbrev pub score_of : List ℤ → Codeword → ℤ
 score_of softs w = correlation softs (code_symbols w.start w.bits)
 
--- a codeword is better than another: greater score, or the same and lesser rank
+-- a codeword is better than another: its score is greater, or the same with a lesser rank
 abbrev pub IsBetter : (Codeword → ℤ) → Codeword → Codeword → Type 0
 IsBetter score w v = (score v <ℤ score w) ⊎ ((score v ≡ score w) × (rank w < rank v))
 

@@ -26,7 +26,7 @@ unfoldable pub path : List (List ℕ) → ℕ → ℕ → List Bool
 path columns zero t = []
 path columns (suc k) t = path columns k (state_before columns k t) ++ nat_le 128 t ∷ []
 
--- a state's metric by the state before with this oldest bit
+-- a state's metric if it is reached from the state with this oldest bit
 unfoldable pub metric_from : List ℤ → ℤ → ℤ → ℕ → ℕ → ℤ
 metric_from metrics first second t oldest =
     get_or metrics (2 * (t % 128) + oldest) (pos 0)
@@ -41,7 +41,7 @@ wants false even odd = int_lt even odd
 abbrev pub taken_of : Bool → ℤ → ℤ → ℤ
 taken_of choice even odd = if choice then odd else even
 
--- of both, the choice and its metric
+-- the choice between the two states, and the metric of the chosen one
 unfoldable pub choice_into : Bool → List ℤ → ℤ → ℤ → ℕ → Bool
 choice_into forced metrics first second t =
     wants forced (metric_from metrics first second t 0)
@@ -52,7 +52,7 @@ metric_into forced metrics first second t =
     taken_of (choice_into forced metrics first second t) (metric_from metrics first second t 0)
     (metric_from metrics first second t 1)
 
--- a metric with what was taken off, and the columns so far, give the survivor of a state
+-- a metric, plus what was subtracted, and the columns so far agree with the survivor of a state
 abbrev pub Agrees : List (List ℕ) → ℕ → ℕ → ℤ → Option Survivor → Type 0
 Agrees columns k t metric None = Unit {0}
 Agrees columns k t metric (Some s) =
@@ -68,20 +68,19 @@ Alive false None two = ⊥
 Alive false (Some one) None = ⊥
 Alive false (Some one) (Some two) = Unit {0}
 
--- whether, after n bits, states with oldest bit 1 may not be taken: from zeros no codeword leads
--- into one
+-- whether, after k bits, states with oldest bit 1 may not be taken: no codeword that starts from
+-- zeros leads into one
 abbrev pub forced_at : Ends → ℕ → Bool
 forced_at Zero k = nat_lt k 8
 forced_at Free k = false
 
--- the greatest of a list's numbers: none is greater, and whatever none is greater than is at least
--- this
+-- the greatest of a list's numbers, as their least upper bound
 pub record IsGreatest (xs : List ℤ) (top : ℤ) : Type 0 where
   pub most : (t : ℕ) → t < length xs → get_or xs t (pos 0) ≤ℤ top
   pub least : (bound : ℤ) → ((t : ℕ) → t < length xs → get_or xs t (pos 0) ≤ℤ bound) → top ≤ℤ bound
 
--- what a step needs: no metric is above the greatest, and what it lacks of that is no more than
--- numbers of 64 bits leave room for after these two soft values
+-- what a step needs: no metric exceeds `top`, and how far it is below `top`, plus the absolute
+-- values of the two soft values, is at most 2^63
 pub record CanStep (column : List ℤ) (top first second : ℤ) : Type 0 where
   pub whole : length column ≡ 256
   pub pair : unsigned_abs first + unsigned_abs second ≤ 2 ^ 62
@@ -91,8 +90,8 @@ pub record CanStep (column : List ℤ) (top first second : ℤ) : Type 0 where
       unsigned_abs (top -ℤ get_or column t (pos 0)) + (unsigned_abs first + unsigned_abs second)
       ≤ 2 ^ 63
 
--- what it makes: all metrics of one bit more, less the greatest before, whether each state came
--- from the one with oldest bit 1, and the greatest now
+-- the result of a step: all metrics after another bit, less the greatest before; whether each state
+-- came from the one with oldest bit 1; and the greatest new metric
 pub record IsColumnStep (forced : Bool) (column : List ℤ) (top first second : ℤ) (next : List ℤ)
     (decisions : List ℕ) (most : ℤ) : Type 0 where
   pub whole : length next ≡ 256

@@ -5,14 +5,14 @@ use Rattle.std.specs.Prelude.{pos, ◌+ℤ◌, ◌-ℤ◌, ◌*ℤ◌, ◌≤ℤ
 use Rattle.std.specs.Int.{w64}
 use lib.Lanes.{Each1}
 
--- A code is two symbols as a number: 1 where the first is 1, plus 2 where the second is.
+-- A code is two symbols as a number: 1 if the first is 1, plus 2 if the second is 1.
 
 -- what a code's two symbols add to the score
 unfoldable pub gain_by : ℤ → ℤ → ℕ → ℤ
 gain_by first second code = (first *ℤ sign (bit_of code 0)) +ℤ (second *ℤ sign (bit_of code 1))
 
--- the codes of eight states with numbers from a multiple of eight on, of four patterns, one after
--- another: of the symbols of the newest bit where the oldest is 0
+-- the codes of eight states from a multiple of eight on, for each of four patterns in turn: those
+-- of the symbols of the newest bit if the oldest is 0
 unfoldable pub lane_codes : List ℕ
 lane_codes =
     0 ∷ 1 ∷ 0 ∷ 1 ∷ 1 ∷ 0 ∷ 1 ∷ 0 ∷ 1 ∷ 0 ∷ 1 ∷ 0 ∷ 0 ∷ 1 ∷ 0 ∷ 1
@@ -28,7 +28,7 @@ patterns =
 abbrev pub lane_code_of : ℕ → ℕ
 lane_code_of t = get_or lane_codes (8 * get_or patterns (t / 8) 0 + t % 8) 0
 
--- three numbers of 64 bits: two and what is made of them
+-- three numbers of 64 bits: two and the result of an operation on them
 abbrev pub Fit : ℤ → ℤ → ℤ → Type 0
 Fit x y made = FitsSigned w64 x × (FitsSigned w64 y × FitsSigned w64 made)
 
@@ -44,8 +44,7 @@ pub record AreEveryOther (made : ℤ → ℤ) (column : List ℤ) (at : ℕ) (la
   pub long : length lanes ≡ 8
   pub each : (l : ℕ) → l < 8 → get_or lanes l (pos 0) ≡ made (get_or column (at + 2 * l) (pos 0))
 
--- the greater of each two lanes: neither is greater, and whatever neither is greater than is at
--- least this
+-- the greater of each pair of lanes, as their least upper bound
 pub record AreGreater (one other lanes : List ℤ) : Type 0 where
   pub long : length lanes ≡ 8
   pub fit : Each1 (λ x. FitsSigned w64 x) lanes

@@ -3,7 +3,7 @@
 use chip_core::Bits;
 use chip_core::air::SPAN_BITS;
 
-/// The most bits of a codeword for which a decoder has room: those of three frames.
+/// The largest number of bits of a codeword for which a decoder has room: those of three frames.
 pub const MOST_BITS: usize = SPAN_BITS as usize;
 
 /// The codewords that are allowed, by their ends.
@@ -24,5 +24,5 @@ pub struct Codeword {
     pub bits: Bits,
 }
 
-/// A shorter name of a codeword.
+/// A shorter name for [`Codeword`].
 pub type Word = Codeword;

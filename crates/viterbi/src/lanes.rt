@@ -18,8 +18,8 @@ use crate::metrics::greatest;
 use crate::symbol_gains::{lane_gains, pattern_of};
 use std::simd::prelude::*;
 
-/// Returns the greater of each two metrics, the first on a tie, and a bit for each: whether it is
-/// the second.
+/// Returns the greater of each pair of metrics, the first on a tie, and a bit for each pair:
+/// whether it is the second.
 fn selected_lanes(even: i64x8, odd: i64x8) -> (i64x8, u64)
     requires even_long { length even ≡ 8 }
     requires odd_long { length odd ≡ 8 }
@@ -32,9 +32,9 @@ fn selected_lanes(even: i64x8, odd: i64x8) -> (i64x8, u64)
     (less.select(odd, even), less.to_bitmask())
 }
 
-/// Eight metrics of states with oldest bit 0 plus the gains, and eight of states with oldest bit 1
-/// minus the gains: both generators, 753 and 561 octal (TIA/EIA-95-B, 7.1.3.1.3.1), tap the oldest
-/// bit, so if it is 1 both symbols are inverted.
+/// Returns eight metrics of states with oldest bit 0 plus the gains, and eight of states with
+/// oldest bit 1 minus the gains. Both generators, 753 and 561 octal (TIA/EIA-95-B, 7.1.3.1.3.1),
+/// tap the oldest bit, so if it is 1 both symbols are inverted.
 fn moved_lanes(a: i64x8, b: i64x8, gain: i64x8) -> (i64x8, i64x8)
     requires even { Each2 (λ x y. Fit x y (x +ℤ y)) a gain }
     requires odd { Each2 (λ x y. Fit x y (x -ℤ y)) b gain }
@@ -44,7 +44,7 @@ fn moved_lanes(a: i64x8, b: i64x8, gain: i64x8) -> (i64x8, i64x8)
     (a + gain, b - gain)
 }
 
-/// Returns the lanes, each less the number.
+/// Returns the lanes, each less `number`.
 fn lessened(lanes: i64x8, number: i64) -> i64x8
     requires long { length lanes ≡ 8 }
     requires fit { Each1 (λ x. Fit x number (x -ℤ number)) lanes }
@@ -141,7 +141,7 @@ fn block_step<const FORCED: bool>(
     selected_block::<FORCED>(a, b, gains_of(gains, block))
 }
 
-/// Returns the greater of each two lanes.
+/// Returns the greater of each pair of lanes.
 fn greater(one: i64x8, other: i64x8) -> i64x8
     requires one_long { length one ≡ 8 }
     requires other_long { length other ≡ 8 }
@@ -153,9 +153,9 @@ fn greater(one: i64x8, other: i64x8) -> i64x8
     lanes
 }
 
-/// Moves all states one bit on, by the soft values of its two symbols, and subtracts `top`, the
-/// largest metric, from every metric. Returns the largest of the new ones. If `FORCED`, each state
-/// is reached from the one with oldest bit 0.
+/// Advances all states by one bit, with the soft values of its two symbols, and subtracts `top`,
+/// the largest metric, from every metric. Returns the largest of the new ones. If `FORCED`, each
+/// state is reached from the one with oldest bit 0.
 fn step_all<const FORCED: bool>(
     column: &[i64],
     top: i64,
@@ -189,7 +189,7 @@ fn step_all<const FORCED: bool>(
     greatest(&most.to_array())
 }
 
-/// Moves all states one bit on, as `step_all` does.
+/// Advances all states by one bit, as `step_all` does.
 pub fn step(
     column: &[i64],
     top: i64,

@@ -1,10 +1,10 @@
 //! The best codeword of the convolutional code of rate 1/2 and constraint length 9 for a list of
 //! soft values.
 //!
-//! TIA/EIA-95-B, 7.1.3.1.3.1, gives the encoder and leaves decoding free. Here a codeword's score
-//! is the sum of the soft values times the signs of its code symbols, and the decoder finds the
-//! codeword of the largest score, by Viterbi's algorithm. Between codewords of equal score a fixed
-//! order decides, so there is exactly one answer.
+//! TIA/EIA-95-B, 7.1.3.1.3.1, specifies the encoder and leaves decoding open. Here a codeword's
+//! score is the sum of the soft values times the signs of its code symbols, and the decoder finds
+//! the codeword with the largest score by Viterbi's algorithm. A fixed order decides between
+//! codewords of equal score, so there is exactly one result.
 //!
 //! The state of a codeword is its last eight bits. Here they are numbered from the oldest, bit 0,
 //! to the newest, bit 7, so that of two codewords of equal length the one with the lesser state

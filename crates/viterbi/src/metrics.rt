@@ -9,7 +9,7 @@ ghost use Rattle.viterbi.specs.Survivors.{end_count};
 use crate::codeword::Ends;
 
 /// Returns whether the bit after the first `bit` bits may come only from states with oldest bit 0:
-/// no codeword from zeros leads into another.
+/// codewords that start from zeros lead into no other states.
 pub fn is_forced(ends: Ends, bit: usize) -> bool
     ensures { result ≡ forced_at ends bit }
 {
@@ -29,7 +29,7 @@ pub fn clear(column: &mut [i64])
     }
 }
 
-/// Returns in how many states, from the first on, a codeword may end.
+/// Returns the number of states, from the first on, in which a codeword may end.
 pub fn end_states(ends: Ends) -> usize
     ensures { result ≡ end_count ends }
 {

@@ -12,7 +12,7 @@ minus x y = record { i = x.i -ℤ y.i; q = x.q -ℤ y.q }
 abbrev pub entry : List Pair → ℕ → Pair
 entry values n = get_or values n origin
 
--- what the stage of this bit makes of entry n
+-- entry n after the stage of this bit
 unfoldable pub butterfly : ℕ → List Pair → ℕ → Pair
 butterfly bit values n =
     if bit_of n bit

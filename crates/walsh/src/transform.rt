@@ -12,8 +12,8 @@ use std::simd::prelude::*;
 /// Replaces 64 complex values, one for each chip, by the sums over the rows: entry n becomes the
 /// sum of all entries, each times the sign of its chip of row n.
 ///
-/// The base station adds its channels with it, because the sign of row n at chip k is that of row k
-/// at chip n. Tools may use it to measure all channels of a cell. A finger only sums its own row.
+/// The base station uses it to add its channels, because the sign of row n at chip k is that of row
+/// k at chip n. Tools may use it to measure all channels of a cell. A finger only sums its own row.
 ///
 /// Each part must be from -2^40 to 2^40. Six stages of butterflies take 384 additions for each
 /// part.
@@ -27,7 +27,7 @@ pub fn transform64(values: &mut [Pair; 64])
     }
 }
 
-/// Runs one stage: each two entries whose places differ only in this bit become their sum and their
+/// Runs one stage: any two entries whose places differ only in this bit become their sum and their
 /// difference.
 fn stage(values: &mut [Pair; 64], bit: u32)
     requires bit { bit < 6 }
@@ -45,7 +45,7 @@ fn stage(values: &mut [Pair; 64], bit: u32)
     }
 }
 
-/// Returns the sum of two numbers whose parts are small enough for it.
+/// Returns the sum of two numbers whose parts are small enough not to overflow.
 fn sum(x: Pair, y: Pair) -> Pair
     requires { IsWithin (2 ^ 45) x × IsWithin (2 ^ 45) y }
     ensures { result ≡ plus x y }
