@@ -199,14 +199,21 @@ class Checkout:
         return made.hexdigest()
 
     def is_built(self, name: str) -> bool:
-        """Whether a crate is built from its files as they stand, over the crates below as they are built."""
+        """Whether a crate is built from its files as they stand, over the crates below as they are built, and nothing
+        has replaced what was made, as `rt run` replaces a program."""
         noted = text_of(sum_file_of(self.root, name)).split()
-        return os.path.exists(made_by(self.root, name)) and noted[:1] == [self.sum_of(name)]
+        return len(noted) == 3 and [noted[0], noted[2]] == [self.sum_of(name), self.made_at(name)]
+
+    def made_at(self, name: str) -> str:
+        """The time of what was made of a crate, in nanoseconds; empty if there is nothing."""
+        with contextlib.suppress(FileNotFoundError):
+            return str(os.stat(made_by(self.root, name)).st_mtime_ns)
+        return ""
 
     def note_built(self, name: str, made_from: str) -> None:
         """Notes what a crate was built from, and when: statements fit only the libraries that they were made over."""
         with open(sum_file_of(self.root, name), "w", encoding="utf-8") as file:
-            file.write(f"{made_from} {time.time_ns()}\n")
+            file.write(f"{made_from} {time.time_ns()} {self.made_at(name)}\n")
 
     def built_among(self, names: Collection[str]) -> set[str]:
         """Returns those of some crates that are built, and all crates below them too."""

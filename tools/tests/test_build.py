@@ -237,6 +237,13 @@ class Builds(Checkout):
         self.write("kit/WHAT", "another kit\n")
         self.assertEqual(self.built_anew("top"), ["core", "short", "long", "wide", "top"])
 
+    def test_a_program_that_rt_has_replaced(self) -> None:
+        """`rt run` may have built it from other files, which then were changed back."""
+        self.built_anew("top")
+        self.write("it/crates/top/out/top", "of rt\n")
+        self.assertEqual(self.built_anew("top"), ["top"])
+        self.assertEqual(self.text_in("top", "out", "top"), "linked of top\n")
+
     def test_no_stamp_of_rt_on_a_program_of_this_tool(self) -> None:
         """By its stamp `rt run` knows a program that it has built; it must not take another for it."""
         stamp = self.write("it/crates/top/out/top.stamp", "of rt\n")
